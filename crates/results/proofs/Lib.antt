@@ -1,0 +1,2 @@
+-- `Results` has the laws of `specs/Results.antt`.
+pub mod Results
