@@ -56,18 +56,18 @@ unfoldable pub onFaceOf : ℕ → Float → Float → Float → Float
 onFaceOf bits v lo hi = cond (leb 2 bits) hi (cond (eqb bits 1) lo v)
 
 -- projection puts masked box coordinates on their faces
-unfoldable pub onFacesOf : Band → Point → ℕ → Point
-onFacesOf b p mask = record {
-  x = onFaceOf (axisBits mask 4) (p .x) (b .low .x) (b .high .x);
-  y = onFaceOf (axisBits mask 16) (p .y) (b .low .y) (b .high .y);
-  z = onFaceOf (axisBits mask 64) (p .z) (b .low .z) (b .high .z);
+unfoldable pub onFacesOf : Point → Point → Point → ℕ → Point
+onFacesOf low high p mask = record {
+  x = onFaceOf (axisBits mask 4) (p .x) (low .x) (high .x);
+  y = onFaceOf (axisBits mask 16) (p .y) (low .y) (high .y);
+  z = onFaceOf (axisBits mask 64) (p .z) (low .z) (high .z);
 }
 
 -- ---- looks
 
 -- bit 0 of a mask aims at the upper level, the second of the two
-unfoldable pub targetOf : Band → ℕ → Float
-targetOf b mask = cond (eqb (mask % 2) 1) (b .upper) (b .lower)
+unfoldable pub targetOf : Float → Float → ℕ → Float
+targetOf lower upper mask = cond (eqb (mask % 2) 1) upper lower
 
 -- a residual or norm that is not finite, or a norm not above the smallest normal f64, refuses
 unfoldable pub singularOf : Float → Float → Bool
@@ -109,25 +109,27 @@ unfoldable pub withinOf : Float → Float → Float → Float → Bool
 withinOf v lo hi slack = finiteOf v && not (lt v (lo ⊖ slack)) && not (lt (hi ⊕ slack) v)
 
 -- length × 1e-10 beyond the box is allowed
-unfoldable pub insideOf : Band → Point → Float → Bool
-insideOf b p len =
-    withinOf (p .x) (b .low .x) (b .high .x) (len ⊗ beyond) && withinOf (p .y) (b .low .y) (b .high .y) (len ⊗ beyond)
-    && withinOf (p .z) (b .low .z) (b .high .z) (len ⊗ beyond)
+unfoldable pub insideOf : Point → Point → Point → Float → Bool
+insideOf low high p len =
+    withinOf (p .x) (low .x) (high .x) (len ⊗ beyond) && withinOf (p .y) (low .y) (high .y) (len ⊗ beyond)
+    && withinOf (p .z) (low .z) (high .z) (len ⊗ beyond)
 
 -- the point itself if it is inside
-unfoldable pub closeOf : Band → Point → Float → Projected
-closeOf b p len = cond (insideOf b p len) (Onto p) Refused
+unfoldable pub closeOf : Point → Point → Point → Float → Projected
+closeOf low high p len = cond (insideOf low high p len) (Onto p) Refused
 
 -- a walk's answer, closed
-abbrev pub closeAfter : Band → Float → Projected → Projected
-closeAfter b len (Onto q) = closeOf b q len
-closeAfter b len Refused = Refused
+abbrev pub closeAfter : Point → Point → Float → Projected → Projected
+closeAfter low high len (Onto q) = closeOf low high q len
+closeAfter low high len Refused = Refused
 
 -- the projection with the band's length, the longest move as a part of it, and the number of looks
 unfoldable pub projectWith : Band → Float → Float → ℕ → Point → ℕ → Projected
 projectWith b len longest looks p mask =
-    cond (eqb (mask % 4) 0) (closeOf b (onFacesOf b p mask) len)
-    (closeAfter b len (walkFrom looks (b .field) len longest (targetOf b mask) (freePartOf mask) (onFacesOf b p mask)))
+    let q = onFacesOf (b .low) (b .high) p mask in
+    let t = targetOf (b .lower) (b .upper) mask in
+    cond (eqb (mask % 4) 0) (closeOf (b .low) (b .high) q len)
+    (closeAfter (b .low) (b .high) len (walkFrom looks (b .field) len longest t (freePartOf mask) q))
 
 -- the projection of a band: a move is at most length × 0.05, and it looks up to 20 times
 unfoldable pub projectOf : Band → Point → ℕ → Projected

@@ -63,21 +63,21 @@ pub fn on_face(bits: u8, v: f64, lo: f64, hi: f64) -> f64
     v
 }
 
-// The point with its masked coordinates on their faces.
-pub fn on_faces(b: Band, p: Point, mask: u8) -> Point
-    ensures { λ r. ⌜ r ≡ onFacesOf b p mask ⌝ }
+// The point with its masked coordinates on their faces of the box.
+pub fn on_faces(low: Point, high: Point, p: Point, mask: u8) -> Point
+    ensures { λ r. ⌜ r ≡ onFacesOf low high p mask ⌝ }
 {
-    let x = on_face(axis_bits(mask, 4), p.x, b.low.x, b.high.x);
-    let y = on_face(axis_bits(mask, 16), p.y, b.low.y, b.high.y);
-    let z = on_face(axis_bits(mask, 64), p.z, b.low.z, b.high.z);
+    let x = on_face(axis_bits(mask, 4), p.x, low.x, high.x);
+    let y = on_face(axis_bits(mask, 16), p.y, low.y, high.y);
+    let z = on_face(axis_bits(mask, 64), p.z, low.z, high.z);
     Point { x, y, z }
 }
 
 // The level aimed at: bit 0 of the mask means the upper one.
-pub fn target(b: Band, mask: u8) -> f64
-    ensures { λ r. ⌜ r ≡ targetOf b mask ⌝ }
+pub fn target(lower: f64, upper: f64, mask: u8) -> f64
+    ensures { λ r. ⌜ r ≡ targetOf lower upper mask ⌝ }
 {
-    if mask % 2 == 1 { b.upper } else { b.lower }
+    if mask % 2 == 1 { upper } else { lower }
 }
 
 // Whether a projection cannot go on: a residual or a norm that is not finite, or a norm not above the smallest normal f64.
@@ -167,20 +167,20 @@ pub fn within(v: f64, lo: f64, hi: f64, slack: f64) -> bool
 }
 
 // Whether p is in the box or at most length × 1e-10 beyond it.
-pub fn inside(b: Band, p: Point, len: f64) -> bool
-    ensures { λ r. ⌜ r ≡ insideOf b p len ⌝ }
+pub fn inside(low: Point, high: Point, p: Point, len: f64) -> bool
+    ensures { λ r. ⌜ r ≡ insideOf low high p len ⌝ }
 {
     let slack = len * 1e-10;
-    within(p.x, b.low.x, b.high.x, slack)
-        & within(p.y, b.low.y, b.high.y, slack)
-        & within(p.z, b.low.z, b.high.z, slack)
+    within(p.x, low.x, high.x, slack)
+        & within(p.y, low.y, high.y, slack)
+        & within(p.z, low.z, high.z, slack)
 }
 
 // The point itself if it is inside.
-pub fn close(b: Band, p: Point, len: f64) -> Projected
-    ensures { λ r. ⌜ r ≡ closeOf b p len ⌝ }
+pub fn close(low: Point, high: Point, p: Point, len: f64) -> Projected
+    ensures { λ r. ⌜ r ≡ closeOf low high p len ⌝ }
 {
-    if inside(b, p, len) {
+    if inside(low, high, p, len) {
         return Projected::Onto(p);
     }
     Projected::Refused
@@ -190,14 +190,15 @@ pub fn close(b: Band, p: Point, len: f64) -> Projected
 pub fn project(b: Band, len: f64, longest: f64, looks: usize, p: Point, mask: u8) -> Projected
     ensures { λ r. ⌜ r ≡ projectWith b len longest looks p mask ⌝ }
 {
-    let q = on_faces(b, p, mask);
+    let q = on_faces(b.low, b.high, p, mask);
     if mask % 4 == 0 {
-        return close(b, q, len);
+        return close(b.low, b.high, q, len);
     }
     let f = b.field;
-    let w = walk(f, len, longest, looks, target(b, mask), free_part(mask), q);
+    let t = target(b.lower, b.upper, mask);
+    let w = walk(f, len, longest, looks, t, free_part(mask), q);
     let Projected::Onto(r) = w else {
         return Projected::Refused;
     };
-    close(b, r, len)
+    close(b.low, b.high, r, len)
 }
