@@ -9,7 +9,8 @@ use Rattle.field.specs.declared.Field.{Field}
 use Rattle.projection.specs.declared.Projected.the-variants.{Refused}
 use Rattle.projection.specs.Project.{walkFrom, lookOf, afterLook}
 
-pub walk-step : (n : ℕ) (f : Field) (len longest t : Float) (free q : Point) → 0 < n → walkFrom n f len longest t free q ≡ afterLook (lookOf f len longest t free q) q (walkFrom (n - 1) f len longest t free)
+pub walk-step : (n : ℕ) (f : Field) (len longest t : Float) (free q : Point) → 0 < n
+    → walkFrom n f len longest t free q ≡ afterLook (lookOf f len longest t free q) q (walkFrom (n - 1) f len longest t free)
 unfolding walkFrom
 walk-step zero f len longest t free q h = absurd (omega arith)
 walk-step (suc n) f len longest t free q h = rw sub-one

@@ -18,7 +18,10 @@ arrived-requires c κs = tt
 
 returns-2 : tie.Need-returns-2
 unfolding lookWith
-returns-2 c = simp (← c .before .before .before .before .norm .ensures, ← c .before .before .before .singular .ensures, c .before .before .if1 .left, ← c .before .arrived .ensures, c .if2 .taken)
+returns-2 c =
+    let norm = c .before .before .before .before .norm .ensures in
+    let singular = c .before .before .before .singular .ensures in
+    simp (← norm, ← singular, c .before .before .if1 .left, ← c .before .arrived .ensures, c .if2 .taken)
 
 moved-requires : tie.Need-moved-requires
 moved-requires c κs = tt
@@ -26,7 +29,10 @@ moved-requires c κs = tt
 returns-3 : tie.Need-returns-3
 unfolding lookWith
 returns-3 c =
-    simp (← c .before .before .before .before .before .norm .ensures, ← c .before .before .before .before .singular .ensures, c .before .before .before .if1 .left, ← c .before .before .arrived .ensures, c .before .if2 .left, ← c .moved .ensures)
+    let norm = c .before .before .before .before .before .norm .ensures in
+    let singular = c .before .before .before .before .singular .ensures in
+    let arrived = c .before .before .arrived .ensures in
+    simp (← norm, ← singular, c .before .before .before .if1 .left, ← arrived, c .before .if2 .left, ← c .moved .ensures)
 
 pub look-with-spec : {M : Type 1} → statement M
 look-with-spec =

@@ -33,7 +33,11 @@ enum-told c = search needs
 returns-2 : tie.Need-returns-2
 unfolding projectWith
 returns-2 c =
-    simp (ne-eqb _ _ (c .before .before .before .before .before .if1 .left), ← c .before .before .before .before .before .before .on-faces .ensures, ← c .before .before .before .before .target .ensures, ← c .before .before .before .free-part .ensures, ← c .before .before .walk .ensures, c .enum-told .given .1)
+    let faces = c .before .before .before .before .before .before .on-faces .ensures in
+    let level = ne-eqb _ _ (c .before .before .before .before .before .if1 .left) in
+    let aim = c .before .before .before .before .target .ensures in
+    let free = c .before .before .before .free-part .ensures in
+    simp (level, ← faces, ← aim, ← free, ← c .before .before .walk .ensures, c .enum-told .given .1)
 
 close-requires-2 : tie.Need-close-requires-2
 close-requires-2 c κs = tt
@@ -41,8 +45,12 @@ close-requires-2 c κs = tt
 returns-3 : tie.Need-returns-3
 unfolding projectWith
 returns-3 c =
-    simp (ne-eqb _ _ (c .before .before .before .before .before .before .before .if1 .left), ← c .before .before .before .before .before .before .before .before .on-faces .ensures, ← c .before .before .before .before .before .before .target .ensures, ← c .before .before .before .before .before .free-part .ensures, ← c .before .before .before .before .walk .ensures, c .before .before .w .given .1)
-    (c .close2 .ensures)
+    let faces = c .before .before .before .before .before .before .before .before .on-faces .ensures in
+    let level = ne-eqb _ _ (c .before .before .before .before .before .before .before .if1 .left) in
+    let aim = c .before .before .before .before .before .before .target .ensures in
+    let free = c .before .before .before .before .before .free-part .ensures in
+    let walked = c .before .before .before .before .walk .ensures in
+    simp (level, ← faces, ← aim, ← free, ← walked, c .before .before .w .given .1) (c .close2 .ensures)
 
 pub project-spec : {M : Type 1} → statement M
 project-spec =
