@@ -14,7 +14,7 @@ within-requires-3 c κs = tt
 
 returns : tie.Need-returns
 unfolding insideOf
-returns c = cc
+returns c = simp (c .before .before .within .ensures, c .before .within2 .ensures, c .within3 .ensures)
 
 pub inside-spec : {M : Type 1} → statement M
 inside-spec =
