@@ -6,6 +6,7 @@ use points::Point;
 ghost use mathlib.Core.Path.{_≡_};
 ghost use Rattle.band.specs.Bands.{lengthOf, differenceOf, centralOf, gradientWith, sideOf, levelSignOf, faceNormalOf, normalWith, axisValidOf, levelsValidOf, validOf};
 
+// The box from low to high, the levels lower and upper, and the field.
 pub struct Band {
     pub low: Point,
     pub high: Point,

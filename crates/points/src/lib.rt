@@ -5,6 +5,7 @@ ghost use Prim.Native.Nat.{_+_, _*_, _≤_};
 ghost use lib.ListN.{length};
 ghost use Rattle.points.specs.Points.{addP, subP, mulP, timesP, dotP, crossP, normP, unitBy, unitP, halfwayP, finiteP, pointAt, withPoint};
 
+// A point in space, or a vector.
 pub struct Point {
     pub x: f64,
     pub y: f64,
