@@ -1,0 +1,17 @@
+-- `band::levels_valid` meets its contract. Assumes nothing.
+use Rattle.band.specs.Bands.{levelsValidOf}
+use Rattle.band.proofs.levels_valid.Statement.{statement}
+use Rattle.band.proofs.levels_valid.Tie as tie
+
+is-finite-requires : tie.Need-is-finite-requires
+is-finite-requires c κs = tt
+
+is-finite-requires-2 : tie.Need-is-finite-requires-2
+is-finite-requires-2 c κs = tt
+
+returns : tie.Need-returns
+unfolding levelsValidOf
+returns c = cc
+
+pub levels-valid-spec : {M : Type 1} → statement M
+levels-valid-spec = tie.close (tie.spec is-finite-requires is-finite-requires-2 returns)
