@@ -1,0 +1,134 @@
+-- Projection: it puts masked box coordinates on their faces, and for a level it then looks up to 20 times.
+use Prim.Native.Nat.{ℕ, zero, suc, _/_, _%_}
+use mathlib.Core.Bool.{Bool, not, _&&_, _||_, cond}
+use lib.Dec.{eqb, leb}
+use lib.Ieee.{Float, binary64, div, neg, lt, le, ofBits}
+use Rattle.numeric.specs.Num.{zeroF, finiteOf, absOf, clampOf}
+use Rattle.points.specs.declared.Point.{Point}
+use Rattle.points.specs.Points.{_⊕_, _⊖_, _⊗_, one, subP, mulP, timesP, normP, unitBy}
+use Rattle.field.specs.declared.Field.{Field}
+use Rattle.field.specs.Fields.{valueOf}
+use Rattle.band.specs.declared.Band.{Band}
+use Rattle.band.specs.Bands.{lengthOf, gradientWith}
+use Rattle.projection.specs.declared.Look.{Look}
+use Rattle.projection.specs.declared.Look.the-variants.{Singular, Arrived, Moved}
+use Rattle.projection.specs.declared.Projected.{Projected}
+use Rattle.projection.specs.declared.Projected.the-variants.{Onto, Refused}
+
+-- ---- figures
+
+-- 0.05: a move is at most length × 0.05
+abbrev pub longestMove : Float
+longestMove = ofBits binary64 0x3fa9_9999_9999_999a
+
+-- it looks up to 20 times
+abbrev pub lookCount : ℕ
+lookCount = 20
+
+-- the smallest normal f64
+abbrev pub smallest : Float
+smallest = ofBits binary64 0x0010_0000_0000_0000
+
+-- 1e-12
+abbrev pub near : Float
+near = ofBits binary64 0x3d71_9799_812d_ea11
+
+-- 1e-10
+abbrev pub beyond : Float
+beyond = ofBits binary64 0x3ddb_7cdf_d9d7_bdbb
+
+-- ---- faces
+
+-- the two face bits of the axis whose low face has the given weight in a mask: 4, 16 or 64
+unfoldable pub axisBits : ℕ → ℕ → ℕ
+axisBits mask weight = mask / weight % 4
+
+-- 1 on an axis with no face, 0 on the others
+unfoldable pub freedomOf : ℕ → Float
+freedomOf bits = cond (eqb bits 0) one zeroF
+
+-- the axes along which a point of a mask may move
+unfoldable pub freePartOf : ℕ → Point
+freePartOf mask = record { x = freedomOf (axisBits mask 4); y = freedomOf (axisBits mask 16); z = freedomOf (axisBits mask 64) }
+
+-- a coordinate on its face; the high face comes last
+unfoldable pub onFaceOf : ℕ → Float → Float → Float → Float
+onFaceOf bits v lo hi = cond (leb 2 bits) hi (cond (eqb bits 1) lo v)
+
+-- projection puts masked box coordinates on their faces
+unfoldable pub onFacesOf : Band → Point → ℕ → Point
+onFacesOf b p mask = record {
+  x = onFaceOf (axisBits mask 4) (p .x) (b .low .x) (b .high .x);
+  y = onFaceOf (axisBits mask 16) (p .y) (b .low .y) (b .high .y);
+  z = onFaceOf (axisBits mask 64) (p .z) (b .low .z) (b .high .z);
+}
+
+-- ---- looks
+
+-- bit 0 of a mask aims at the upper level, the second of the two
+unfoldable pub targetOf : Band → ℕ → Float
+targetOf b mask = cond (eqb (mask % 2) 1) (b .upper) (b .lower)
+
+-- a residual or norm that is not finite, or a norm not above the smallest normal f64, refuses
+unfoldable pub singularOf : Float → Float → Bool
+singularOf residual gn = not (finiteOf residual) || not (finiteOf gn) || le gn smallest
+
+-- being within length × 1e-12
+unfoldable pub arrivedOf : Float → Float → Bool
+arrivedOf distance len = le (absOf distance) (len ⊗ near)
+
+-- the point after a move of at most length × longest against the gradient g, whose norm is gn
+unfoldable pub movedOf : Point → Point → Float → Float → Float → Float → Point
+movedOf p g gn distance len longest = subP p (mulP (unitBy g gn) (clampOf distance (neg len ⊗ longest) (len ⊗ longest)))
+
+-- a look by the residual and the gradient's free part g: the distance is the residual over the norm of g
+unfoldable pub lookWith : Point → Point → Float → Float → Float → Look
+lookWith p g residual len longest =
+    cond (singularOf residual (normP g)) Singular
+    (cond (arrivedOf (div binary64 residual (normP g)) len) Arrived (Moved (movedOf p g (normP g) (div binary64 residual (normP g)) len longest)))
+
+-- a look from p for the level t
+unfoldable pub lookOf : Field → Float → Float → Float → Point → Point → Look
+lookOf f len longest t free p = lookWith p (timesP (gradientWith f len p) free) (valueOf f p ⊖ t) len longest
+
+-- what a look says, with what follows a move
+abbrev pub afterLook : Look → Point → (Point → Projected) → Projected
+afterLook Singular p k = Refused
+afterLook Arrived p k = Onto p
+afterLook (Moved q) p k = k q
+
+-- n looks are left. Being within length × 1e-12 must show in one of them, so a point that arrives with the last move is refused.
+unfoldable pub walkFrom : ℕ → Field → Float → Float → Float → Point → Point → Projected
+walkFrom zero f len longest t free p = Refused
+walkFrom (suc n) f len longest t free p = afterLook (lookOf f len longest t free p) p (walkFrom n f len longest t free)
+
+-- ---- the close
+
+-- a coordinate is finite and at most `slack` outside its bounds
+unfoldable pub withinOf : Float → Float → Float → Float → Bool
+withinOf v lo hi slack = finiteOf v && not (lt v (lo ⊖ slack)) && not (lt (hi ⊕ slack) v)
+
+-- length × 1e-10 beyond the box is allowed
+unfoldable pub insideOf : Band → Point → Float → Bool
+insideOf b p len =
+    withinOf (p .x) (b .low .x) (b .high .x) (len ⊗ beyond) && withinOf (p .y) (b .low .y) (b .high .y) (len ⊗ beyond)
+    && withinOf (p .z) (b .low .z) (b .high .z) (len ⊗ beyond)
+
+-- the point itself if it is inside
+unfoldable pub closeOf : Band → Point → Float → Projected
+closeOf b p len = cond (insideOf b p len) (Onto p) Refused
+
+-- a walk's answer, closed
+abbrev pub closeAfter : Band → Float → Projected → Projected
+closeAfter b len (Onto q) = closeOf b q len
+closeAfter b len Refused = Refused
+
+-- the projection with the band's length, the longest move as a part of it, and the number of looks
+unfoldable pub projectWith : Band → Float → Float → ℕ → Point → ℕ → Projected
+projectWith b len longest looks p mask =
+    cond (eqb (mask % 4) 0) (closeOf b (onFacesOf b p mask) len)
+    (closeAfter b len (walkFrom looks (b .field) len longest (targetOf b mask) (freePartOf mask) (onFacesOf b p mask)))
+
+-- the projection of a band: a move is at most length × 0.05, and it looks up to 20 times
+unfoldable pub projectOf : Band → Point → ℕ → Projected
+projectOf b p mask = projectWith b (lengthOf b) longestMove lookCount p mask
