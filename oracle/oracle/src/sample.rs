@@ -12,11 +12,11 @@ pub const SEED: u64 = 2026;
 
 /// How many random calls of each leaf function the sample holds.
 const LEAVES: [(Operation, usize); 6] = [
-    (Operation::Sqrt, 240),
-    (Operation::Value, 190),
-    (Operation::Gradient, 190),
-    (Operation::Normal, 190),
-    (Operation::Project, 330),
+    (Operation::Sqrt, 280),
+    (Operation::Value, 200),
+    (Operation::Gradient, 200),
+    (Operation::Normal, 200),
+    (Operation::Project, 400),
     (Operation::Validate, 80),
 ];
 
@@ -94,7 +94,7 @@ pub fn leaves(seed: u64) -> Vec<Record> {
 
 /// The cube with one thing changed, for each test of a lent sheet.
 fn changed_cubes() -> Vec<QuadMesh> {
-    let changes: [fn(&mut QuadMesh); 13] = [
+    let changes: [fn(&mut QuadMesh); 15] = [
         |_| (),
         |s| *s = sheets::empty(),
         |s| s.quads.clear(),
@@ -106,6 +106,8 @@ fn changed_cubes() -> Vec<QuadMesh> {
         |s| s.quads[5][3] = s.quads[5][0],
         |s| s.points.push([0.5; 3]),
         |s| s.labels[0] = 3,
+        |s| s.labels[2] = 3,
+        |s| s.labels = vec![0, 1, 0, 0, 0, 0],
         |s| s.labels.fill(0),
         |s| s.quads[0].reverse(),
     ];

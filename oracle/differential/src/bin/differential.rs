@@ -89,7 +89,7 @@ fn run(calls: u64, seed: u64) -> bool {
 }
 
 fn main() -> ExitCode {
-    match (arguments::number(1, 1_000_000), arguments::number(2, 1)) {
+    match (arguments::number(1, 5_000_000), arguments::number(2, 1)) {
         (Ok(calls), Ok(seed)) if run(calls, seed) => ExitCode::SUCCESS,
         (Ok(_), Ok(_)) => ExitCode::FAILURE,
         (Err(wrong), _) | (_, Err(wrong)) => {
