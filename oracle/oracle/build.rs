@@ -3,7 +3,7 @@
 use std::path::{Path, PathBuf};
 use std::{env, fs, process};
 
-/// The folder that holds crates/meshers-core/src, seen from the root of the project.
+/// The folder that holds crates/meshers-core/src, where QUADS_SOURCE names no other.
 const DEFAULT_SOURCE: &str = "../shared/docs/src";
 
 /// Ends the build with a message that says what is missing.
@@ -20,13 +20,11 @@ fn variable(name: &str) -> PathBuf {
     }
 }
 
-/// The folder of quads.rs, from QUADS_SOURCE or the default.
+/// The folder of quads.rs, from QUADS_SOURCE or the default, seen from the root of the project.
 fn source_folder() -> PathBuf {
-    let base = match env::var_os("QUADS_SOURCE") {
-        Some(folder) => PathBuf::from(folder),
-        None => variable("CARGO_MANIFEST_DIR").join("../..").join(DEFAULT_SOURCE),
-    };
-    let folder = base.join("crates/meshers-core/src");
+    let root = variable("CARGO_MANIFEST_DIR").join("../..");
+    let base = env::var_os("QUADS_SOURCE").unwrap_or_else(|| DEFAULT_SOURCE.into());
+    let folder = root.join(base).join("crates/meshers-core/src");
     match folder.canonicalize() {
         Ok(found) if found.join("quads.rs").is_file() => found,
         _ => stop(&format!(

@@ -40,14 +40,19 @@ fn total(tally: &[u64; 256]) -> u64 {
     sum
 }
 
-// Writes the table and the total.
-pub fn print(seen: &[u64; 256], agreed: &[u64; 256]) {
+// Writes the lines of the table.
+fn print_lines(seen: &[u64; 256], agreed: &[u64; 256]) {
     let mut i = 0;
     while i < 256 {
         print_line(i, seen[i], agreed[i]);
         i += 1;
     }
-    io::print_decimal(1, total(seen));
+}
+
+// Writes the table, how many records there are and how many agree.
+pub fn print(records: u64, seen: &[u64; 256], agreed: &[u64; 256]) {
+    print_lines(seen, agreed);
+    io::print_decimal(1, records);
     io::write_all(1, b" records, ");
     io::print_decimal(1, total(agreed));
     io::write_all(1, b" agree\n");
