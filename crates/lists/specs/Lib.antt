@@ -1,0 +1,4 @@
+pub mod Sort
+pub mod Every
+pub mod Regions
+pub mod Placing

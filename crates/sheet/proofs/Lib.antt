@@ -1,0 +1,4 @@
+-- `Flat` leads from quads to flat lists, `Masks` has the laws of masks, `Tests` those of the tests.
+pub mod Flat
+pub mod Masks
+pub mod Tests

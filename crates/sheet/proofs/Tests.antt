@@ -1,0 +1,177 @@
+-- What the tests of a lent sheet leave, and the tests one quad or point at a time. Assumes nothing.
+use Prim.Native.Nat.{ℕ, zero, suc, _+_, _≤_}
+use mathlib.Core.Path.{_≡_, refl, sym, ap, _∙_}
+use mathlib.Core.Bool.{Bool, true, false, cond, _&&_, _||_, true≢false}
+use mathlib.Core.List.{List, [], _∷_, _++_}
+use native.Mathlib.Omega.{arith}
+use lib.ListN.{length, getD, take}
+use lib.Seq.{length-take-le}
+use lib.Ieee.{Float}
+use borrow.Author.Tests.{ltb-false, eqb-true, not-false}
+use Rattle.lists.specs.Sort.{tabulate}
+use Rattle.lists.specs.Every.{every}
+use Rattle.lists.proofs.Laws.{length-tab, getD-tab, tab-take}
+use Rattle.lists.proofs.Every.{every-ext}
+use Rattle.points.specs.Points.{pointAt, finiteP}
+use Rattle.sheet.specs.declared.Counts.{Counts}
+use Rattle.sheet.specs.declared.Verdict.{Verdict}
+use Rattle.sheet.specs.declared.Verdict.the-variants.{Accepted, Refused}
+use Rattle.band.specs.declared.Band.{Band}
+use Rattle.band.specs.Bands.{validOf}
+use Rattle.sheet.specs.Numbers.{box, bare, large, short, corner, clash}
+use Rattle.sheet.specs.Quads.{Quad, all}
+use Rattle.sheet.specs.Flat.{quadAt, quadsOf, maskIn, Holds}
+use Rattle.sheet.specs.Tests.{proper, lowLabel, goodCorners, goodMask, goodPoint, goodMasks, goodQuadAt, goodMaskAt}
+use Rattle.sheet.specs.Sheet.{Sheet, sheetOf, sheetVerdict, pointsOf, isLarge, Few, isShort, isShortWork, lentVerdict, isBare, bareBy, quadsVerdict, LentSheet, LentWork, masksOf, MasksIf}
+use Rattle.sheet.proofs.Flat.{length-quads}
+
+-- ---- 12 and 13
+
+or-left : (a b : Bool) → (a || b) ≡ false → a ≡ false
+or-left false b e = refl
+or-left true b e = e
+
+or-right : (a b : Bool) → (a || b) ≡ false → b ≡ false
+or-right false b e = e
+or-right true b e = absurd (true≢false e)
+
+pub few-of : (c : Counts) → isLarge c ≡ false → Few c
+unfolding isLarge
+few-of c e = record {
+  points≤ = ltb-false _ _ (search (or-left, or-right));
+  quads≤ = ltb-false _ _ (search (or-left, or-right));
+  labels≤ = ltb-false _ _ (search (or-left, or-right));
+}
+
+holds-of : (c : Counts) (p q l : ℕ) → isLarge c ≡ false → isShort c p q l ≡ false → LentSheet c p q l
+unfolding isShort
+holds-of c p q l e s = record {
+  few = few-of c e;
+  points = ltb-false _ _ (search (or-left, or-right));
+  quads = ltb-false _ _ (search (or-left, or-right));
+  labels = ltb-false _ _ (search (or-left, or-right));
+}
+
+work-of : (c : Counts) (w f : ℕ) → isShortWork c w f ≡ false → LentWork c w f
+unfolding isShortWork
+work-of c w f e = record { work = ltb-false _ _ (search (or-left)); floats = ltb-false _ _ (search (or-right)) }
+
+-- the number of an answer, 0 where it is accepted
+abbrev numberOf : Verdict → ℕ
+numberOf Accepted = 0
+numberOf (Refused n) = n
+
+-- a lent sheet that 12 and 13 accept
+pub lent-is : (c : Counts) (p q l w f : ℕ) → lentVerdict c p q l w f ≡ Accepted → LentSheet c p q l × LentWork c w f
+unfolding lentVerdict
+lent-is c p q l w f = go (isLarge c) refl (isShort c p q l) refl (isShortWork c w f) refl
+  where
+    go : (a : Bool) → isLarge c ≡ a → (b : Bool) → isShort c p q l ≡ b → (d : Bool) → isShortWork c w f ≡ d
+        → cond a (Refused large) (cond b (Refused short) (cond d (Refused short) Accepted)) ≡ Accepted → LentSheet c p q l × LentWork c w f
+    go true ea b eb d ed h = absurd (let z : _≡_ {A = ℕ} 0 1 = cc in omega arith)
+    go false ea true eb d ed h = absurd (let z : _≡_ {A = ℕ} 0 1 = cc in omega arith)
+    go false ea false eb true ed h = absurd (let z : _≡_ {A = ℕ} 0 1 = cc in omega arith)
+    go false ea false eb false ed h = (holds-of c p q l ea eb, work-of c w f ed)
+
+-- ---- tests of all elements
+
+all-append : {A : Type 0} (p : A → Bool) (l : List A) (x : A) → all p (l ++ (x ∷ [])) ≡ (all p l && p x)
+all-append p [] x = and-true (p x)
+  where
+    and-true : (b : Bool) → (b && true) ≡ b
+    and-true true = refl
+    and-true false = refl
+all-append p (y ∷ l) x = rw (all-append p l x) (sym (assoc (p y) (all p l) (p x)))
+  where
+    assoc : (a b c : Bool) → (a && b && c) ≡ (a && (b && c))
+    assoc true b c = refl
+    assoc false b c = refl
+
+pub all-tab : {A : Type 0} (p : A → Bool) (f : ℕ → A) (n : ℕ) → all p (tabulate f n) ≡ every (λ i. p (f i)) n
+unfolding tabulate every
+all-tab p f zero = refl
+all-tab p f (suc n) = all-append p (tabulate f n) (f n) ∙ rw (all-tab p f n)
+
+every-and : (p q : ℕ → Bool) (n : ℕ) → every (λ i. p i && q i) n ≡ (every p n && every q n)
+unfolding every
+every-and p q zero = refl
+every-and p q (suc n) = rw (every-and p q n) (swap (every p n) (every q n) (p n) (q n))
+  where
+    swap : (a b c d : Bool) → ((a && b) && (c && d)) ≡ ((a && c) && (b && d))
+    swap true true c d = refl
+    swap true false true d = refl
+    swap true false false d = refl
+    swap false b c d = refl
+
+-- ---- 5
+
+pub length-points : (n : ℕ) (P : List Float) → length (pointsOf n P) ≡ n
+unfolding pointsOf
+length-points n P = length-tab (pointAt P) n
+
+pub bare-is : (c : Counts) (P : List Float) (Q labels : List ℕ) → c .labels ≤ length labels → bareBy c P ≡ isBare (sheetOf c P Q labels)
+unfolding bareBy isBare pointsOf
+bare-is c P Q labels h =
+    rw (all-tab finiteP (pointAt P) (c .points), length-tab (pointAt P) (c .points), length-quads (c .quads) Q, length-take-le (c .labels) labels h)
+
+-- ---- 6 and 7
+
+pub corners-tested : (n nq : ℕ) (Q labels : List ℕ) → nq ≤ length labels → every (goodQuadAt n Q labels) nq ≡ goodCorners n (quadsOf nq Q) (take nq labels)
+unfolding goodCorners quadsOf
+corners-tested n nq Q labels h =
+    every-and (λ q. lowLabel (getD labels q 0)) (λ q. proper n (quadAt Q q)) nq
+    ∙ rw (all-tab (proper n) (quadAt Q) nq, ← tab-take labels nq h, all-tab lowLabel (λ i. getD labels i 0) nq)
+
+pub masks-tested : (np nq : ℕ) (Q labels w : List ℕ) → w ≡ tabulate (maskIn Q labels nq) np → every (goodMaskAt w) (length w) ≡ goodMasks np (quadsOf nq Q) (take nq labels)
+unfolding goodMasks
+masks-tested np nq Q labels w e =
+    let l : length w ≡ np = ap length e ∙ length-tab _ np in
+    rw l (every-ext (goodMaskAt w) (goodPoint (quadsOf nq Q) (take nq labels)) np (λ v h. ap goodMask (rw e (getD-tab _ np v 0 h))))
+
+module _ (n : ℕ) (S : List Quad) (labels : List ℕ) where
+  pub verdict-corner : goodCorners n S labels ≡ false → Refused corner ≡ quadsVerdict n S labels
+  unfolding quadsVerdict
+  verdict-corner e = rw e
+
+  pub verdict-clash : goodCorners n S labels ≡ true → goodMasks n S labels ≡ false → Refused clash ≡ quadsVerdict n S labels
+  unfolding quadsVerdict
+  verdict-clash e f = rw (e, f)
+
+  pub verdict-accepted : goodCorners n S labels ≡ true → goodMasks n S labels ≡ true → Accepted ≡ quadsVerdict n S labels
+  unfolding quadsVerdict
+  verdict-accepted e f = rw (e, f)
+
+-- ---- 1 and 5, and then 6 and 7
+
+module _ (b : Band) (s : Sheet) where
+  pub verdict-box : validOf b ≡ false → Refused box ≡ sheetVerdict b s
+  unfolding sheetVerdict
+  verdict-box e = rw e
+
+  pub verdict-bare : validOf b ≡ true → isBare s ≡ true → Refused bare ≡ sheetVerdict b s
+  unfolding sheetVerdict
+  verdict-bare e f = rw (e, f)
+
+  pub verdict-quads : validOf b ≡ true → isBare s ≡ false → quadsVerdict (length (s .points)) (s .quads) (s .labels) ≡ sheetVerdict b s
+  unfolding sheetVerdict
+  verdict-quads e f = rw (e, f)
+
+-- the label count is the quad count where 5 finds nothing
+pub labels-match : (c : Counts) (P : List Float) → bareBy c P ≡ false → c .labels ≡ c .quads
+unfolding bareBy
+labels-match c P e = eqb-true _ _ (not-false _ (search (or-left, or-right)))
+
+pub holds-quads : (c : Counts) (P : List Float) (Q labels : List ℕ) (p : ℕ) → LentSheet c p (length Q) (length labels) → bareBy c P ≡ false → Holds (c .quads) Q labels
+holds-quads c P Q labels p L e =
+    let m = labels-match c P e in
+    record { quads = L .quads; labels≤ = omega (arith, L .labels) }
+
+-- the answer of a sheet that 1 and 5 accept is that of its quads
+pub quads-decide : (b : Band) (c : Counts) (P : List Float) (Q labels : List ℕ) (n : ℕ) (r : Verdict) (w : List ℕ) → validOf b ≡ true → bareBy c P ≡ false → c .labels ≤ length labels → n ≡ c .points
+    → r ≡ quadsVerdict n (quadsOf (c .quads) Q) (take (c .quads) labels) → MasksIf r (masksOf n (quadsOf (c .quads) Q) (take (c .quads) labels)) w
+    → (r ≡ sheetVerdict b (sheetOf c P Q labels)) × MasksIf r (masksOf (c .points) (quadsOf (c .quads) Q) (take (c .labels) labels)) w
+quads-decide b c P Q labels n r w v e h en er m =
+    let k = labels-match c P e in
+    let same : quadsVerdict n (quadsOf (c .quads) Q) (take (c .quads) labels) ≡ quadsVerdict (length (pointsOf (c .points) P)) (quadsOf (c .quads) Q) (take (c .labels) labels) =
+    rw (length-points (c .points) P, k, en) in
+    (er ∙ same ∙ verdict-quads b (sheetOf c P Q labels) v (sym (bare-is c P Q labels h) ∙ e), rw (k, ← en) m)

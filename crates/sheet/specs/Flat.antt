@@ -1,0 +1,46 @@
+-- Quads in a list of point numbers, four to a quad, as a lent slice has them. Corner c is corner c % 4 of quad c / 4.
+use Prim.Native.Nat.{ℕ, _+_, _*_, _/_, _%_, _≤_}
+use mathlib.Core.Bool.{Bool}
+use mathlib.Core.List.{List, [], _∷_}
+use lib.ListN.{getD, length, take}
+use Rattle.lists.specs.Sort.{tabulate}
+use Rattle.sheet.specs.Quads.{Quad, quad, hasLabel, maskOf}
+
+-- corner j of quad q
+abbrev pub corner : List ℕ → ℕ → ℕ → ℕ
+corner Q q j = getD Q (4 * q + j) 0
+
+abbrev pub quadAt : List ℕ → ℕ → Quad
+quadAt Q q = quad (corner Q q 0) (corner Q q 1) (corner Q q 2) (corner Q q 3)
+
+-- the first n quads
+unfoldable pub quadsOf : ℕ → List ℕ → List Quad
+quadsOf n Q = tabulate (quadAt Q) n
+
+-- the corners of quads, one after the other
+unfoldable pub flatQuads : List Quad → List ℕ
+flatQuads [] = []
+flatQuads (quad a b c d ∷ S) = a ∷ b ∷ c ∷ d ∷ flatQuads S
+
+-- the point at corner c, the one before it in its quad, and the one after it
+abbrev pub from : List ℕ → ℕ → ℕ
+from Q c = getD Q c 0
+
+abbrev pub before : List ℕ → ℕ → ℕ
+before Q c = getD Q (c / 4 * 4 + (c + 3) % 4) 0
+
+abbrev pub to : List ℕ → ℕ → ℕ
+to Q c = getD Q (c / 4 * 4 + (c + 1) % 4) 0
+
+-- the lists hold n quads and n labels
+pub record Holds (n : ℕ) (Q labels : List ℕ) : Type 0 where
+  pub quads : 4 * n ≤ length Q
+  pub labels≤ : n ≤ length labels
+
+-- one of the first n quads has the label l and uses v
+abbrev pub seen : List ℕ → List ℕ → ℕ → ℕ → ℕ → Bool
+seen Q labels n v l = hasLabel (quadsOf n Q) (take n labels) v l
+
+-- the mask of v in the first n quads
+abbrev pub maskIn : List ℕ → List ℕ → ℕ → ℕ → ℕ
+maskIn Q labels n v = maskOf (quadsOf n Q) (take n labels) v

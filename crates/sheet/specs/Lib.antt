@@ -1,0 +1,5 @@
+pub mod Quads
+pub mod Flat
+pub mod Tests
+pub mod Numbers
+pub mod Sheet

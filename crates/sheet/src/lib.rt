@@ -1,0 +1,279 @@
+// A lent sheet: its counts and limits, and the tests 12, 13, 1, 5, 6 and 7 with the masks of its points.
+
+use band::Band;
+ghost use mathlib.Core.Path.{_≡_};
+ghost use mathlib.Core.Bool.{Bool, true, false};
+ghost use Prim.Native.Nat.{ℕ, _+_, _*_, _<_, _≤_};
+ghost use lib.ListN.{length, getD, take, replicate};
+ghost use Rattle.lists.specs.Every.{every};
+ghost use Rattle.lists.specs.Sort.{tabulate};
+ghost use Rattle.points.specs.Points.{pointAt, finiteP};
+ghost use Rattle.sheet.specs.Quads.{quad};
+ghost use Rattle.sheet.specs.Flat.{corner, quadsOf, maskIn, Holds};
+ghost use Rattle.sheet.specs.Tests.{inRange, distinct, goodQuadAt, goodMask, goodMaskAt, withBit, marked};
+ghost use Rattle.sheet.specs.Sheet.{sheetOf, Few, isLarge, isShort, isShortWork, lentVerdict, quadsVerdict, sheetVerdict, masksOf, MasksIf, LentSheet, finiteAt, bareBy};
+
+// The most points, quads or labels of a sheet.
+pub const LIMIT: usize = 1048576;
+
+// The numbers of refusals.
+pub const BOX: u32 = 1;
+
+pub const BARE: u32 = 5;
+
+pub const CORNER: u32 = 6;
+
+pub const CLASH: u32 = 7;
+
+pub const LARGE: u32 = 12;
+
+pub const SHORT: u32 = 13;
+
+// How many points, quads and labels a sheet has.
+pub struct Counts {
+    pub points: usize,
+    pub quads: usize,
+    pub labels: usize,
+}
+
+// What a test answers.
+pub enum Verdict {
+    Accepted,
+    Refused(u32),
+}
+
+// 12: more than the limit.
+pub fn is_large(c: Counts) -> bool
+    ensures { λ r. ⌜ r ≡ isLarge c ⌝ }
+{
+    (LIMIT < c.points) | (LIMIT < c.quads) | (LIMIT < c.labels)
+}
+
+// 13: slices of these lengths hold less than the counts say.
+pub fn is_short(c: Counts, points: usize, quads: usize, labels: usize) -> bool
+    requires { ⌜ Few c ⌝ }
+    ensures { λ r. ⌜ r ≡ isShort c points quads labels ⌝ }
+{
+    (points < 3 * c.points) | (quads < 4 * c.quads) | (labels < c.labels)
+}
+
+// 13: too little work.
+pub fn is_short_work(c: Counts, work: usize, floats: usize) -> bool
+    requires { ⌜ Few c ⌝ }
+    ensures { λ r. ⌜ r ≡ isShortWork c work floats ⌝ }
+{
+    let n = c.points + c.quads;
+    (work < 64 * n) | (floats < 16 * n)
+}
+
+// 12 and 13, of slices and work of these lengths.
+pub fn lent(
+    c: Counts,
+    points: usize,
+    quads: usize,
+    labels: usize,
+    work: usize,
+    floats: usize,
+) -> Verdict
+    ensures { λ r. ⌜ r ≡ lentVerdict c points quads labels work floats ⌝ }
+{
+    if is_large(c) {
+        return Verdict::Refused(LARGE);
+    }
+    if is_short(c, points, quads, labels) {
+        return Verdict::Refused(SHORT);
+    }
+    if is_short_work(c, work, floats) {
+        return Verdict::Refused(SHORT);
+    }
+    Verdict::Accepted
+}
+
+// Every coordinate of the first n points is finite.
+pub fn finite_points(n: usize, points: &[f64]) -> bool
+    requires { ⌜ 3 * n ≤ length (now points) ⌝ }
+    ensures { λ r. ⌜ r ≡ every (finiteAt (now (points .entry))) n ⌝ }
+{
+    let mut v = 0;
+    while v < n {
+        if points::finite(points::point_at(points, v)) {
+            v += 1;
+        } else {
+            return false;
+        }
+    }
+    true
+}
+
+// 5: nothing to work on, labels that do not fit, or a point that is not finite.
+pub fn is_bare(c: Counts, points: &[f64]) -> bool
+    requires { ⌜ 3 * c .points ≤ length (now points) ⌝ }
+    ensures { λ r. ⌜ r ≡ bareBy c (now (points .entry)) ⌝ }
+{
+    let finite = finite_points(c.points, points);
+    (c.points == 0) | (c.quads == 0) | (c.labels != c.quads) | !finite
+}
+
+// All four are numbers of the n points.
+fn in_range(n: usize, a: usize, b: usize, c: usize, d: usize) -> bool
+    ensures { λ r. ⌜ r ≡ inRange n (quad a b c d) ⌝ }
+{
+    (a < n) & (b < n) & (c < n) & (d < n)
+}
+
+// No two of the four are equal.
+fn distinct_corners(a: usize, b: usize, c: usize, d: usize) -> bool
+    ensures { λ r. ⌜ r ≡ distinct (quad a b c d) ⌝ }
+{
+    (a != b) & (a != c) & (a != d) & (b != c) & (b != d) & (c != d)
+}
+
+// Corner j of quad q.
+pub fn corner_at(quads: &[u32], q: usize, j: usize) -> usize
+    requires { ⌜ 4 * q + j < length (now quads) ⌝ }
+    ensures { λ r. ⌜ r ≡ corner (now (quads .entry)) q j ⌝ }
+{
+    lists::at(quads, 4 * q + j)
+}
+
+// Quad q has a label of at most 7 and four different points as corners.
+fn good_quad(n: usize, quads: &[u32], labels: &[u8], q: usize) -> bool
+    requires { ⌜ 4 * q + 3 < length (now quads) ⌝ }
+    requires { ⌜ q < length (now labels) ⌝ }
+    ensures { λ r. ⌜ r ≡ goodQuadAt n (now (quads .entry)) (now (labels .entry)) q ⌝ }
+{
+    let l = lists::byte_at(labels, q);
+    let a = corner_at(quads, q, 0);
+    let b = corner_at(quads, q, 1);
+    let c = corner_at(quads, q, 2);
+    let d = corner_at(quads, q, 3);
+    (l <= 7) & (in_range(n, a, b, c, d) & distinct_corners(a, b, c, d))
+}
+
+// Every quad is good.
+fn good_quads(n: usize, nq: usize, quads: &[u32], labels: &[u8]) -> bool
+    requires { ⌜ Holds nq (now quads) (now labels) ⌝ }
+    ensures { λ r. ⌜ r ≡ every (goodQuadAt n (now (quads .entry)) (now (labels .entry))) nq ⌝ }
+{
+    let mut q = 0;
+    while q < nq {
+        if good_quad(n, quads, labels, q) {
+            q += 1;
+        } else {
+            return false;
+        }
+    }
+    true
+}
+
+// A mask with the bit of a label set.
+fn with_bit(m: u32, label: u32) -> u32
+    requires { ⌜ m < 256 ⌝ }
+    requires { ⌜ label ≤ 7 ⌝ }
+    ensures { λ r. ⌜ r ≡ withBit m label ⌝ }
+{
+    let p = 1u32 << label;
+    if (m / p) % 2 == 0 { m + p } else { m }
+}
+
+// A mask is not 0 and has no opposite pair.
+pub fn good_mask(m: u32) -> bool
+    ensures { λ r. ⌜ r ≡ goodMask m ⌝ }
+{
+    (m != 0) & (m % 4 != 3) & (m / 4 % 4 != 3) & (m / 16 % 4 != 3) & (m / 64 % 4 != 3)
+}
+
+// Every mask is good.
+fn good_masks(masks: &[u32]) -> bool
+    ensures { λ r. ⌜ r ≡ every (goodMaskAt (now (masks .entry))) (length (now (masks .entry))) ⌝ }
+{
+    let mut v = 0;
+    while v < masks.len() {
+        if good_mask(masks[v]) {
+            v += 1;
+        } else {
+            return false;
+        }
+    }
+    true
+}
+
+// Sets the bit of a label in the mask at v.
+fn mark(masks: &mut [u32], v: usize, label: u32)
+    requires { ⌜ v < length (now masks) ⌝ }
+    requires { ⌜ getD (now masks) v 0 < 256 ⌝ }
+    requires { ⌜ label ≤ 7 ⌝ }
+    ensures { λ _. ⌜ now (masks .exit) ≡ marked v label (now (masks .entry)) ⌝ }
+{
+    masks[v] = with_bit(masks[v], label);
+}
+
+// Adds quad q to the masks of the quads before it.
+fn mark_corners(quads: &[u32], labels: &[u8], q: usize, masks: &mut [u32])
+    requires { ⌜ 4 * q + 3 < length (now quads) ⌝ }
+    requires { ⌜ q < length (now labels) ⌝ }
+    requires { ⌜ goodQuadAt (length (now masks)) (now quads) (now labels) q ≡ true ⌝ }
+    requires { ⌜ now masks ≡ tabulate (maskIn (now quads) (now labels) q) (length (now masks)) ⌝ }
+    ensures { λ _. ⌜ now (masks .exit) ≡ tabulate (maskIn (now (quads .entry)) (now (labels .entry)) (q + 1)) (length (now (masks .entry))) ⌝ }
+{
+    let l = lists::byte_at(labels, q);
+    let mut j = 0;
+    while j < 4 {
+        mark(masks, corner_at(quads, q, j), l);
+        j += 1;
+    }
+}
+
+// The masks of all points, in a slice of zeros.
+fn mark_quads(nq: usize, quads: &[u32], labels: &[u8], masks: &mut [u32])
+    requires { ⌜ Holds nq (now quads) (now labels) ⌝ }
+    requires { ⌜ every (goodQuadAt (length (now masks)) (now quads) (now labels)) nq ≡ true ⌝ }
+    requires { ⌜ now masks ≡ replicate (length (now masks)) 0 ⌝ }
+    ensures { λ _. ⌜ now (masks .exit) ≡ tabulate (maskIn (now (quads .entry)) (now (labels .entry)) nq) (length (now (masks .entry))) ⌝ }
+{
+    let mut q = 0;
+    while q < nq {
+        mark_corners(quads, labels, q, masks);
+        q += 1;
+    }
+}
+
+// 6 and 7, of nq quads and as many points as there are masks.
+fn quads_tested(nq: usize, quads: &[u32], labels: &[u8], masks: &mut [u32]) -> Verdict
+    requires { ⌜ Holds nq (now quads) (now labels) ⌝ }
+    ensures { λ r. ⌜ r ≡ quadsVerdict (length (now (masks .entry))) (quadsOf nq (now (quads .entry))) (take nq (now (labels .entry))) ⌝ }
+    ensures { λ r. ⌜ MasksIf r (masksOf (length (now (masks .entry))) (quadsOf nq (now (quads .entry))) (take nq (now (labels .entry)))) (now (masks .exit)) ⌝ }
+{
+    if good_quads(masks.len(), nq, quads, labels) {
+        lists::clear(masks);
+        mark_quads(nq, quads, labels, masks);
+        if good_masks(masks) {
+            return Verdict::Accepted;
+        }
+        return Verdict::Refused(CLASH);
+    }
+    Verdict::Refused(CORNER)
+}
+
+// 1, 5, 6 and 7, of a sheet that its slices hold; the masks of an accepted one go to the lent slice.
+pub fn constraints(
+    b: Band,
+    c: Counts,
+    points: &[f64],
+    quads: &[u32],
+    labels: &[u8],
+    masks: &mut [u32],
+) -> Verdict
+    requires { ⌜ LentSheet c (length (now points)) (length (now quads)) (length (now labels)) ⌝ }
+    requires { ⌜ length (now masks) ≡ c .points ⌝ }
+    ensures { λ r. ⌜ r ≡ sheetVerdict b (sheetOf c (now (points .entry)) (now (quads .entry)) (now (labels .entry))) ⌝ }
+    ensures { λ r. ⌜ MasksIf r (masksOf (c .points) (quadsOf (c .quads) (now (quads .entry))) (take (c .labels) (now (labels .entry)))) (now (masks .exit)) ⌝ }
+{
+    if band::validate(b) {
+        if is_bare(c, points) {
+            return Verdict::Refused(BARE);
+        }
+        return quads_tested(c.quads, quads, labels, masks);
+    }
+    Verdict::Refused(BOX)
+}
