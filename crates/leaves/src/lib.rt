@@ -7,6 +7,8 @@ use points::Point;
 use projection::LONGEST_MOVE;
 use projection::LOOKS;
 use projection::Projected;
+use sheet::Counts;
+use sheet::Verdict;
 ghost use mathlib.Core.Path.{_≡_};
 ghost use Prim.Native.Nat.{_≤_};
 ghost use lib.ListN.{length};
@@ -15,12 +17,9 @@ ghost use Rattle.leaves.specs.Doors.{coefficientsOf, fieldOf, valueAt};
 
 // Accepted.
 const ACCEPTED: u32 = 0;
-// Levels, bounds or length are not fit for use.
-const BOX: u32 = 1;
+
 // A projection fails.
 const ASTRAY: u32 = 9;
-// A slice holds too little.
-const SHORT: u32 = 13;
 
 // The first ten numbers of a slice.
 fn coefficients(k: &[f64]) -> Coefficients
@@ -74,7 +73,7 @@ fn band_of(kind: u32, numbers: &[f64], bounds: &[f64], lower: f64, upper: f64) -
 // Writes a point to out.
 fn put(out: &mut [f64], p: Point) -> u32 {
     if out.len() < 3 {
-        return SHORT;
+        return sheet::SHORT;
     }
     points::put_point(out, 0, p);
     ACCEPTED
@@ -113,7 +112,7 @@ pub extern "C" fn leaf_gradient(
     out: &mut [f64],
 ) -> u32 {
     if numbers.len() < 10 || bounds.len() < 6 {
-        return SHORT;
+        return sheet::SHORT;
     }
     let b = band_of(kind, numbers, bounds, lower, upper);
     let f = b.field;
@@ -135,7 +134,7 @@ pub extern "C" fn leaf_normal(
     out: &mut [f64],
 ) -> u32 {
     if numbers.len() < 10 || bounds.len() < 6 {
-        return SHORT;
+        return sheet::SHORT;
     }
     let b = band_of(kind, numbers, bounds, lower, upper);
     let f = b.field;
@@ -160,7 +159,7 @@ pub extern "C" fn leaf_project(
     out: &mut [f64],
 ) -> u32 {
     if numbers.len() < 10 || bounds.len() < 6 {
-        return SHORT;
+        return sheet::SHORT;
     }
     let b = band_of(kind, numbers, bounds, lower, upper);
     let len = band::length(b);
@@ -181,10 +180,50 @@ pub extern "C" fn leaf_validate(
     upper: f64,
 ) -> u32 {
     if numbers.len() < 10 || bounds.len() < 6 {
-        return SHORT;
+        return sheet::SHORT;
     }
     if band::validate(band_of(kind, numbers, bounds, lower, upper)) {
         return ACCEPTED;
     }
-    BOX
+    sheet::BOX
+}
+
+// Tests a sheet that fills its slices; masks has an element for each point.
+fn tested(b: Band, points: &[f64], quads: &[u32], labels: &[u8], masks: &mut [u32]) -> u32 {
+    let c = Counts {
+        points: points.len() / 3,
+        quads: quads.len() / 4,
+        labels: labels.len(),
+    };
+    if sheet::LIMIT < c.points || sheet::LIMIT < c.quads || sheet::LIMIT < c.labels {
+        return sheet::LARGE;
+    }
+    if masks.len() != c.points {
+        return sheet::SHORT;
+    }
+    let v = sheet::constraints(b, c, points, quads, labels, masks);
+    match v {
+        Verdict::Accepted => ACCEPTED,
+        Verdict::Refused(number) => number,
+    }
+}
+
+// Tests a sheet and its band.
+#[no_mangle]
+pub extern "C" fn leaf_constraints(
+    points: &[f64],
+    quads: &[u32],
+    labels: &[u8],
+    kind: u32,
+    numbers: &[f64],
+    bounds: &[f64],
+    lower: f64,
+    upper: f64,
+    masks: &mut [u32],
+) -> u32 {
+    if numbers.len() < 10 || bounds.len() < 6 {
+        return sheet::SHORT;
+    }
+    let b = band_of(kind, numbers, bounds, lower, upper);
+    tested(b, points, quads, labels, masks)
 }

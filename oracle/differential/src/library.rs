@@ -1,6 +1,7 @@
 //! The exports of the static library `leaves`, and its answer to a call.
 use oracle::Point;
 use oracle::call::{Answer, Call, Operation};
+use oracle::quads::QuadMesh;
 
 // A slice passes as its pointer and its length.
 unsafe extern "C" {
@@ -58,6 +59,23 @@ unsafe extern "C" {
         bounds_len: usize,
         lower: f64,
         upper: f64,
+    ) -> u32;
+    fn leaf_constraints(
+        points: *const f64,
+        points_len: usize,
+        quads: *const u32,
+        quads_len: usize,
+        labels: *const u8,
+        labels_len: usize,
+        kind: u32,
+        numbers: *const f64,
+        numbers_len: usize,
+        bounds: *const f64,
+        bounds_len: usize,
+        lower: f64,
+        upper: f64,
+        masks: *mut u32,
+        masks_len: usize,
     ) -> u32;
 }
 
@@ -174,6 +192,34 @@ impl Lent {
         // SAFETY: each pointer and the length after it are of one array.
         unsafe { leaf_validate(self.kind, n.as_ptr(), n.len(), b.as_ptr(), b.len(), self.lower, self.upper) }
     }
+
+    /// The tests of a lent sheet; the number.
+    fn constraints(&self, sheet: &QuadMesh) -> u32 {
+        let (n, b) = (&self.numbers, &self.bounds);
+        let points = sheet.points.as_flattened();
+        let quads: Vec<u32> = sheet.quads.as_flattened().iter().map(|&corner| corner as u32).collect();
+        let mut masks = vec![0; sheet.points.len()];
+        // SAFETY: each pointer and the length after it are of one list, and only `masks` is written.
+        unsafe {
+            leaf_constraints(
+                points.as_ptr(),
+                points.len(),
+                quads.as_ptr(),
+                quads.len(),
+                sheet.labels.as_ptr(),
+                sheet.labels.len(),
+                self.kind,
+                n.as_ptr(),
+                n.len(),
+                b.as_ptr(),
+                b.len(),
+                self.lower,
+                self.upper,
+                masks.as_mut_ptr(),
+                masks.len(),
+            )
+        }
+    }
 }
 
 /// The answer of a number and the point that was written.
@@ -195,6 +241,7 @@ pub fn answer(call: &Call) -> Option<Answer> {
         Operation::Normal => Some(written(|out| lent.normal(out))),
         Operation::Project => Some(written(|out| lent.project(out))),
         Operation::Validate => Some(Answer::refused(lent.validate() as u8)),
+        Operation::Constraints => Some(Answer::refused(lent.constraints(&call.sheet) as u8)),
         _ => None,
     }
 }

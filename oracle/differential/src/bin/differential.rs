@@ -7,14 +7,15 @@ use oracle::record::{self, Record};
 use std::collections::BTreeMap;
 use std::process::ExitCode;
 
-/// The operations that are compared, each with its share of 100 calls; `constraints` joins here.
-const SHARES: [(Operation, u64); 6] = [
+/// The operations that are compared, each with its share of 100 calls.
+const SHARES: [(Operation, u64); 7] = [
     (Operation::Sqrt, 20),
     (Operation::Value, 20),
-    (Operation::Gradient, 15),
-    (Operation::Normal, 15),
+    (Operation::Gradient, 10),
+    (Operation::Normal, 10),
     (Operation::Project, 20),
     (Operation::Validate, 10),
+    (Operation::Constraints, 10),
 ];
 
 /// How many differing calls are shown.
