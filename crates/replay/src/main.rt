@@ -2,10 +2,12 @@
 // how many agree. Standard input holds the records; docs/ORACLE.md has their layout.
 mod numbers;
 mod records;
+mod sheets;
 mod table;
 
 // The first words of a file of records, and the version of its layout.
 const MAGIC: u64 = 0x3156_5351;
+
 const VERSION: u64 = 1;
 
 // How many records a file says that it has; 0 if it is no such file.

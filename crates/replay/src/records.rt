@@ -1,14 +1,16 @@
 // One record: reading it, asking the proved function, comparing.
 use crate::numbers;
+use crate::sheets;
 ghost use Prim.Native.Nat.{_≤_};
 
-// Where the floats of a record begin, and where a lone point's result does.
+// Where the floats of a record begin.
 const FLOATS: usize = 64;
 
+// Where the result of a lone point begins.
 const RESULT: usize = 232;
 
 // What no function answers.
-const UNKNOWN: u32 = 255;
+pub const UNKNOWN: u32 = 255;
 
 // Reads the bytes from start to end of a record; false if they do not fit or the input ends.
 fn read_part(bytes: &mut [u8], start: usize, end: usize) -> bool {
@@ -28,15 +30,6 @@ fn read(bytes: &mut [u8]) -> bool {
     read_part(bytes, 208, size)
 }
 
-// The floats of a record: ten of the field, six bounds, two levels, the point.
-fn load(bytes: &[u8], floats: &mut [f64]) {
-    let mut i = 0;
-    while i < 21 && i < floats.len() {
-        floats[i] = numbers::float_of(numbers::word_at(bytes, FLOATS + i * 8));
-        i += 1;
-    }
-}
-
 // Puts a value first; the number is 0.
 fn put(out: &mut [f64], x: f64) -> u32 {
     if 0 < out.len() {
@@ -46,10 +39,12 @@ fn put(out: &mut [f64], x: f64) -> u32 {
 }
 
 // What the proved function of an operation answers: its number, and in out the point or the value.
-fn ask(operation: u64, kind: u32, byte: u8, k: &[f64], out: &mut [f64]) -> u32 {
+fn ask(bytes: &[u8], operation: u64, k: &[f64], out: &mut [f64]) -> u32 {
     if k.len() < 21 {
         return UNKNOWN;
     }
+    let kind = numbers::byte_at(bytes, 7) as u32;
+    let byte = numbers::byte_at(bytes, 8) as u8;
     let numbers = &k[0..10];
     let bounds = &k[10..16];
     let lower = k[16];
@@ -92,6 +87,7 @@ fn ask(operation: u64, kind: u32, byte: u8, k: &[f64], out: &mut [f64]) -> u32 {
             out,
         ),
         13 => put(out, leaves::leaf_sqrt(k[18])),
+        14 => sheets::test(bytes, kind, k),
         15 => leaves::leaf_validate(kind, numbers, bounds, lower, upper),
         _ => UNKNOWN,
     }
@@ -115,11 +111,9 @@ fn same_point(bytes: &[u8], x: f64, y: f64, z: f64) -> bool {
 // Whether the proved function answers as the record says.
 fn agrees(bytes: &[u8], operation: u64, number: u64) -> bool {
     let mut floats = [0.0; 21];
-    load(bytes, &mut floats);
+    numbers::load_floats(bytes, FLOATS, &mut floats);
     let mut out = [0.0; 3];
-    let kind = numbers::byte_at(bytes, 7) as u32;
-    let byte = numbers::byte_at(bytes, 8) as u8;
-    let got = ask(operation, kind, byte, &floats, &mut out);
+    let got = ask(bytes, operation, &floats, &mut out);
     got as u64 == number && same_point(bytes, out[0], out[1], out[2])
 }
 

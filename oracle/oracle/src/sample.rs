@@ -1,5 +1,5 @@
 //! The stored sample: fixed cases first, then random ones of a seed.
-use crate::bands::{self, UNIT};
+use crate::bands::UNIT;
 use crate::call::{Call, Operation, lone, original};
 use crate::field::{BandNumbers, Field};
 use crate::quads::QuadMesh;
@@ -81,7 +81,7 @@ fn projections() -> Vec<Call> {
 }
 
 /// The roots, the leaf functions and the tests of a band.
-pub fn leaves(seed: u64) -> Vec<Record> {
+fn leaves(seed: u64) -> Vec<Record> {
     let mut r = Random::new(seed);
     let root = |x| Call { operation: Operation::Sqrt, argument: 0, band: UNIT, sheet: lone([x, 0.0, 0.0]) };
     let mut calls: Vec<Call> = ROOTS.map(root).to_vec();
@@ -134,15 +134,22 @@ fn changed_bands() -> [BandNumbers; 6] {
 }
 
 /// The tests of a lent sheet.
-pub fn constraints(seed: u64) -> Vec<Record> {
+fn constraints(seed: u64) -> Vec<Record> {
     let mut r = Random::new(seed);
     let operation = Operation::Constraints;
     let on = |band, sheet| Call { operation, argument: 0, band, sheet };
     let mut calls: Vec<Call> = changed_cubes().into_iter().map(|sheet| on(UNIT, sheet)).collect();
     calls.extend(changed_bands().map(|band| on(band, sheets::pillow())));
-    calls.push(on(bands::UNIT, sheets::poles(40)));
+    calls.push(on(UNIT, sheets::poles(40)));
     calls.extend((0..SHEETS).map(|_| inputs::call(&mut r, operation)));
     calls.into_iter().map(record).collect()
+}
+
+/// The sample of a seed.
+pub fn records(seed: u64) -> Vec<Record> {
+    let mut records = leaves(seed);
+    records.extend(constraints(seed));
+    records
 }
 
 #[cfg(test)]
@@ -159,25 +166,21 @@ mod tests {
     #[test]
     fn every_answer_occurs() {
         use Operation::*;
-        let mut records = leaves(SEED);
-        records.extend(constraints(SEED));
         let leaf = [(Sqrt, 0), (Value, 0), (Gradient, 0), (Normal, 0), (Project, 0), (Project, 9)];
         let tests = [(Validate, 0), (Validate, 1)];
         let sheet = [0, 1, 5, 6, 7].map(|number| (Constraints, number));
         let expected = leaf.into_iter().chain(tests).chain(sheet).collect();
-        assert_eq!(seen(&records), expected);
+        assert_eq!(seen(&records(SEED)), expected);
     }
 
     #[test]
     fn the_same_seed_gives_the_same_file() {
-        assert_eq!(record::file(&leaves(5)), record::file(&leaves(5)));
-        assert_ne!(record::file(&leaves(5)), record::file(&leaves(6)));
+        assert_eq!(record::file(&records(5)), record::file(&records(5)));
+        assert_ne!(record::file(&records(5)), record::file(&records(6)));
     }
 
     #[test]
     fn the_sample_is_small() {
-        let mut records = leaves(SEED);
-        records.extend(constraints(SEED));
-        assert!(record::file(&records).len() < 400_000);
+        assert!(record::file(&records(SEED)).len() < 400_000);
     }
 }

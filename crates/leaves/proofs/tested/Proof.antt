@@ -12,13 +12,15 @@ returns-2 : tie.Need-returns-2
 returns-2 c = search needs
 
 constraints-requires : tie.Need-constraints-requires
-constraints-requires c κs =
-    (record {
-      few = record { points≤ = omega arith; quads≤ = omega (arith, ltb-false); labels≤ = omega (arith, ltb-false) };
-      points = omega arith;
-      quads = omega arith;
-      labels = omega arith
-    }, omega arith)
+constraints-requires c κs = (
+  record {
+    few = record { points≤ = omega arith; quads≤ = omega (arith, ltb-false); labels≤ = omega (arith, ltb-false) };
+    points = omega arith;
+    quads = omega arith;
+    labels = omega arith;
+  },
+  omega arith,
+)
 
 enum-told : tie.Need-enum-told
 enum-told c = search needs

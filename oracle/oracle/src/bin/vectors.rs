@@ -1,4 +1,4 @@
-//! vectors write FILE [SEED] [sheets]: writes the sample, with the word `sheets` also the tests of a lent sheet.
+//! vectors write FILE [SEED]: writes the sample.
 //! vectors check FILE: asks the original again and compares.
 use oracle::call::original;
 use oracle::record::{self, Record, shortened};
@@ -19,12 +19,9 @@ fn table(records: &[Record]) -> String {
 }
 
 /// Writes the sample of a seed.
-fn write(path: &str, seed: &str, with_sheets: bool) -> Result<String, String> {
+fn write(path: &str, seed: &str) -> Result<String, String> {
     let seed = seed.parse().map_err(|_| format!("{seed} is no seed"))?;
-    let mut records = sample::leaves(seed);
-    if with_sheets {
-        records.extend(sample::constraints(seed));
-    }
+    let records = sample::records(seed);
     let bytes = record::file(&records);
     std::fs::write(path, &bytes).map_err(|error| format!("{path}: {error}"))?;
     Ok(format!("{}, {} bytes", table(&records), bytes.len()))
@@ -47,12 +44,10 @@ fn main() -> ExitCode {
     let words: Vec<&str> = words.iter().map(String::as_str).collect();
     let default_seed = sample::SEED.to_string();
     let done = match words[..] {
-        ["write", path] => write(path, &default_seed, false),
-        ["write", path, "sheets"] => write(path, &default_seed, true),
-        ["write", path, seed] => write(path, seed, false),
-        ["write", path, seed, "sheets"] => write(path, seed, true),
+        ["write", path] => write(path, &default_seed),
+        ["write", path, seed] => write(path, seed),
         ["check", path] => check(path),
-        _ => Err("vectors write FILE [SEED] [sheets], or vectors check FILE".into()),
+        _ => Err("vectors write FILE [SEED], or vectors check FILE".into()),
     };
     match done {
         Ok(said) => {

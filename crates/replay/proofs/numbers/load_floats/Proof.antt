@@ -1,19 +1,19 @@
--- `replay::records::load` is safe and ends. The loop's invariant: the slice keeps its length. The measure is what is left of the 21 floats.
+-- `replay::numbers::load_floats` is safe and ends. The loop's invariant: the slice keeps its length. The measure is what is left to take.
 -- Assumes nothing.
-use borrow.Author.Tests.{ltb-true}
-use lib.ListN.{length, length-set}
-use mathlib.Core.Path.{_≡_, refl}
 use Prim.Native.Nat.{_-_}
+use mathlib.Core.Path.{_≡_, refl}
+use lib.ListN.{length, length-set}
+use borrow.Author.Tests.{ltb-true}
 use native.Mathlib.Omega.{arith}
 use borrow.Author.Needs.{needs}
-use Rattle.replay.proofs.records.load.Statement.{statement}
-use Rattle.replay.proofs.records.load.Tie as tie
+use Rattle.replay.proofs.numbers.load_floats.Statement.{statement}
+use Rattle.replay.proofs.numbers.load_floats.Tie as tie
 
 abbrev Inv-loop : tie.InvT-loop
-Inv-loop bytes floats₀ i₀ floats i = length floats ≡ length floats₀
+Inv-loop bytes at floats₀ i₀ floats i = length floats ≡ length floats₀
 
 abbrev μ-loop : tie.MeasureT-loop
-μ-loop bytes floats₀ i₀ floats i = 21 - i
+μ-loop bytes at floats₀ i₀ floats i = 400 - i
 
 loop-holds : tie.Need-loop-holds Inv-loop μ-loop
 loop-holds c = refl
@@ -57,8 +57,8 @@ same-length-2 c = c .before .loop .inv
 returns-2 : tie.Need-returns-2 Inv-loop μ-loop
 returns-2 c = search needs
 
-pub load-spec : {M : Type 1} → statement M
-load-spec =
+pub load-floats-spec : {M : Type 1} → statement M
+load-floats-spec =
     tie.close
     (tie.spec
     Inv-loop
