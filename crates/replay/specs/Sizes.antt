@@ -1,0 +1,9 @@
+-- What the functions over a record's sheet ask. Assumes nothing.
+use Prim.Native.Nat.{_≤_}
+use Rattle.replay.specs.declared.sheets.Sizes.{Sizes}
+
+-- the sizes of a sheet that is taken
+pub record Small (n : Sizes) : Type 0 where
+  pub points≤ : n .points ≤ 64
+  pub quads≤ : n .quads ≤ 64
+  pub labels≤ : n .labels ≤ 64

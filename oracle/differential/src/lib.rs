@@ -1,0 +1,3 @@
+//! The proved library, asked as the original is.
+pub mod arguments;
+pub mod library;

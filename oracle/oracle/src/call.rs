@@ -1,0 +1,249 @@
+//! A call of an operation, and what the original answers.
+use crate::field::{BandNumbers, Field};
+use crate::implicit::ScalarField;
+use crate::quads::{self, Band, QuadMesh, Quality};
+use crate::{MeshingError, Point, inner, refusal};
+
+/// The operations, by their number in a record.
+#[derive(Clone, Copy, Debug, PartialEq, Eq, PartialOrd, Ord)]
+#[repr(u8)]
+pub enum Operation {
+    Refine = 1,
+    Subdivide = 2,
+    Extract = 3,
+    Regularize = 4,
+    ImproveLayout = 5,
+    Coarsen = 6,
+    Rows = 7,
+    Quality = 8,
+    Project = 9,
+    Value = 10,
+    Gradient = 11,
+    Normal = 12,
+    Sqrt = 13,
+    Constraints = 14,
+    Validate = 15,
+}
+
+/// All operations in the order of their numbers, with their names.
+pub const OPERATIONS: [(Operation, &str); 15] = [
+    (Operation::Refine, "refine"),
+    (Operation::Subdivide, "subdivide"),
+    (Operation::Extract, "extract_candidate"),
+    (Operation::Regularize, "regularize"),
+    (Operation::ImproveLayout, "improve_layout"),
+    (Operation::Coarsen, "coarsen"),
+    (Operation::Rows, "boundary_rows"),
+    (Operation::Quality, "quality"),
+    (Operation::Project, "project"),
+    (Operation::Value, "value"),
+    (Operation::Gradient, "gradient"),
+    (Operation::Normal, "normal"),
+    (Operation::Sqrt, "sqrt"),
+    (Operation::Constraints, "constraints"),
+    (Operation::Validate, "validate"),
+];
+
+impl Operation {
+    /// The operation of a number, or none.
+    pub fn of(number: u8) -> Option<Operation> {
+        OPERATIONS.iter().map(|&(operation, _)| operation).find(|&operation| operation as u8 == number)
+    }
+
+    /// The operation's name.
+    pub fn name(self) -> &'static str {
+        OPERATIONS[self as usize - 1].1
+    }
+}
+
+/// The result is a digest of the sheet.
+pub const DIGEST: u8 = 1;
+/// Quality: `is_valid` says yes.
+pub const VALID: u8 = 2;
+/// Quality: every edge has exactly two quads that run opposite ways.
+pub const TIGHT: u8 = 4;
+/// Quality: no score is NaN, so shape_size_p05 is compared.
+pub const SCORED: u8 = 8;
+
+/// What an operation is asked.
+#[derive(Clone, Debug)]
+pub struct Call {
+    pub operation: Operation,
+    /// Passes, cells, mask or label.
+    pub argument: u64,
+    pub band: BandNumbers,
+    /// The lent sheet; operations 9 to 13 take its only point.
+    pub sheet: QuadMesh,
+}
+
+/// What an operation answers: a result is kept as the words of its record.
+#[derive(Clone, Debug, Default, PartialEq, Eq)]
+pub struct Answer {
+    /// 0, or the number of the refusal.
+    pub number: u8,
+    pub flags: u8,
+    /// How many swaps or merges were made.
+    pub count: u64,
+    /// Points, quads and labels of the result.
+    pub counts: [u32; 3],
+    pub words: Vec<u64>,
+}
+
+/// The bits of a float in a result; every NaN is the same one.
+pub fn result_bits(x: f64) -> u64 {
+    if x.is_nan() { 0x7ff8_0000_0000_0000 } else { x.to_bits() }
+}
+
+/// A sheet with no quad and this one point.
+pub fn lone(p: Point) -> QuadMesh {
+    QuadMesh { points: vec![p], quads: vec![], labels: vec![] }
+}
+
+/// The words of a sheet: coordinates, corners two to a word, labels eight to a word.
+pub fn sheet_words(sheet: &QuadMesh, bits: fn(f64) -> u64) -> Vec<u64> {
+    let mut words: Vec<u64> = sheet.points.iter().flatten().map(|&x| bits(x)).collect();
+    for [a, b, c, d] in sheet.quads.iter().map(|quad| quad.map(|corner| corner as u64)) {
+        words.extend([a | b << 32, c | d << 32]);
+    }
+    for eight in sheet.labels.chunks(8) {
+        words.push(eight.iter().rev().fold(0, |word, &label| word << 8 | u64::from(label)));
+    }
+    words
+}
+
+impl Answer {
+    /// Accepted, with nothing more to say.
+    pub fn accepted() -> Answer {
+        Answer::default()
+    }
+
+    /// Refused with a number.
+    pub fn refused(number: u8) -> Answer {
+        Answer { number, ..Answer::default() }
+    }
+
+    /// Accepted, with a point as the result.
+    pub fn point(p: Point) -> Answer {
+        Answer { counts: [1, 0, 0], words: p.map(result_bits).to_vec(), ..Answer::default() }
+    }
+
+    /// Accepted, with a number as the result: the x of a point.
+    pub fn number(x: f64) -> Answer {
+        Answer::point([x, 0.0, 0.0])
+    }
+
+    /// Accepted, with a count and a sheet as the result.
+    pub fn sheet(count: usize, sheet: &QuadMesh) -> Answer {
+        let counts = [sheet.points.len(), sheet.quads.len(), sheet.labels.len()].map(|n| n as u32);
+        Answer { count: count as u64, counts, words: sheet_words(sheet, result_bits), ..Answer::default() }
+    }
+
+    /// Accepted, with the measures of a sheet as the result.
+    pub fn quality(quality: &Quality, tight: bool) -> Answer {
+        let counts = [
+            quality.quads,
+            quality.irregular_vertices,
+            quality.boundary_edges,
+            quality.nonmanifold_edges,
+            quality.orientation_errors,
+            quality.bad_vertex_links,
+            quality.duplicate_faces,
+            quality.invalid_cells,
+        ];
+        let measures =
+            [quality.minimum_shape, quality.shape_size_p05, quality.shape_size_mean, quality.minimum_sampled_jacobian];
+        let valid = if quality.is_valid() { VALID } else { 0 };
+        let tight = if tight { TIGHT } else { 0 };
+        let scored = if quality.shape_size_mean.is_nan() { 0 } else { SCORED };
+        let words = counts.iter().map(|&n| n as u64).chain(measures.map(result_bits)).collect();
+        Answer { flags: valid | tight | scored, words, ..Answer::default() }
+    }
+
+    /// The answer of a result of the original.
+    fn of<T>(result: Result<T, MeshingError>, accepted: impl FnOnce(T) -> Answer) -> Answer {
+        result.map_or_else(|error| Answer::refused(refusal::number(&error)), accepted)
+    }
+
+    /// Whether another answer to the same operation is the same, by document 01's rule of comparison.
+    pub fn same(&self, other: &Answer, operation: Operation) -> bool {
+        if operation != Operation::Quality {
+            return self == other;
+        }
+        let heads = |a: &Answer| (a.number, a.flags, a.words.len());
+        heads(self) == heads(other)
+            && self.words.iter().zip(&other.words).enumerate().all(|(i, (&a, &b))| {
+                let zeros = i >= 8 && a << 1 == 0 && b << 1 == 0;
+                let unscored = i == 9 && self.flags & SCORED == 0;
+                a == b || zeros || unscored
+            })
+    }
+}
+
+/// Whether every edge has exactly two quads that run opposite ways.
+fn is_tight(sheet: &QuadMesh) -> bool {
+    let mut edges = std::collections::BTreeMap::<(usize, usize), Vec<bool>>::new();
+    for quad in &sheet.quads {
+        for k in 0..4 {
+            let (a, b) = (quad[k], quad[(k + 1) % 4]);
+            edges.entry((a.min(b), a.max(b))).or_default().push(a < b);
+        }
+    }
+    edges.values().all(|ways| ways.len() == 2 && ways[0] != ways[1])
+}
+
+/// An operation of the original that alters a sheet in place and counts.
+type Clean = fn(&mut QuadMesh, &Band<'_, Field>, usize) -> Result<usize, MeshingError>;
+
+/// What such an operation answers.
+fn cleaned(call: &Call, operation: Clean) -> Answer {
+    let mut sheet = call.sheet.clone();
+    let count = operation(&mut sheet, &call.band.band(), call.argument as usize);
+    Answer::of(count, |count| Answer::sheet(count, &sheet))
+}
+
+/// What the original answers; `project` only on a band that `validate` accepts, `normal` only on labels up to 7.
+pub fn original(call: &Call) -> Answer {
+    let band = &call.band.band();
+    let sheet = &call.sheet;
+    let point = sheet.points.first().copied().unwrap_or_default();
+    let made = |result| Answer::of(result, |sheet| Answer::sheet(0, &sheet));
+    match call.operation {
+        Operation::Refine => made(quads::refine(sheet)),
+        Operation::Subdivide => made(quads::subdivide(sheet, band)),
+        Operation::Extract => made(quads::extract_candidate(band, call.argument as usize)),
+        Operation::Rows => made(quads::boundary_rows(sheet, band)),
+        Operation::Regularize => cleaned(call, quads::regularize),
+        Operation::ImproveLayout => cleaned(call, quads::improve_layout),
+        Operation::Coarsen => cleaned(call, quads::coarsen),
+        Operation::Quality => Answer::of(quads::quality(sheet, band), |q| Answer::quality(&q, is_tight(sheet))),
+        Operation::Project => Answer::of(inner::project(band, point, call.argument as u8), Answer::point),
+        Operation::Value => Answer::number(call.band.field.value(point)),
+        Operation::Gradient => Answer::point(inner::gradient(band, point)),
+        Operation::Normal => Answer::point(inner::normal(band, point, call.argument as u8)),
+        Operation::Sqrt => Answer::number(point[0].sqrt()),
+        Operation::Constraints => Answer::of(inner::constraints(sheet, band), |()| Answer::accepted()),
+        Operation::Validate => Answer::of(inner::validate(band), |()| Answer::accepted()),
+    }
+}
+
+#[cfg(test)]
+mod tests {
+    use super::*;
+
+    #[test]
+    fn an_operation_stands_at_its_number() {
+        for (i, &(operation, name)) in OPERATIONS.iter().enumerate() {
+            assert_eq!(operation as usize, i + 1);
+            assert_eq!(Operation::of(operation as u8), Some(operation));
+            assert_eq!(operation.name(), name);
+        }
+        assert_eq!(Operation::of(0), None);
+        assert_eq!(Operation::of(16), None);
+    }
+
+    #[test]
+    fn the_words_of_a_sheet_are_little_endian() {
+        let sheet = QuadMesh { points: vec![[1.0, 0.0, 0.0]], quads: vec![[1, 2, 3, 4]], labels: vec![5, 6] };
+        assert_eq!(sheet_words(&sheet, f64::to_bits), [1f64.to_bits(), 0, 0, 1 | 2 << 32, 3 | 4 << 32, 5 | 6 << 8]);
+    }
+}

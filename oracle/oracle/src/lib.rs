@@ -1,0 +1,15 @@
+//! The Rust original as the judge of the port: what it answers, inputs to ask it, and the record format of both.
+include!(concat!(env!("OUT_DIR"), "/original.rs"));
+pub use error::MeshingError;
+
+pub mod bands;
+pub mod call;
+pub mod field;
+pub mod floats;
+pub mod inner;
+pub mod inputs;
+pub mod random;
+pub mod record;
+pub mod refusal;
+pub mod sample;
+pub mod sheets;

@@ -1,0 +1,186 @@
+//! The stored sample: fixed cases first, then random ones of a seed.
+use crate::bands::UNIT;
+use crate::call::{Call, Operation, lone, original};
+use crate::field::{BandNumbers, Field};
+use crate::quads::QuadMesh;
+use crate::random::Random;
+use crate::record::{Record, shortened};
+use crate::{Point, inputs, sheets};
+
+/// The seed of the sample that the repository holds.
+pub const SEED: u64 = 2026;
+
+/// How many random calls of each leaf function the sample holds.
+const LEAVES: [(Operation, usize); 6] = [
+    (Operation::Sqrt, 280),
+    (Operation::Value, 200),
+    (Operation::Gradient, 200),
+    (Operation::Normal, 200),
+    (Operation::Project, 400),
+    (Operation::Validate, 80),
+];
+
+/// How many random sheets are tested.
+const SHEETS: usize = 60;
+
+/// The roots of document 01, of zeros, of limits and of what has no root.
+const ROOTS: [f64; 20] = [
+    4.0,
+    2.0,
+    3.0,
+    1.0,
+    0.1,
+    0.0,
+    -0.0,
+    -1.0,
+    -f64::MIN_POSITIVE,
+    f64::NAN,
+    f64::INFINITY,
+    f64::NEG_INFINITY,
+    f64::MAX,
+    f64::MIN_POSITIVE,
+    1.0 + f64::EPSILON,
+    1.0 - f64::EPSILON / 2.0,
+    4.0 - 2.0 * f64::EPSILON,
+    5e-324,
+    1e-323,
+    1e-310,
+];
+
+/// A call and what the original answers.
+fn record(call: Call) -> Record {
+    let answer = shortened(original(&call));
+    Record { call, answer }
+}
+
+/// A projection of a point by a mask.
+fn projection(band: BandNumbers, mask: u8, point: Point) -> Call {
+    Call { operation: Operation::Project, argument: u64::from(mask), band, sheet: lone(point) }
+}
+
+/// Projections by masks of every kind, onto a level, off the box, and where the field is flat.
+fn projections() -> Vec<Call> {
+    let plane = |numbers| BandNumbers { field: Field::Plane(numbers), ..UNIT };
+    let bottomless = BandNumbers { levels: [f64::NEG_INFINITY, 0.16], ..UNIT };
+    let masks = [0, 1, 2, 3, 4, 8, 12, 16, 32, 64, 128, 192, 5, 10, 21, 85, 86, 170, 255];
+    let mut calls: Vec<Call> = masks.iter().map(|&mask| projection(UNIT, mask, [0.6, 0.7, 0.55])).collect();
+    calls.extend([
+        projection(UNIT, 1, [0.5; 3]),
+        projection(UNIT, 1, [0.9, 0.5, 0.5]),
+        projection(UNIT, 0, [1.0 + 1e-10, 0.5, 0.5]),
+        projection(UNIT, 0, [1.0 + 2e-10, 0.5, 0.5]),
+        projection(UNIT, 0, [f64::NAN, 0.5, 0.5]),
+        projection(UNIT, 1, [0.5, f64::INFINITY, 0.5]),
+        projection(bottomless, 2, [0.6, 0.7, 0.55]),
+        projection(plane([0.0, 0.0, 0.0, 0.0]), 1, [0.5; 3]),
+        projection(plane([f64::NAN, 1.0, 0.0, 0.0]), 1, [0.5; 3]),
+        projection(plane([1e-320, 0.0, 0.0, 0.0]), 1, [0.5; 3]),
+        projection(plane([1.0, 0.0, 0.0, 9.0]), 1, [0.5; 3]),
+    ]);
+    calls
+}
+
+/// The roots, the leaf functions and the tests of a band.
+fn leaves(seed: u64) -> Vec<Record> {
+    let mut r = Random::new(seed);
+    let root = |x| Call { operation: Operation::Sqrt, argument: 0, band: UNIT, sheet: lone([x, 0.0, 0.0]) };
+    let mut calls: Vec<Call> = ROOTS.map(root).to_vec();
+    calls.extend(projections());
+    for (operation, count) in LEAVES {
+        calls.extend((0..count).map(|_| inputs::call(&mut r, operation)));
+    }
+    calls.into_iter().map(record).collect()
+}
+
+/// The cube with one thing changed, for each test of a lent sheet.
+fn changed_cubes() -> Vec<QuadMesh> {
+    let changes: [fn(&mut QuadMesh); 15] = [
+        |_| (),
+        |s| *s = sheets::empty(),
+        |s| s.quads.clear(),
+        |s| s.labels.truncate(5),
+        |s| s.points[3][1] = f64::NAN,
+        |s| s.points[7][2] = f64::NEG_INFINITY,
+        |s| s.labels[2] = 8,
+        |s| s.quads[5][3] = 8,
+        |s| s.quads[5][3] = s.quads[5][0],
+        |s| s.points.push([0.5; 3]),
+        |s| s.labels[0] = 3,
+        |s| s.labels[2] = 3,
+        |s| s.labels = vec![0, 1, 0, 0, 0, 0],
+        |s| s.labels.fill(0),
+        |s| s.quads[0].reverse(),
+    ];
+    changes.iter().map(|change| changed(*change)).collect()
+}
+
+/// The cube after a change.
+fn changed(change: fn(&mut QuadMesh)) -> QuadMesh {
+    let mut sheet = sheets::cube();
+    change(&mut sheet);
+    sheet
+}
+
+/// Bands of which `validate` refuses all but the first two.
+fn changed_bands() -> [BandNumbers; 6] {
+    [
+        UNIT,
+        BandNumbers { levels: [f64::NEG_INFINITY, 0.5], ..UNIT },
+        BandNumbers { levels: [0.5, 0.5], ..UNIT },
+        BandNumbers { levels: [0.1, f64::INFINITY], ..UNIT },
+        BandNumbers { bounds: [[0.0; 3], [0.0, 1.0, 1.0]], ..UNIT },
+        BandNumbers { bounds: [[-1e154; 3], [1e154; 3]], ..UNIT },
+    ]
+}
+
+/// The tests of a lent sheet.
+fn constraints(seed: u64) -> Vec<Record> {
+    let mut r = Random::new(seed);
+    let operation = Operation::Constraints;
+    let on = |band, sheet| Call { operation, argument: 0, band, sheet };
+    let mut calls: Vec<Call> = changed_cubes().into_iter().map(|sheet| on(UNIT, sheet)).collect();
+    calls.extend(changed_bands().map(|band| on(band, sheets::pillow())));
+    calls.push(on(UNIT, sheets::poles(40)));
+    calls.extend((0..SHEETS).map(|_| inputs::call(&mut r, operation)));
+    calls.into_iter().map(record).collect()
+}
+
+/// The sample of a seed.
+pub fn records(seed: u64) -> Vec<Record> {
+    let mut records = leaves(seed);
+    records.extend(constraints(seed));
+    records
+}
+
+#[cfg(test)]
+mod tests {
+    use super::*;
+    use crate::record;
+    use std::collections::BTreeSet;
+
+    /// The operations and numbers that occur.
+    fn seen(records: &[Record]) -> BTreeSet<(Operation, u8)> {
+        records.iter().map(|record| (record.call.operation, record.answer.number)).collect()
+    }
+
+    #[test]
+    fn every_answer_occurs() {
+        use Operation::*;
+        let leaf = [(Sqrt, 0), (Value, 0), (Gradient, 0), (Normal, 0), (Project, 0), (Project, 9)];
+        let tests = [(Validate, 0), (Validate, 1)];
+        let sheet = [0, 1, 5, 6, 7].map(|number| (Constraints, number));
+        let expected = leaf.into_iter().chain(tests).chain(sheet).collect();
+        assert_eq!(seen(&records(SEED)), expected);
+    }
+
+    #[test]
+    fn the_same_seed_gives_the_same_file() {
+        assert_eq!(record::file(&records(5)), record::file(&records(5)));
+        assert_ne!(record::file(&records(5)), record::file(&records(6)));
+    }
+
+    #[test]
+    fn the_sample_is_small() {
+        assert!(record::file(&records(SEED)).len() < 400_000);
+    }
+}

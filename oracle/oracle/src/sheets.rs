@@ -1,0 +1,151 @@
+//! Random sheets, closed and damaged.
+use crate::quads::QuadMesh;
+use crate::random::Random;
+use crate::{Point, floats};
+
+/// A sheet with nothing in it.
+pub fn empty() -> QuadMesh {
+    QuadMesh { points: vec![], quads: vec![], labels: vec![] }
+}
+
+/// The unit cube, corner x + 2y + 4z, one label a face.
+pub fn cube() -> QuadMesh {
+    let corner = |i: usize| [(i & 1) as f64, (i >> 1 & 1) as f64, (i >> 2) as f64];
+    QuadMesh {
+        points: (0..8).map(corner).collect(),
+        quads: vec![[0, 4, 6, 2], [1, 3, 7, 5], [0, 1, 5, 4], [2, 6, 7, 3], [0, 2, 3, 1], [4, 5, 7, 6]],
+        labels: vec![2, 3, 4, 5, 6, 7],
+    }
+}
+
+/// Two quads back to back.
+pub fn pillow() -> QuadMesh {
+    QuadMesh {
+        points: vec![[0.0, 0.0, 0.0], [1.0, 0.0, 0.0], [1.0, 1.0, 0.0], [0.0, 1.0, 0.0]],
+        quads: vec![[0, 1, 2, 3], [3, 2, 1, 0]],
+        labels: vec![2, 2],
+    }
+}
+
+/// A torus of n times m quads.
+pub fn torus(n: usize, m: usize) -> QuadMesh {
+    let at = |i: usize, j: usize| (i % n) * m + j % m;
+    let places: Vec<(usize, usize)> = (0..n).flat_map(|i| (0..m).map(move |j| (i, j))).collect();
+    let point = |&(i, j): &(usize, usize)| {
+        let (a, b) = (i as f64 / n as f64, j as f64 / m as f64);
+        [0.2 + 0.6 * a, 0.2 + 0.6 * b, 0.5 + 0.2 * (a - b)]
+    };
+    QuadMesh {
+        points: places.iter().map(point).collect(),
+        quads: places.iter().map(|&(i, j)| [at(i, j), at(i + 1, j), at(i + 1, j + 1), at(i, j + 1)]).collect(),
+        labels: vec![2; n * m],
+    }
+}
+
+/// Two poles that n quads share: the highest valence for its size.
+pub fn poles(n: usize) -> QuadMesh {
+    let rim = (0..n).map(|i| i as f64 / n as f64).map(|t| [0.1 + 0.8 * t, 0.9 - 0.8 * t * t, 0.5]);
+    QuadMesh {
+        points: [[0.5, 0.5, 0.1], [0.5, 0.5, 0.9]].into_iter().chain(rim).collect(),
+        quads: (0..n).map(|i| [0, 2 + i, 1, 2 + (i + 1) % n]).collect(),
+        labels: vec![2; n],
+    }
+}
+
+/// Splits a quad by a new point tied to two opposite corners.
+fn split(sheet: &mut QuadMesh, quad: usize) {
+    let [a, b, c, d] = sheet.quads[quad];
+    let (p, q) = (sheet.points[a], sheet.points[c]);
+    let x = sheet.points.len();
+    sheet.points.push(std::array::from_fn(|i| 0.5 * (p[i] + q[i])));
+    sheet.quads[quad] = [a, b, c, x];
+    sheet.quads.push([a, x, c, d]);
+    sheet.labels.push(sheet.labels[quad]);
+}
+
+/// Labels of which no two are opposite.
+fn relabel(r: &mut Random, sheet: &mut QuadMesh) {
+    let one_of_each: [u8; 4] = std::array::from_fn(|pair| (2 * pair + r.below(2)) as u8);
+    let kinds = 1 + r.below(4);
+    for label in &mut sheet.labels {
+        *label = one_of_each[r.below(kinds)];
+    }
+}
+
+/// A closed sheet: a small one, some of its quads split.
+pub fn closed(r: &mut Random) -> QuadMesh {
+    let mut sheet = match r.below(5) {
+        0 => cube(),
+        1 => pillow(),
+        2 => torus(3 + r.below(2), 3),
+        3 => poles(2 + r.below(12)),
+        _ => torus(3, 3),
+    };
+    for _ in 0..r.below(4) {
+        let quad = r.below(sheet.quads.len());
+        split(&mut sheet, quad);
+    }
+    if r.one_in(2) {
+        relabel(r, &mut sheet);
+    }
+    sheet
+}
+
+/// One damage to a sheet; a list that is empty stays so.
+fn damage(r: &mut Random, sheet: &mut QuadMesh) {
+    let points = sheet.points.len();
+    let hostile: Point = std::array::from_fn(|_| floats::hostile(r));
+    let corner = r.below(4);
+    let kind = r.below(14);
+    if kind < 3
+        && let Some(p) = pick_mut(r, &mut sheet.points)
+    {
+        p[corner % 3] = [floats::limit(r), floats::subnormal(r), hostile[0]][kind];
+    }
+    if (3..8).contains(&kind)
+        && let Some(q) = pick_mut(r, &mut sheet.quads)
+    {
+        let twice = q[(corner + 1 + r.below(3)) % 4];
+        q[corner] = [points, points + 1, u32::MAX as usize, twice, r.below(points + 1)][kind - 3];
+    }
+    if (8..10).contains(&kind)
+        && let Some(l) = pick_mut(r, &mut sheet.labels)
+    {
+        *l = if kind == 8 { 8 + r.below(248) as u8 } else { r.below(8) as u8 };
+    }
+    match kind {
+        10 => sheet.labels.truncate(sheet.labels.len().saturating_sub(1)),
+        11 => sheet.labels.push(2),
+        12 => sheet.points.push([0.5; 3]),
+        13 => empty_one(r, sheet),
+        _ => (),
+    }
+}
+
+/// A random element to be changed, if there is one.
+fn pick_mut<'a, T>(r: &mut Random, list: &'a mut [T]) -> Option<&'a mut T> {
+    let n = list.len().max(1);
+    list.get_mut(r.below(n))
+}
+
+/// Empties one of the lists, or the quads with their labels.
+fn empty_one(r: &mut Random, sheet: &mut QuadMesh) {
+    match r.below(4) {
+        0 => sheet.points.clear(),
+        1 => sheet.quads.clear(),
+        2 => sheet.labels.clear(),
+        _ => {
+            sheet.quads.clear();
+            sheet.labels.clear();
+        }
+    }
+}
+
+/// Any sheet: closed, or with one or two damages.
+pub fn any(r: &mut Random) -> QuadMesh {
+    let mut sheet = closed(r);
+    for _ in 0..r.pick(&[0, 0, 1, 1, 1, 2]) {
+        damage(r, &mut sheet);
+    }
+    sheet
+}
