@@ -39,6 +39,6 @@ newVertexPoint S faces ends =
     let R = average (map (midpoint S) ends) in
     Q ÷ n + wholeQ 2 · R ÷ n + S · (wholeQ n - wholeQ 3) ÷ n
 
--- weights 6:1:1 over 8, the rule of document 01 for a point with two crease edges
-unfoldable pub weighted611 : Fraction → Fraction → Fraction → Fraction
-weighted611 p a b = (wholeQ 6 · p + a + b) ÷ 8
+-- weights 6:1:1 over 8. The paper has no creases: this is document 01's rule for a point with two crease edges
+unfoldable pub newCreasePoint : Fraction → Fraction → Fraction → Fraction
+newCreasePoint p a b = (wholeQ 6 · p + a + b) ÷ 8
