@@ -1,9 +1,9 @@
 -- The rule for points is the rule for each of their three coordinates. Assumes nothing.
-use Prim.Native.Nat.{ℕ, suc}
-use mathlib.Core.Path.{_≡_, refl, ap}
+use Prim.Native.Nat.{ℕ}
+use mathlib.Core.Path.{_≡_, refl}
 use mathlib.Core.Bool.{Bool, true, false, cond}
 use mathlib.Core.List.{List, [], _∷_, _++_, map, foldl, foldl-append}
-use lib.ListN.{length}
+use lib.ListN.{length-map}
 use lib.Ieee.{Float}
 use Rattle.numeric.specs.Num.{halfwayOf}
 use Rattle.points.specs.declared.Point.{Point}
@@ -12,14 +12,6 @@ use Rattle.smoothing.specs.Arithmetic.{Arithmetic}
 use Rattle.smoothing.specs.Smooth.{sumOf, quadCentre, halfway, edgePoint, creasePoint, interiorBy, interior, byCreases, smooth}
 use Rattle.smoothing.specs.Rounded.{rounded, pointwise}
 use Rattle.smoothing.proofs.ByPoints.{reciprocal-2}
-
-pub length-map : {A B : Type 0} (f : A → B) (l : List A) → length (map f l) ≡ length l
-length-map f [] = refl
-length-map f (x ∷ l) = ap suc (length-map f l)
-
-pub map-ext : {A B : Type 0} (f g : A → B) → ((a : A) → f a ≡ g a) → (l : List A) → map f l ≡ map g l
-map-ext f g h [] = refl
-map-ext f g h (x ∷ l) = cc (h x, map-ext f g h l)
 
 -- one more number at the end of a sum
 pub sum-snoc : (A : Arithmetic) (l : List (A .Number)) (a : A .Number) → sumOf A (l ++ (a ∷ [])) ≡ A .plus (sumOf A l) a
@@ -74,7 +66,7 @@ module _ (A B : Arithmetic) (h : A .Number → B .Number) (k : Keeps A B h) wher
       → h (interior A p centres neighbours) ≡ interior B (h p) (map h centres) (map h neighbours)
   unfolding interior
   interior-kept p centres neighbours =
-      rw (interior-by-kept, sum-kept centres, sum-kept (map (halfway A p) neighbours), midpoints-kept, length-map, length-map)
+      rw (interior-by-kept, sum-kept centres, sum-kept (map (halfway A p) neighbours), midpoints-kept, length-map centres, length-map neighbours)
 
   creases-kept : (p q : A .Number) (l : List (A .Number)) → h (byCreases A p q l) ≡ byCreases B (h p) (h q) (map h l)
   creases-kept p q [] = refl

@@ -118,6 +118,16 @@ plus-respects {a} {b} c p =
     let P = simp sorted at (ap (λ t. t * (c .under * c .under)) (p .crosswise)) in
     record { crosswise = simp parts (omega arith) }
 
+pub minus-respects : {a b : Fraction} (c : Fraction) → a ≈ b → minusQ a c ≈ minusQ b c
+minus-respects {a} {b} c p =
+    let P = simp sorted at (ap (λ t. t * (c .under * c .under)) (p .crosswise)) in
+    record { crosswise = simp parts (omega arith) }
+
+pub minus-respects-right : {a b : Fraction} (c : Fraction) → a ≈ b → minusQ c a ≈ minusQ c b
+minus-respects-right {a} {b} c p =
+    let P = simp sorted at (ap (λ t. t * (c .under * c .under)) (p .crosswise)) in
+    record { crosswise = simp parts (omega arith) }
+
 -- ---- products
 
 pub one-times : (a : Fraction) → timesQ (wholeQ 1) a ≡ a
