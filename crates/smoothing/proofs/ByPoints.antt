@@ -5,7 +5,7 @@ use lib.Ieee.{Float, binary64, sub, div, ofInt, ofBits}
 use Rattle.numeric.specs.Num.{zeroF, half}
 use Rattle.points.specs.declared.Point.{Point}
 use Rattle.points.specs.Points.{two, addP, subP, mulP, timesP}
-use Rattle.smoothing.specs.Smooth.{quadCentre, edgePoint, creasePoint, interiorBy}
+use Rattle.smoothing.specs.Smooth.{mean, quadCentre, edgePoint, creasePoint, interiorBy}
 use Rattle.smoothing.specs.Rounded.{wholeOf, reciprocalOf, each, pointwise}
 
 -- 3.0
@@ -61,6 +61,9 @@ minus-each : (s t : Float) → subP (each s) (each t) ≡ each (sub binary64 s t
 unfolding subP
 minus-each s t = refl
 
+pub mean-by : (a : Point) (n : ℕ) → mean pointwise a n ≡ mulP a (reciprocalOf n)
+mean-by a n = times-each a (reciprocalOf n)
+
 pub centre-by : (p q r s : Point) → quadCentre pointwise p q r s ≡ mulP (addP (addP (addP (addP (each (wholeOf 0)) p) q) r) s) quarter
 unfolding quadCentre
 centre-by p q r s = simp (times-each, reciprocal-4)
@@ -75,10 +78,10 @@ crease-by p a b = simp (times-each, whole-6, reciprocal-8)
 
 pub interior-by : (p : Point) (n : ℕ) (F : Point) (m : ℕ) (R : Point)
     → interiorBy pointwise p n F m R
-    ≡ mulP
+    ≡ mean pointwise
     (addP
-    (addP (mulP F (reciprocalOf n)) (mulP (mulP R (reciprocalOf m)) two))
+    (addP (mean pointwise F n) (mulP (mean pointwise R m) two))
     (mulP p (sub binary64 (wholeOf n) three)))
-    (reciprocalOf n)
+    n
 unfolding interiorBy
 interior-by p n F m R = simp (minus-each, times-each, whole-2, whole-3)

@@ -1,5 +1,4 @@
 -- The smoothing rule of `subdivide`, one coordinate at a time, over any arithmetic and in the order in which 000 works it.
--- A mean is a sum times the reciprocal of its count.
 use Prim.Native.Nat.{ℕ}
 use mathlib.Core.Bool.{cond}
 use mathlib.Core.List.{List, [], _∷_, map, foldl}
@@ -12,30 +11,34 @@ module _ (A : Arithmetic) where
 
   infixl 65 _+_ _-_
   infixl 70 _*_
+  -- a mean of n numbers: their sum times the reciprocal of n
+  abbrev pub mean : Number → ℕ → Number
+  mean sum n = sum * reciprocal n
+
   -- numbers summed from 0, in the order of the list
   unfoldable pub sumOf : List Number → Number
   sumOf l = foldl _+_ (whole 0) l
 
   -- the centre of a quad: the mean of its four corners
   unfoldable pub quadCentre : Number → Number → Number → Number → Number
-  quadCentre a b c d = (whole 0 + a + b + c + d) * reciprocal 4
+  quadCentre a b c d = mean (whole 0 + a + b + c + d) 4
 
   -- the halfway point of an edge: "a crease edge, between two labels, keeps its halfway point"
   unfoldable pub halfway : Number → Number → Number
-  halfway a b = (a + b) * reciprocal 2
+  halfway a b = mean (a + b) 2
 
   -- "An edge inside one label gets the mean of its two ends and two quad centres": ends a and b, centres f and g in quad order
   unfoldable pub edgePoint : Number → Number → Number → Number → Number
-  edgePoint a b f g = (a + b + (f + g)) * reciprocal 4
+  edgePoint a b f g = mean (a + b + (f + g)) 4
 
   -- a point p with two crease edges, to a and to b, "takes 6:1:1 over 8"
   unfoldable pub creasePoint : Number → Number → Number → Number
-  creasePoint p a b = (p * whole 6 + (a + b)) * reciprocal 8
+  creasePoint p a b = mean (p * whole 6 + (a + b)) 8
 
-  -- "(F + 2R + (n − 3)P) ÷ n", where F is faces over n and R is edges over m
+  -- "(F + 2R + (n − 3)P) ÷ n", from the sum of the n quad centres and that of the m edge midpoints
   unfoldable pub interiorBy : Number → ℕ → Number → ℕ → Number → Number
   interiorBy p n faces m edges =
-      (faces * reciprocal n + edges * reciprocal m * whole 2 + p * (whole n - whole 3)) * reciprocal n
+      mean (mean faces n + mean edges m * whole 2 + p * (whole n - whole 3)) n
 
   -- an interior point p, "F the mean of the quad centres, R of the edge midpoints":
   -- the centres of its quads in quad order, its neighbours in ascending number

@@ -1,7 +1,7 @@
 // The smoothing rule of `subdivide`, for points.
 
 ghost use mathlib.Core.Path.{_≡_};
-ghost use Rattle.smoothing.specs.Smooth.{quadCentre, edgePoint, creasePoint, interiorBy};
+ghost use Rattle.smoothing.specs.Smooth.{mean as meanOf, quadCentre, edgePoint, creasePoint, interiorBy};
 ghost use Rattle.smoothing.specs.Rounded.{wholeOf, reciprocalOf, pointwise};
 use points::Point;
 use points::add;
@@ -14,11 +14,18 @@ pub fn whole(n: usize) -> f64
     std::num::nearest_u64_to_f64(n as u64)
 }
 
-// One divided by a whole number: a mean is a sum times this.
+// One divided by a whole number.
 pub fn reciprocal(n: usize) -> f64
     ensures { λ r. ⌜ r ≡ reciprocalOf n ⌝ }
 {
     1.0 / whole(n)
+}
+
+// The mean of n points, from their sum.
+pub fn mean(sum: Point, n: usize) -> Point
+    ensures { λ r. ⌜ r ≡ meanOf pointwise sum n ⌝ }
+{
+    mul(sum, reciprocal(n))
 }
 
 // The zero that sums of points start from.
@@ -57,11 +64,7 @@ pub fn crease_point(p: Point, a: Point, b: Point) -> Point
 pub fn interior_point(p: Point, n: usize, faces: Point, m: usize, edges: Point) -> Point
     ensures { λ r. ⌜ r ≡ interiorBy pointwise p n faces m edges ⌝ }
 {
-    let share = reciprocal(n);
-    let face = mul(faces, share);
-    let edge = mul(edges, reciprocal(m));
-    mul(
-        add(add(face, mul(edge, 2.0)), mul(p, whole(n) - 3.0)),
-        share,
-    )
+    let face = mean(faces, n);
+    let edge = mean(edges, m);
+    mean(add(add(face, mul(edge, 2.0)), mul(p, whole(n) - 3.0)), n)
 }

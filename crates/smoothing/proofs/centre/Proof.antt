@@ -22,7 +22,7 @@ mul-requires : tie.Need-mul-requires
 mul-requires c κs = tt
 
 returns : tie.Need-returns
-returns c = rw centre-by (cc)
+returns c = rw (centre-by, c .mul .ensures, c .before .add4 .ensures, c .before .before .add3 .ensures, c .before .before .before .add2 .ensures, c .before .before .before .before .add .ensures, c .before .before .before .before .before .origin .ensures)
 
 pub centre-spec : {M : Type 1} → statement M
 centre-spec =

@@ -16,7 +16,7 @@ mul-requires-2 : tie.Need-mul-requires-2
 mul-requires-2 c κs = tt
 
 returns : tie.Need-returns
-returns c = rw crease-by (cc)
+returns c = rw (crease-by, c .mul2 .ensures, c .before .add2 .ensures, c .before .before .add .ensures, c .before .before .before .mul .ensures)
 
 pub crease-point-spec : {M : Type 1} → statement M
 crease-point-spec =

@@ -16,7 +16,7 @@ mul-requires : tie.Need-mul-requires
 mul-requires c κs = tt
 
 returns : tie.Need-returns
-returns c = rw edge-by (cc)
+returns c = rw (edge-by, c .mul .ensures, c .before .add3 .ensures, c .before .before .add2 .ensures, c .before .before .before .add .ensures)
 
 pub edge-point-spec : {M : Type 1} → statement M
 edge-point-spec =
