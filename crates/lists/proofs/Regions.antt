@@ -1,15 +1,14 @@
 -- The laws of `Part` and `Kept`. Assumes nothing.
-use Prim.Native.Nat.{ℕ, zero, suc, _+_, _-_, _≤_, _<_, zero-le}
-use mathlib.Core.Logic.{_⊎_, inl, inr, ⊎-elim}
+use Prim.Native.Nat.{ℕ, _+_, _-_, _≤_, _<_, zero-le}
+use mathlib.Core.Logic.{_⊎_, ⊎-elim}
 use mathlib.Core.Path.{_≡_, refl, sym, ap, _∙_}
 use mathlib.Core.List.{List, [], _∷_, _++_}
 use native.Mathlib.Omega.{arith}
-use native.Mathlib.Numerals.{add-one}
-use lib.ListN.{length, getD, take, drop, set, replicate, length-replicate, length-set, length-drop, length-append, List·getD-append}
+use lib.ListN.{length, getD, take, drop, set, replicate, length-replicate, length-set, length-drop, List·getD-append}
 use lib.Seq.{getD-take, getD-drop, getD-set-same, getD-set-other, ext-getD, drop-set-add, take-set-lt, length-take-le, getD-append-add, take-at, drop-at, length-front}
 use borrow.Rule.Slice.PartMut.{midOf, postOf, putMid, post-is, mid-len, same-len-mid}
 use Rattle.lists.specs.Sort.{tabulate}
-use Rattle.lists.specs.Regions.{part, Part, Out, Out2, Apart, Kept}
+use Rattle.lists.specs.Regions.{part, Part, Out, Apart, Kept}
 use Rattle.lists.proofs.Laws.{eq-or-ne, lt-or-le, length-tab, getD-tab, is-table}
 
 module _ {A : Type 0} where
