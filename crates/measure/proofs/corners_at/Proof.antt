@@ -1,0 +1,34 @@
+use native.Mathlib.Omega.{arith}
+use borrow.Author.Needs.{needs}
+use Rattle.measure.specs.Readings.{cornersAt}
+use Rattle.measure.proofs.corners_at.Statement.{statement}
+use Rattle.measure.proofs.corners_at.Tie as tie
+use Rattle.measure.proofs.corners_at.Reads as reads
+use Rattle.measure.proofs.corners_at.Lts as lts
+use Rattle.measure.proofs.corner_point.Reads as corner-point-reads
+
+corner-point-requires : tie.Need-corner-point-requires
+corner-point-requires c κs = let p = c .before .before .pre in (omega arith, p .c0)
+
+corner-point-requires-2 : tie.Need-corner-point-requires-2
+corner-point-requires-2 c κs = let p = c .before .before .before .pre in (omega arith, p .c1)
+
+corner-point-requires-3 : tie.Need-corner-point-requires-3
+corner-point-requires-3 c κs = let p = c .before .before .before .before .pre in (omega arith, p .c2)
+
+corner-point-requires-4 : tie.Need-corner-point-requires-4
+corner-point-requires-4 c κs = let p = c .before .before .before .before .before .pre in (omega arith, p .c3)
+
+returns : tie.Need-returns
+unfolding cornersAt
+returns c = cc
+
+pub corners-at-spec : {M : Type 1} → statement M
+corners-at-spec =
+    tie.close
+    (tie.spec
+    corner-point-requires
+    corner-point-requires-2
+    corner-point-requires-3
+    corner-point-requires-4
+    returns)

@@ -1,0 +1,22 @@
+use native.Mathlib.Omega.{arith}
+use borrow.Author.Needs.{needs}
+use Rattle.measure.specs.Measure.{fractOf}
+use Rattle.measure.proofs.fract.Statement.{statement}
+use Rattle.measure.proofs.fract.Tie as tie
+use Rattle.measure.proofs.fract.Reads as reads
+use Rattle.measure.proofs.fract.Lts as lts
+use Rattle.numeric.proofs.floor.Reads as floor-reads
+use Rattle.std.proofs.num.nearest_u64_to_f64.Reads as nearest-u64-to-f64-reads
+
+floor-requires : tie.Need-floor-requires
+floor-requires c κs = search needs
+
+nearest-u64-to-f64-requires : tie.Need-nearest-u64-to-f64-requires
+nearest-u64-to-f64-requires c κs = search needs
+
+returns : tie.Need-returns
+unfolding fractOf
+returns c = cc
+
+pub fract-spec : {M : Type 1} → statement M
+fract-spec = tie.close (tie.spec floor-requires nearest-u64-to-f64-requires returns)
