@@ -13,7 +13,7 @@ use Rattle.lists.specs.Every.{every}
 use Rattle.lists.specs.Regions.{Part, Out, Kept}
 use Rattle.lists.proofs.Laws.{eq-or-ne, length-tab, getD-tab, tab-ext}
 use Rattle.lists.proofs.Every.{every-zero, every-suc, every-fails}
-use Rattle.lists.proofs.Regions.{part-is, part-as, kept-refl, kept-set}
+use Rattle.lists.proofs.Regions.{part-is, kept-refl, kept-set}
 use Rattle.points.specs.declared.Point.{Point}
 use Rattle.points.specs.Points.{pointAt}
 use Rattle.field.specs.declared.Field.{Field}
@@ -27,7 +27,7 @@ use Rattle.sheet.proofs.Flat.{length-quads}
 use Rattle.sheet.proofs.Tests.{all-tab}
 use Rattle.cell.specs.declared.Corners.{Corners}
 use Rattle.measure.specs.Measure.{Cell, nowhere, centreOf, goodNormal, cornersOf, cellOf, cellsOf, hasNormal, cellShape, cellJacobian, cellArea}
-use Rattle.measure.specs.Readings.{cornersAt, cellWith, cellAt, cellsTo, stored, storedIf, Readings, Held, Readable, Measurable}
+use Rattle.measure.specs.Readings.{cornersAt, cellWith, cellAt, cellsTo, stored, storedIf, Readings, Readable, Measurable}
 use Rattle.measure.proofs.Folds.{zip-tab, map-tab}
 
 -- ---- the cells of a lent sheet
@@ -180,16 +180,21 @@ module _ (cell : ℕ → Cell) (n : ℕ) where
       (λ i l. g i l ∙ sym (ap (λ (k : List Float). getD k i nan) e ∙ getD-tab (λ q. f (cell q)) n i nan l))
 
   -- all cells have normals and are measured
-  pub reading-end : (F G : List Float) (i : ℕ) → Reading cell n F G i → n ≤ i 
+  pub reading-end : (F G : List Float) (i : ℕ) → Reading cell n F G i → n ≤ i
       → (true ≡ all hasNormal (tabulate cell n)) × ((true ≡ true → Readings n (tabulate cell n) G) × Kept (Out 0 (3 * n)) F G)
   reading-end F G i R h =
       let e : i ≡ n = omega (arith, R .i≤) in
-      let g = rw e at R in
-      (sym (all-tab hasNormal cell n ∙ g .normals), (λ z. record {
-        shapes = region-is cellShape 0 G (omega (arith, R .fits)) (g .shapes);
-        jacobians = region-is cellJacobian n G (omega (arith, R .fits)) (g .jacobians);
-        areas = region-is cellArea (2 * n) G (omega (arith, R .fits)) (g .areas);
-      }, R .kept))
+      let g = rw e at R in (
+        sym (all-tab hasNormal cell n ∙ g .normals),
+        (
+          λ z. record {
+            shapes = region-is cellShape 0 G (omega (arith, R .fits)) (g .shapes);
+            jacobians = region-is cellJacobian n G (omega (arith, R .fits)) (g .jacobians);
+            areas = region-is cellArea (2 * n) G (omega (arith, R .fits)) (g .areas);
+          },
+          R .kept,
+        ),
+      )
 
 -- ---- the same by what a turn of the loop is told
 

@@ -1,6 +1,6 @@
 -- The place 0.05 × (n − 1) lies between two elements of a list of n. Assumes nothing.
 use Prim.Native.Nat.{ℕ, zero, suc, _+_, _-_, _*_, _/_, _≤_, _<_, _^_, min, zero-le}
-use mathlib.Core.Path.{_≡_, refl, sym, ap, _∙_, subst}
+use mathlib.Core.Path.{_≡_, refl, sym, subst}
 use mathlib.Core.Bool.{Bool, true, false, cond, _&&_}
 use native.Mathlib.Omega.{arith}
 use lib.IntN.{pos}
@@ -12,7 +12,7 @@ use lib.Ieee.Fits.{down-pos}
 use lib.Ieee.Order.{round-mono}
 use lib.Ieee.Nearest.{div-mono}
 use lib.Ieee.Positive.{positive, own-value, positive-of-value, values-of-le, mul-at}
-use Rattle.numeric.specs.Num.{floorOf}
+use Rattle.numeric.specs.Num.{zeroF, floorOf}
 use Rattle.points.specs.Points.{_⊗_}
 use Rattle.sheet.specs.Sheet.{limit}
 use Rattle.measure.specs.Measure.{float, twentieth, fractOf, ceilOf}
@@ -25,13 +25,16 @@ whole-value n h = round-whole binary64 false n h
 quotient-le : (a d j : ℕ) → 0 < d → a * 1 ≤ j * d → a / d ≤ j
 quotient-le a d j p h = let e = div-mono a d j 1 p (omega arith) h in omega arith
 
-cut-le : (b : Bool) (a m j : ℕ) → a ≤ j → cond b (min a m) 0 ≤ j
-cut-le true a m j h = omega arith
-cut-le false a m j h = zero-le
+least-le : (a m j : ℕ) → a ≤ j → min a m ≤ j
+least-le a m j h = omega arith
 
-if-le : (b : Bool) (j : ℕ) → cond b 0 0 ≤ j
-if-le true j = zero-le
-if-le false j = zero-le
+floor-cut : (x : Float) (j : ℕ) → toUnsigned 64 x ≤ j → floorOf x ≤ j
+unfolding floorOf
+floor-cut x j = go (le zeroF x && lt x (fin false 1 (pos 64))) (toUnsigned 64 x)
+  where
+    go : (b : Bool) (a : ℕ) → a ≤ j → cond b a 0 ≤ j
+    go true a h = h
+    go false a h = zero-le
 
 floor-top : floorOf (inf false) ≡ 0
 unfolding floorOf le lt eq ofBits
@@ -39,17 +42,18 @@ floor-top = refl
 
 -- the whole part of a value that is at most j
 floor-le : (x : Float) (j : ℕ) → 0 < j → j ≤ 2 ^ 53 → T (le x (float j)) → floorOf x ≤ j
-unfolding floorOf toUnsigned
-floor-le nan j p h l = if-le _ j
-floor-le (inf true) j p h l = if-le _ j
+unfolding toUnsigned
+floor-le nan j p h l = floor-cut nan j zero-le
+floor-le (inf true) j p h l = floor-cut (inf true) j zero-le
 floor-le (inf false) j p h l = rw floor-top zero-le
-floor-le (fin true m e) j p h l = if-le _ j
-floor-le (fin false zero e) j p h l = cut-le _ _ _ j (quotient-le (zero * up e) (down e) j (down-pos e) (omega arith))
+floor-le (fin true m e) j p h l = floor-cut (fin true m e) j zero-le
+floor-le (fin false zero e) j p h l = floor-cut (fin false zero e) j (least-le _ _ j (quotient-le (zero * up e) (down e) j (down-pos e) (omega arith)))
 floor-le (fin false (suc m) e) j p h l =
     let v = whole-value j h in
     let x = fin false (suc m) e in
     let y : T (positive x) = lt→ltb 0 (suc m) (omega arith) in
-    cut-le _ _ _ j (quotient-le (suc m * up e) (down e) j (down-pos e) (values-of-le x (float j) (suc m * up e) (down e) j 1 y (positive-of-value (float j) j 1 v p) (own-value x y) v l))
+    let a = values-of-le x (float j) (suc m * up e) (down e) j 1 y (positive-of-value (float j) j 1 v p) (own-value x y) v l in
+    floor-cut x j (least-le _ _ j (quotient-le (suc m * up e) (down e) j (down-pos e) a))
 
 -- 0.05 as a fraction
 twentieth-value : HasValue twentieth false 7205759403792794 (2 ^ 57)

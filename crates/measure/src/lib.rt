@@ -137,7 +137,15 @@ fn read_cells(
 {
     let mut q = 0;
     while q < n {
-        if read_cell(f, len, corners_at(points, quads, q), labels[q], n, q, floats) {
+        if read_cell(
+            f,
+            len,
+            corners_at(points, quads, q),
+            labels[q],
+            n,
+            q,
+            floats,
+        ) {
             q += 1;
         } else {
             return false;
@@ -239,16 +247,7 @@ fn sort_scores(n: usize, at: usize, work: &mut [u32], floats: &mut [f64])
     let areas = 2 * n;
     let m = mean(&floats[areas..areas + n]);
     scores(m, n, floats);
-    ordering::sort_floats(
-        floats,
-        3 * n,
-        4 * n,
-        n,
-        at,
-        at + n,
-        at + 2 * n,
-        work,
-    );
+    ordering::sort_floats(floats, 3 * n, 4 * n, n, at, at + n, at + 2 * n, work);
 }
 
 // ---- the value at a place

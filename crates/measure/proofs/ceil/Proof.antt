@@ -1,13 +1,10 @@
+-- `measure::ceil` meets its contract. Assumes nothing.
 use native.Mathlib.Omega.{arith}
 use borrow.Author.Needs.{needs}
 use Rattle.measure.specs.Measure.{ceilOf}
 use mathlib.Core.Path.{refl}
 use Rattle.measure.proofs.ceil.Statement.{statement}
 use Rattle.measure.proofs.ceil.Tie as tie
-use Rattle.measure.proofs.ceil.Reads as reads
-use Rattle.measure.proofs.ceil.Lts as lts
-use Rattle.measure.proofs.fract.Reads as fract-reads
-use Rattle.numeric.proofs.floor.Reads as floor-reads
 
 floor-requires : tie.Need-floor-requires
 floor-requires c κs = search needs

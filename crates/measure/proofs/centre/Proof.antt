@@ -1,12 +1,8 @@
-use native.Mathlib.Omega.{arith}
+-- `measure::centre` meets its contract. Assumes nothing.
 use borrow.Author.Needs.{needs}
 use Rattle.measure.specs.Measure.{centreOf}
 use Rattle.measure.proofs.centre.Statement.{statement}
 use Rattle.measure.proofs.centre.Tie as tie
-use Rattle.measure.proofs.centre.Reads as reads
-use Rattle.measure.proofs.centre.Lts as lts
-use Rattle.points.proofs.add.Reads as add-reads
-use Rattle.points.proofs.mul.Reads as mul-reads
 
 add-requires : tie.Need-add-requires
 add-requires c κs = search needs

@@ -1,11 +1,7 @@
-use native.Mathlib.Omega.{arith}
+-- `measure::corner_point` meets its contract. Assumes nothing.
 use borrow.Author.Needs.{needs}
 use Rattle.measure.proofs.corner_point.Statement.{statement}
 use Rattle.measure.proofs.corner_point.Tie as tie
-use Rattle.measure.proofs.corner_point.Reads as reads
-use Rattle.measure.proofs.corner_point.Lts as lts
-use Rattle.points.proofs.point_at.Reads as point-at-reads
-use Rattle.sheet.proofs.corner_at.Reads as corner-at-reads
 
 corner-at-requires : tie.Need-corner-at-requires
 corner-at-requires c κs = search needs

@@ -1,11 +1,8 @@
+-- `measure::corners_at` meets its contract. Assumes nothing.
 use native.Mathlib.Omega.{arith}
-use borrow.Author.Needs.{needs}
 use Rattle.measure.specs.Readings.{cornersAt}
 use Rattle.measure.proofs.corners_at.Statement.{statement}
 use Rattle.measure.proofs.corners_at.Tie as tie
-use Rattle.measure.proofs.corners_at.Reads as reads
-use Rattle.measure.proofs.corners_at.Lts as lts
-use Rattle.measure.proofs.corner_point.Reads as corner-point-reads
 
 corner-point-requires : tie.Need-corner-point-requires
 corner-point-requires c κs = let p = c .before .before .pre in (omega arith, p .c0)

@@ -1,12 +1,8 @@
-use native.Mathlib.Omega.{arith}
+-- `measure::fract` meets its contract. Assumes nothing.
 use borrow.Author.Needs.{needs}
 use Rattle.measure.specs.Measure.{fractOf}
 use Rattle.measure.proofs.fract.Statement.{statement}
 use Rattle.measure.proofs.fract.Tie as tie
-use Rattle.measure.proofs.fract.Reads as reads
-use Rattle.measure.proofs.fract.Lts as lts
-use Rattle.numeric.proofs.floor.Reads as floor-reads
-use Rattle.std.proofs.num.nearest_u64_to_f64.Reads as nearest-u64-to-f64-reads
 
 floor-requires : tie.Need-floor-requires
 floor-requires c κs = search needs

@@ -1,12 +1,8 @@
-use native.Mathlib.Omega.{arith}
+-- `measure::good_normal` meets its contract. Assumes nothing.
 use borrow.Author.Needs.{needs}
 use Rattle.measure.specs.Measure.{goodNormal}
 use Rattle.measure.proofs.good_normal.Statement.{statement}
 use Rattle.measure.proofs.good_normal.Tie as tie
-use Rattle.measure.proofs.good_normal.Reads as reads
-use Rattle.measure.proofs.good_normal.Lts as lts
-use Rattle.points.proofs.finite.Reads as finite-reads
-use Rattle.points.proofs.norm.Reads as norm-reads
 
 finite-requires : tie.Need-finite-requires
 finite-requires c κs = search needs

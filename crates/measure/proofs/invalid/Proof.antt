@@ -1,18 +1,15 @@
+-- `measure::invalid` meets its contract. Assumes nothing.
 use native.Mathlib.Omega.{arith}
 use borrow.Author.Needs.{needs}
 use Prim.Native.Nat.{_+_, _-_, _≤_}
-use mathlib.Core.Path.{_≡_, refl}
+use mathlib.Core.Path.{_≡_}
 use lib.ListN.{length, getD, drop}
 use lib.Ieee.{nan, le}
 use Rattle.sheet.specs.Quads.{sum, num}
 use Rattle.measure.specs.Measure.{flat, invalidOf}
-use Rattle.measure.proofs.Folds.{sum-turn, sum-end}
-use Rattle.measure.proofs.Folds.{num-le}
+use Rattle.measure.proofs.Folds.{sum-turn, sum-end, num-le}
 use Rattle.measure.proofs.invalid.Statement.{statement}
 use Rattle.measure.proofs.invalid.Tie as tie
-use Rattle.measure.proofs.invalid.Reads as reads
-use Rattle.measure.proofs.invalid.Lts as lts
-use Rattle.measure.proofs.invalid_one.Reads as invalid-one-reads
 
 abbrev Inv-loop : tie.InvT-loop
 Inv-loop s k₀ i₀ k i = (i ≤ length s) × (k ≤ i) × (k + sum (λ j. num (le j flat)) (drop i s) ≡ invalidOf s)
@@ -21,7 +18,6 @@ abbrev μ-loop : tie.MeasureT-loop
 μ-loop s k₀ i₀ k i = length s - i
 
 loop-holds : tie.Need-loop-holds Inv-loop μ-loop
-unfolding invalidOf
 unfolding invalidOf
 loop-holds c = (omega arith, omega arith, omega arith)
 

@@ -1,10 +1,6 @@
-use native.Mathlib.Omega.{arith}
-use borrow.Author.Needs.{needs}
-use Rattle.sheet.specs.Quads.{num}
+-- `measure::invalid_one` meets its contract. Assumes nothing.
 use Rattle.measure.proofs.invalid_one.Statement.{statement}
 use Rattle.measure.proofs.invalid_one.Tie as tie
-use Rattle.measure.proofs.invalid_one.Reads as reads
-use Rattle.measure.proofs.invalid_one.Lts as lts
 
 returns : tie.Need-returns
 returns c = simp (c .if1 .taken)

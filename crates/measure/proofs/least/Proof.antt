@@ -1,3 +1,4 @@
+-- `measure::least` meets its contract. Assumes nothing.
 use native.Mathlib.Omega.{arith}
 use borrow.Author.Needs.{needs}
 use Prim.Native.Nat.{_-_, _≤_}
@@ -10,9 +11,6 @@ use Rattle.measure.specs.Measure.{leastOf}
 use Rattle.measure.proofs.Folds.{fold-turn, fold-end}
 use Rattle.measure.proofs.least.Statement.{statement}
 use Rattle.measure.proofs.least.Tie as tie
-use Rattle.measure.proofs.least.Reads as reads
-use Rattle.measure.proofs.least.Lts as lts
-use Rattle.numeric.proofs.min.Reads as min-reads
 
 abbrev Inv-loop : tie.InvT-loop
 Inv-loop s w₀ i₀ w i = (i ≤ length s) × (foldl minOf w (drop i s) ≡ leastOf s)

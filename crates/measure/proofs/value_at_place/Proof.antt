@@ -1,13 +1,8 @@
-use native.Mathlib.Omega.{arith}
+-- `measure::value_at_place` meets its contract. Assumes nothing.
 use borrow.Author.Needs.{needs}
 use Rattle.measure.specs.Measure.{valueAtPlace}
 use Rattle.measure.proofs.value_at_place.Statement.{statement}
 use Rattle.measure.proofs.value_at_place.Tie as tie
-use Rattle.measure.proofs.value_at_place.Reads as reads
-use Rattle.measure.proofs.value_at_place.Lts as lts
-use Rattle.measure.proofs.ceil.Reads as ceil-reads
-use Rattle.measure.proofs.fract.Reads as fract-reads
-use Rattle.numeric.proofs.floor.Reads as floor-reads
 
 floor-requires : tie.Need-floor-requires
 floor-requires c κs = search needs
