@@ -1,3 +1,4 @@
--- `Corners` has the corners of good quads, `Tight` shows that tight is Closed.
+-- `Corners` has the corners of good quads, `Counting` the loops that count, `Tight` shows that tight is Closed.
 pub mod Corners
+pub mod Counting
 pub mod Tight
