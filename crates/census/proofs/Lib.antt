@@ -2,3 +2,6 @@
 pub mod Corners
 pub mod Counting
 pub mod Tight
+pub mod Blocks
+pub mod EdgeKinds
+pub mod EdgeCounts
