@@ -4,4 +4,5 @@ pub mod Counting
 pub mod Tight
 pub mod Blocks
 pub mod EdgeKinds
-pub mod EdgeCounts
+pub mod Sides
+pub mod Walk

@@ -16,7 +16,7 @@ use Rattle.sheet.specs.Edges.{Pair, pair, joinTo, edgeIf, edgesFrom, edgesOf}
 use Rattle.sheet.specs.Closed.{Closed}
 use Rattle.sheet.specs.Tests.{proper}
 use Rattle.sheet.proofs.Flat.{sum-append}
-use Rattle.census.specs.Census.{count, up, down, isBoundary, isNonmanifold, isTurned, isTight, boundaryEdges, nonmanifoldEdges, orientationErrors, tight}
+use Rattle.census.specs.Census.{count, up, down, isBoundary, isNonmanifold, isTurned, isTight, boundaryEdges, nonmanifoldEdges, orientationErrors, edgeCounts, tight, tightBy}
 use Rattle.census.proofs.Corners.{pos-split, side-below}
 
 -- ---- tests of all edges
@@ -100,3 +100,61 @@ module _ (n : ℕ) (S : List Quad) where
   closed-tight c = edges-pass n S (isTight S) (λ a b h k l pos.
       let e = c a b pos in
       rw (pair-low a b h, pair-high a b h, eq-eqb _ _ (e .0), eq-eqb _ _ (e .1)))
+
+-- ---- tight by the three counts
+
+all-and : {A : Type 0} (p q : A → Bool) (l : List A) → all (λ x. p x && q x) l ≡ (all p l && all q l)
+all-and p q [] = refl
+all-and p q (x ∷ l) = rw (all-and p q l) (swap (p x) (q x) (all p l) (all q l))
+  where
+    swap : (a b c d : Bool) → ((a && b) && (c && d)) ≡ ((a && c) && (b && d))
+    swap true true c d = refl
+    swap true false true d = refl
+    swap true false false d = refl
+    swap false b c d = refl
+
+-- all fail a test where none is counted
+all-none : {A : Type 0} (p : A → Bool) (l : List A) → all (λ x. not (p x)) l ≡ eqb (count p l) 0
+all-none p [] = refl
+all-none p (x ∷ l) = go (p x) (all-none p l)
+  where
+    go : (b : Bool) → all (λ x. not (p x)) l ≡ eqb (count p l) 0 → (not b && all (λ x. not (p x)) l) ≡ eqb (num b + count p l) 0
+    go true e = sym (ne-eqb (1 + count p l) 0 (λ z. omega arith))
+    go false e = let z : 0 + count p l ≡ count p l = omega arith in rw z e
+
+-- the three tests of an edge, over the quads up and down it
+abbrev three : ℕ → ℕ → Bool
+three u d = not (eqb (u + d) 1) && not (ltb 2 (u + d)) && not (eqb (u + d) 2 && not (eqb u 1))
+
+three-is : (u d : ℕ) → 0 < u + d → (eqb u 1 && eqb d 1) ≡ three u d
+three-is u d h = ⊎-elim
+    (λ (e : u + d ≡ 2). ⊎-elim
+    (λ (f : u ≡ 1). rw (e, eq-eqb u 1 f, eq-eqb d 1 (omega arith)))
+    (λ (f : u ≡ 1 → ⊥). rw (e, ne-eqb u 1 f))
+    (eq-or-ne u 1))
+    (λ (n : u + d ≡ 2 → ⊥). not-both (λ a b. n (omega arith)) ∙ ⊎-elim
+    (λ (k : 2 < u + d). rw (lt-ltb 2 (u + d) k, ne-eqb (u + d) 1 (λ e. omega arith)))
+    (λ (k : u + d ≤ 2). rw (eq-eqb (u + d) 1 (omega arith)))
+    (lt-or-le 2 (u + d)))
+    (eq-or-ne (u + d) 2)
+  where
+    not-both : (u ≡ 1 → d ≡ 1 → ⊥) → (eqb u 1 && eqb d 1) ≡ false
+    not-both k = ⊎-elim (λ (e : u ≡ 1). rw (eq-eqb u 1 e, ne-eqb d 1 (k e))) (λ (e : u ≡ 1 → ⊥). rw (ne-eqb u 1 e)) (eq-or-ne u 1)
+
+module _ (n : ℕ) (S : List Quad) where
+  abbrev threeOf : Pair → Bool
+  threeOf e = three (up S e) (down S e)
+
+  at-edge : (a b : ℕ) → a ≤ b → 0 < side S a b + side S b a → isTight S (pair a b) ≡ threeOf (pair a b)
+  at-edge a b h pos = rw (pair-low a b h, pair-high a b h) (three-is (side S a b) (side S b a) pos)
+
+  -- tight is the word for three counts of 0
+  pub tight-counts : tight n S ≡ tightBy (edgeCounts n S)
+  unfolding tight tightBy edgeCounts boundaryEdges nonmanifoldEdges orientationErrors
+  tight-counts =
+      bool-iff (all (isTight S) (edgesOf n S)) (all threeOf (edgesOf n S))
+      (λ t. edges-pass n S threeOf (λ a b h k l pos. sym (at-edge a b h pos) ∙ edge-passes n S (isTight S) t a b h k l pos))
+      (λ t. edges-pass n S (isTight S) (λ a b h k l pos. at-edge a b h pos ∙ edge-passes n S threeOf t a b h k l pos))
+      ∙ all-and (λ e. not (isBoundary S e) && not (isNonmanifold S e)) (λ e. not (isTurned S e)) (edgesOf n S)
+      ∙ ap₂ _&&_ (all-and (λ e. not (isBoundary S e)) (λ e. not (isNonmanifold S e)) (edgesOf n S) ∙ ap₂ _&&_ (all-none (isBoundary S) (edgesOf n S)) (all-none (isNonmanifold S) (edgesOf n S)))
+      (all-none (isTurned S) (edgesOf n S))

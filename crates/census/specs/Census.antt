@@ -8,6 +8,7 @@ use Rattle.lists.specs.Every.{every, some, countTo}
 use Rattle.sheet.specs.Quads.{Quad, quad, num, is, sum, all, valence, side}
 use Rattle.sheet.specs.Closed.{ind, atPoint}
 use Rattle.sheet.specs.Edges.{Pair, edgesOf}
+use Rattle.census.specs.declared.EdgeCounts.{EdgeCounts}
 
 -- how many elements of a list pass a test
 abbrev pub count : {A : Type 0} → (A → Bool) → List A → ℕ
@@ -60,9 +61,17 @@ nonmanifoldEdges n S = count (isNonmanifold S) (edgesOf n S)
 unfoldable pub orientationErrors : ℕ → List Quad → ℕ
 orientationErrors n S = count (isTurned S) (edgesOf n S)
 
+-- the three counts of edges
+unfoldable pub edgeCounts : ℕ → List Quad → EdgeCounts
+edgeCounts n S = record { boundary = boundaryEdges n S; nonmanifold = nonmanifoldEdges n S; orientation = orientationErrors n S }
+
 -- "tight is a yes if every edge has exactly two quads that run opposite ways"
 unfoldable pub tight : ℕ → List Quad → Bool
 tight n S = all (isTight S) (edgesOf n S)
+
+-- the same by the three counts
+unfoldable pub tightBy : EdgeCounts → Bool
+tightBy c = eqb (c .boundary) 0 && eqb (c .nonmanifold) 0 && eqb (c .orientation) 0
 
 -- ---- the link of a point: the graph whose nodes are the neighbours of v; each corner at v joins the point before it to the point after it
 
