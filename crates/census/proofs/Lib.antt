@@ -6,3 +6,5 @@ pub mod Blocks
 pub mod EdgeKinds
 pub mod Sides
 pub mod Walk
+pub mod Arcs
+pub mod Links

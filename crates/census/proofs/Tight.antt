@@ -39,7 +39,7 @@ unfolding edgesOf
 all-edges p n S = all-join p (edgesFrom n S) n ∙ every-ext _ _ n (λ a _. all-join p (edgeIf S a) n)
 
 -- what every one passes
-every-of : (p : ℕ → Bool) (n : ℕ) → ((i : ℕ) → i < n → p i ≡ true) → every p n ≡ true
+pub every-of : (p : ℕ → Bool) (n : ℕ) → ((i : ℕ) → i < n → p i ≡ true) → every p n ≡ true
 unfolding every
 every-of p zero h = refl
 every-of p (suc n) h = rw (every-of p n (λ i l. h i (omega arith)), h n (omega arith))

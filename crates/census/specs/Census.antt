@@ -88,9 +88,13 @@ unfoldable pub reached : List Quad → ℕ → ℕ → ℕ → ℕ → ℕ → B
 reached S v n x zero y = eqb x y
 reached S v n x (suc k) y = reached S v n x k y || some (λ z. reached S v n x k z && joined S v z y) n
 
--- each neighbour is reached from each; there are at most n of them, so that n joins are enough
+-- x or y is no neighbour, or y is reached from x; there are as many joins as quads at v, so that no way needs more
+abbrev pub reaches : ℕ → List Quad → ℕ → ℕ → ℕ → Bool
+reaches n S v x y = eqb (degree S v x) 0 || (eqb (degree S v y) 0 || reached S v n x (valence S v) y)
+
+-- each neighbour is reached from each
 unfoldable pub connected : ℕ → List Quad → ℕ → Bool
-connected n S v = every (λ x. every (λ y. eqb (degree S v x) 0 || eqb (degree S v y) 0 || reached S v n x n y) n) n
+connected n S v = every (λ x. every (reaches n S v x) n) n
 
 -- a point that no corner at v joins to another, or two do
 abbrev pub noneOrTwo : List Quad → ℕ → ℕ → Bool
