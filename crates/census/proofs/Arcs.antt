@@ -1,18 +1,17 @@
 -- Sums over arcs, rounds and lists of pairs. Assumes nothing.
-use Prim.Native.Nat.{ℕ, zero, suc, _+_, _≤_, _<_}
-use mathlib.Core.Path.{_≡_, refl, sym, ap, ap₂, _∙_}
+use Prim.Native.Nat.{ℕ, _+_, _≤_, _<_}
+use mathlib.Core.Path.{_≡_, refl, sym}
 use mathlib.Core.Bool.{Bool, true, false, cond, _&&_}
-use mathlib.Core.Logic.{_⊎_, inl, inr, ⊎-elim}
+use mathlib.Core.Logic.{_⊎_, ⊎-elim}
 use mathlib.Core.List.{List, [], _∷_, _++_}
 use native.Mathlib.Omega.{arith}
 use lib.Dec.{eqb}
 use lib.ListN.{length}
 use borrow.Author.Tests.{eqb-true, eq-eqb, ne-eqb}
 use Rattle.lists.proofs.Laws.{eq-or-ne, lt-or-le}
-use Rattle.lists.proofs.Every.{and-left, and-right}
-use Rattle.sheet.specs.Quads.{Quad, quad, num, is, sum, at, side, total}
-use Rattle.sheet.specs.Closed.{ind, arc, cyc, atPoint}
-use Rattle.census.proofs.Corners.{pos-split, is-same, is-other, is-positive}
+use Rattle.sheet.specs.Quads.{Quad, quad, num, is, sum, side}
+use Rattle.sheet.specs.Closed.{ind, arc, atPoint}
+use Rattle.census.proofs.Corners.{pos-split, is-positive}
 use Rattle.census.proofs.Counting.{num-le}
 
 -- ---- one pair

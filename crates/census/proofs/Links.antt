@@ -1,21 +1,21 @@
 -- On a closed sheet the link of a point is good exactly if its quads are one ring. Assumes nothing.
 use Prim.Native.Nat.{ℕ, zero, suc, _+_, _≤_, _<_}
-use mathlib.Core.Path.{_≡_, refl, sym, ap, ap₂, _∙_}
+use mathlib.Core.Path.{_≡_, refl, sym, ap, _∙_}
 use mathlib.Core.Bool.{Bool, true, false, not, _&&_, _||_, or-true, false≢true}
 use mathlib.Core.Logic.{_⊎_, inl, inr, ⊎-elim}
 use mathlib.Core.List.{List, [], _∷_, _++_}
 use native.Mathlib.Omega.{arith}
-use lib.Dec.{eqb, ltb}
+use lib.Dec.{eqb}
 use lib.ListN.{length}
 use borrow.Author.Tests.{ltb-true, eqb-true, eqb-false, not-true, eq-eqb, ne-eqb, lt-ltb}
 use Rattle.lists.specs.Every.{every, some, countTo}
 use Rattle.lists.proofs.Laws.{eq-or-ne, lt-or-le}
 use Rattle.lists.proofs.Every.{and-left, and-right, or-split, every-at, some-at, some-find, count-yes, count-mono, count-on, count-zero}
-use Rattle.sheet.specs.Quads.{Quad, num, is, sum, all, at, valence, side}
+use Rattle.sheet.specs.Quads.{Quad, is, sum, all, at, valence, side}
 use Rattle.sheet.specs.Closed.{ind, arc, cyc, Ring, atPoint, Closed, Rings}
 use Rattle.sheet.specs.Tests.{proper}
 use Rattle.census.specs.Census.{degree, joined, reached, reaches, connected, noneOrTwo, goodLink, badLinks, tight}
-use Rattle.census.proofs.Corners.{Weighty, weighty, at-positive, is-same, is-other, is-positive, pos-split}
+use Rattle.census.proofs.Corners.{weighty, at-positive, is-same, is-other, is-positive, pos-split}
 use Rattle.census.proofs.Tight.{every-of, tight-closed, closed-tight}
 use Rattle.census.proofs.Sides.{length-sum}
 use Rattle.census.proofs.Arcs.{ind-positive, ind-same, ind-first, ind-second, arc-more, arc-from, arc-to, arc-le, arc-plus, Ends, pairSum, cornersOf, corners-sum, pair-le, pair-plus, Taken, take-from, side-end}

@@ -1,8 +1,8 @@
 -- A sheet is tight exactly if it is closed, and exactly if no edge is counted in the three counts of edges. Assumes nothing.
-use Prim.Native.Nat.{ℕ, zero, suc, _+_, _≤_, _<_, min, max}
+use Prim.Native.Nat.{ℕ, zero, suc, _+_, _≤_, _<_}
 use mathlib.Core.Path.{_≡_, refl, sym, ap, ap₂, _∙_}
 use mathlib.Core.Bool.{Bool, true, false, not, _&&_}
-use mathlib.Core.Logic.{_⊎_, inl, inr, ⊎-elim}
+use mathlib.Core.Logic.{_⊎_, ⊎-elim}
 use mathlib.Core.List.{List, [], _∷_, _++_}
 use native.Mathlib.Omega.{arith}
 use lib.Dec.{eqb, leb, ltb}
@@ -11,11 +11,10 @@ use Rattle.lists.specs.Sort.{consIf}
 use Rattle.lists.specs.Every.{every}
 use Rattle.lists.proofs.Laws.{eq-or-ne, lt-or-le}
 use Rattle.lists.proofs.Every.{and-left, and-right, every-at, every-ext, bool-iff}
-use Rattle.sheet.specs.Quads.{Quad, num, all, side, isEdge, sum}
+use Rattle.sheet.specs.Quads.{Quad, num, all, side, isEdge}
 use Rattle.sheet.specs.Edges.{Pair, pair, joinTo, edgeIf, edgesFrom, edgesOf}
 use Rattle.sheet.specs.Closed.{Closed}
 use Rattle.sheet.specs.Tests.{proper}
-use Rattle.sheet.proofs.Flat.{sum-append}
 use Rattle.census.specs.Census.{count, up, down, isBoundary, isNonmanifold, isTurned, isTight, boundaryEdges, nonmanifoldEdges, orientationErrors, edgeCounts, tight, tightBy}
 use Rattle.census.proofs.Corners.{pos-split, side-below}
 
