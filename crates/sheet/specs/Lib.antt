@@ -4,3 +4,4 @@ pub mod Edges
 pub mod Tests
 pub mod Numbers
 pub mod Sheet
+pub mod Closed
