@@ -3,3 +3,4 @@ pub mod Flat
 pub mod Tests
 pub mod Numbers
 pub mod Sheet
+pub mod FirstUse

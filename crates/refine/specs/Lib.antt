@@ -1,0 +1,2 @@
+pub mod Finer
+pub mod Requests
