@@ -1,2 +1,1 @@
-pub mod FirstUse
 pub mod Requests

@@ -21,7 +21,7 @@ use Rattle.sheet.specs.FirstUse.{firsts, place}
 use Rattle.sheet.proofs.Flat.{quads-suc, length-quads}
 use Rattle.refine.specs.Finer.{split, fourLabels, edgeKey, centreKey, keys, asked, midOf, cenOf, finer, finerCount, Request, request, keyOf, positionOf, requests, made}
 use Rattle.refine.specs.Requests.{keyIn, positionIn, keyAt, requestAt, keysOf, behind, childOf, childAt}
-use Rattle.refine.proofs.FirstUse.{firsts-append}
+use Rattle.sheet.proofs.FirstUse.{firsts-append}
 
 -- ---- lists and tables
 

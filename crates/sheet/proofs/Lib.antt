@@ -2,3 +2,4 @@
 pub mod Flat
 pub mod Masks
 pub mod Tests
+pub mod FirstUse

@@ -1,5 +1,6 @@
 pub mod Quads
 pub mod Flat
+pub mod Edges
 pub mod Tests
 pub mod Numbers
 pub mod Sheet

@@ -1,0 +1,3 @@
+-- `Corners` has the laws of the sorts of corners, `Marks` those of the marks.
+pub mod Corners
+pub mod Marks
