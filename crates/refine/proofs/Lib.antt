@@ -1,1 +1,3 @@
 pub mod Requests
+pub mod Edges
+pub mod Loops

@@ -20,7 +20,7 @@ use Rattle.sheet.specs.Flat.{corner, quadAt, quadsOf}
 use Rattle.sheet.specs.FirstUse.{firsts, place}
 use Rattle.sheet.proofs.Flat.{quads-suc, length-quads}
 use Rattle.refine.specs.Finer.{split, fourLabels, edgeKey, centreKey, keys, asked, midOf, cenOf, finer, finerCount, Request, request, keyOf, positionOf, requests, made}
-use Rattle.refine.specs.Requests.{keyIn, positionIn, keyAt, requestAt, keysOf, behind, childOf, childAt}
+use Rattle.refine.specs.Requests.{keyIn, positionIn, keyAt, requestAt, keysOf, behind, childOf, childAt, labelAt}
 use Rattle.sheet.proofs.FirstUse.{firsts-append}
 
 -- ---- lists and tables
@@ -120,10 +120,6 @@ made-old seen r h = rw (ne-eqb (sum (is (r .key)) seen) 0 (λ e. omega arith))
 labels-snoc : (l : List ℕ) (x : ℕ) → fourLabels (l ++ (x ∷ [])) ≡ fourLabels l ++ (x ∷ x ∷ x ∷ x ∷ [])
 labels-snoc [] x = refl
 labels-snoc (y ∷ l) x = rw (labels-snoc l x)
-
--- the label of child quad i
-abbrev pub labelAt : List ℕ → ℕ → ℕ
-labelAt labels i = getD labels (i / 4) 0
 
 pub labels-flat : (n : ℕ) (labels : List ℕ) → n ≤ length labels → fourLabels (take n labels) ≡ tabulate (labelAt labels) (4 * n)
 unfolding tabulate

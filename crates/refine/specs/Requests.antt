@@ -8,10 +8,11 @@ use lib.Ieee.{Float}
 use Rattle.points.specs.declared.Point.{Point}
 use Rattle.points.specs.Points.{halfwayP, pointAt}
 use Rattle.lists.specs.Sort.{tabulate}
-use Rattle.lists.specs.Every.{countTo}
+use Rattle.lists.specs.Every.{countTo, some}
 use Rattle.sheet.specs.Quads.{Quad, quad}
 use Rattle.sheet.specs.Flat.{corner, from, to}
 use Rattle.sheet.specs.FirstUse.{place}
+use Rattle.incidence.specs.Corners.{edgeOrder}
 use Rattle.refine.specs.Finer.{edgeKey, centreKey, centreP, Request, request}
 
 -- the corner after corner j of a quad, and the one before it
@@ -63,6 +64,14 @@ numberOf n F t = n + countTo (own F) (getD F t 0)
 unfoldable pub sameEdge : List ℕ → ℕ → ℕ → Bool
 sameEdge Q c d = (eqb (from Q c) (from Q d) && eqb (to Q c) (to Q d)) || (eqb (from Q c) (to Q d) && eqb (to Q c) (from Q d))
 
+-- request t is that of corner i of the corners E
+abbrev pub isLinked : List ℕ → ℕ → ℕ → Bool
+isLinked E t i = eqb (requestOf (getD E i 0)) t
+
+-- what is known of request t once the first i corners in the order of their edges are seen: its first request, or itself where its corner is not seen
+unfoldable pub linkedTo : ℕ → ℕ → List ℕ → ℕ → ℕ → ℕ
+linkedTo n nq Q i t = cond (some (isLinked (edgeOrder n nq Q) t) i) (firstOf n nq Q t) t
+
 -- the number N t being that of request t, the child quad at corner j of quad q
 abbrev pub childOf : (ℕ → ℕ) → List ℕ → ℕ → ℕ → Quad
 childOf N Q q j = quad (corner Q q j) (N (5 * q + j)) (N (5 * q + 4)) (N (5 * q + behind j))
@@ -74,3 +83,7 @@ childAt N Q c = childOf N Q (c / 4) (c % 4)
 -- the list with the quad at place i
 abbrev pub withQuad : List ℕ → ℕ → Quad → List ℕ
 withQuad s i (quad a b c d) = set (set (set (set s (4 * i) a) (4 * i + 1) b) (4 * i + 2) c) (4 * i + 3) d
+
+-- the label of child quad i
+abbrev pub labelAt : List ℕ → ℕ → ℕ
+labelAt labels i = getD labels (i / 4) 0

@@ -1,10 +1,26 @@
-// The finer sheet: every edge gets its halfway point, every quad its centre, and every quad becomes four.
-
-ghost use mathlib.Core.Path.{_≡_};
-ghost use Rattle.points.specs.declared.Point.{Point};
-ghost use Rattle.refine.specs.Finer.{centreP};
+// The finer sheet: every edge gets its halfway point, every quad its centre, and every quad becomes four. Request 5 q + j is for the point of
+// the edge of corner j of quad q, or for the centre where j is 4; the first request of an edge makes its point.
 
 use points::Point;
+use results::Made;
+use sheet::{Counts, Verdict};
+
+ghost use mathlib.Core.Path.{_≡_};
+ghost use mathlib.Core.Bool.{cond};
+ghost use Prim.Native.Nat.{ℕ, _+_, _*_, _/_, _%_, _<_, _≤_, _^_};
+ghost use lib.ListN.{length, getD, replicate};
+ghost use Rattle.numeric.specs.Num.{zeroF};
+ghost use Rattle.points.specs.Points.{pointAt};
+ghost use Rattle.lists.specs.Sort.{tabulate};
+ghost use Rattle.lists.specs.Every.{every, countTo};
+ghost use Rattle.lists.specs.Regions.{part, Part, Out, Out2, Out3, Apart, Kept};
+ghost use Rattle.sheet.specs.Flat.{corner, quadsOf, flatQuads};
+ghost use Rattle.sheet.specs.Sheet.{pointsOf, flatPoints, sheetOf, LentSheet, LentWork};
+ghost use Rattle.results.specs.Results.{Leaves, Fills, Front};
+ghost use Rattle.incidence.specs.Corners.{Cornered, edgeOrder};
+ghost use Rattle.refine.specs.Finer.{centreP, finerCount, refined, refineRule};
+ghost use Rattle.refine.specs.Requests.{requestOf, sameEdge, positionIn, firstOf, linkedTo, own, numberOf, childAt, withQuad, labelAt};
+ghost use Rattle.refine.specs.Loops.{lowAt, nth, Linking, Firsts, Numbering, Held, putRequest, madeTo, Writing};
 
 // The centre of a quad.
 fn centre(p: Point, q: Point, r: Point, s: Point) -> Point
@@ -17,4 +33,152 @@ fn centre(p: Point, q: Point, r: Point, s: Point) -> Point
     };
     let sum = points::add(points::add(points::add(points::add(origin, p), q), r), s);
     points::mul(sum, 0.25)
+}
+
+// Every one of the first n corners is a number of the np points.
+fn in_range(np: usize, n: usize, quads: &[u32]) -> bool
+    requires { ⌜ n ≤ length (now quads) ⌝ }
+    ensures { λ r. ⌜ r ≡ every (lowAt np (now (quads .entry))) n ⌝ }
+{
+    let mut c = 0;
+    while c < n {
+        if lists::at(quads, c) < np {
+            c += 1;
+        } else {
+            return false;
+        }
+    }
+    true
+}
+
+// The request for the edge of corner c.
+fn request_of(c: usize) -> usize
+    requires { ⌜ c < 2 ^ 32 ⌝ }
+    ensures { λ r. ⌜ r ≡ requestOf c ⌝ }
+{
+    c / 4 * 5 + c % 4
+}
+
+// Whether two corners have one edge.
+fn same_edge(quads: &[u32], c: usize, d: usize) -> bool
+    requires { ⌜ c / 4 * 4 + 3 < length (now quads) ⌝ }
+    requires { ⌜ d / 4 * 4 + 3 < length (now quads) ⌝ }
+    ensures { λ r. ⌜ r ≡ sameEdge (now (quads .entry)) c d ⌝ }
+{
+    let a = lists::at(quads, c);
+    let b = lists::at(quads, c / 4 * 4 + (c + 1) % 4);
+    let e = lists::at(quads, d);
+    let f = lists::at(quads, d / 4 * 4 + (d + 1) % 4);
+    ((a == e) & (b == f)) | ((a == f) & (b == e))
+}
+
+// Corner i in the order of edges takes over the first request of the corner before it, if that has the same edge.
+fn link(np: usize, nq: usize, quads: &[u32], order: usize, first: usize, i: usize, w: &mut [u32])
+    requires { ⌜ Linking np nq (now quads) order first i (now w) ⌝ }
+    requires { ⌜ i < 4 * nq ⌝ }
+    ensures { λ _. ⌜ Part first (5 * nq) (tabulate (linkedTo np nq (now (quads .entry)) (i + 1)) (5 * nq)) (now (w .exit)) ⌝ }
+    ensures { λ _. ⌜ Kept (Out first (5 * nq)) (now (w .entry)) (now (w .exit)) ⌝ }
+{
+    if i == 0 {
+        return;
+    }
+    let p = w[order + i - 1] as usize;
+    let c = w[order + i] as usize;
+    if same_edge(quads, p, c) {
+        w[first + request_of(c)] = w[first + request_of(p)];
+        return;
+    }
+}
+
+// The first request of each edge, for all requests that are numbered there.
+fn link_edges(np: usize, nq: usize, quads: &[u32], order: usize, first: usize, w: &mut [u32])
+    requires { ⌜ Linking np nq (now quads) order first 0 (now w) ⌝ }
+    ensures { λ _. ⌜ Part first (5 * nq) (tabulate (firstOf np nq (now (quads .entry))) (5 * nq)) (now (w .exit)) ⌝ }
+    ensures { λ _. ⌜ Kept (Out first (5 * nq)) (now (w .entry)) (now (w .exit)) ⌝ }
+{
+    let mut i = 0;
+    while i < 4 * nq {
+        link(np, nq, quads, order, first, i, w);
+        i += 1;
+    }
+}
+
+// 1 if request t is the first of its key, else 0.
+fn own_at(m: usize, first: usize, t: usize, w: &[u32]) -> usize
+    requires { ⌜ t < m ⌝ }
+    requires { ⌜ first + m ≤ length (now w) ⌝ }
+    ensures { λ r. ⌜ r ≡ cond (own (part first m (now (w .entry))) t) 1 0 ⌝ }
+{
+    if w[first + t] as usize == t {
+        return 1;
+    }
+    0
+}
+
+// The number of the point of request t: the next one if it is the first of its key, else that of the first.
+fn number_at(
+    n: usize,
+    m: usize,
+    first: usize,
+    num: usize,
+    t: usize,
+    next: usize,
+    w: &[u32],
+) -> u32
+    requires { ⌜ Numbering n m first num (part first m (now w)) t next (now w) ⌝ }
+    requires { ⌜ t < m ⌝ }
+    ensures { λ r. ⌜ r ≡ numberOf n (part first m (now (w .entry))) t ⌝ }
+{
+    let f = w[first + t] as usize;
+    if f == t {
+        return next as u32;
+    }
+    w[num + f]
+}
+
+// Numbers the points of m requests behind n points, by their first requests; how many points there are then.
+fn number_points(n: usize, m: usize, first: usize, num: usize, w: &mut [u32]) -> usize
+    requires { ⌜ Numbering n m first num (part first m (now w)) 0 n (now w) ⌝ }
+    ensures { λ r. ⌜ r ≡ n + countTo (own (part first m (now (w .entry)))) m ⌝ }
+    ensures { λ _. ⌜ Part num m (tabulate (numberOf n (part first m (now (w .entry)))) m) (now (w .exit)) ⌝ }
+    ensures { λ _. ⌜ Kept (Out num m) (now (w .entry)) (now (w .exit)) ⌝ }
+{
+    let mut next = n;
+    let mut t = 0;
+    while t < m {
+        let k = number_at(n, m, first, num, t, next, w);
+        next += own_at(m, first, t, w);
+        w[num + t] = k;
+        t += 1;
+    }
+    next
+}
+
+// The point at corner j of quad q.
+fn corner_point(points: &[f64], quads: &[u32], np: usize, nq: usize, q: usize, j: usize) -> Point
+    requires { ⌜ Held np nq (now points) (now quads) ⌝ }
+    requires { ⌜ q < nq ⌝ }
+    requires { ⌜ j < 4 ⌝ }
+    ensures { λ r. ⌜ r ≡ pointAt (now (points .entry)) (corner (now (quads .entry)) q j) ⌝ }
+{
+    points::point_at(points, sheet::corner_at(quads, q, j))
+}
+
+// The position of the request j of quad q.
+fn position(points: &[f64], quads: &[u32], np: usize, nq: usize, q: usize, j: usize) -> Point
+    requires { ⌜ Held np nq (now points) (now quads) ⌝ }
+    requires { ⌜ q < nq ⌝ }
+    requires { ⌜ j < 5 ⌝ }
+    ensures { λ r. ⌜ r ≡ positionIn (pointAt (now (points .entry))) (now (quads .entry)) q j ⌝ }
+{
+    if j == 4 {
+        let a = corner_point(points, quads, np, nq, q, 0);
+        let b = corner_point(points, quads, np, nq, q, 1);
+        let c = corner_point(points, quads, np, nq, q, 2);
+        let d = corner_point(points, quads, np, nq, q, 3);
+        return centre(a, b, c, d);
+    }
+    let a = corner_point(points, quads, np, nq, q, j);
+    let b = corner_point(points, quads, np, nq, q, (j + 1) % 4);
+    points::halfway(a, b)
 }
