@@ -10,9 +10,9 @@ use lib.ListN.{length, getD, set, take, drop, length-append, length-set}
 use lib.Seq.{take-suc-set, take-at}
 use lib.Dec.{eqb}
 use lib.Ieee.{Float}
-use borrow.Author.Tests.{eq-eqb, ne-eqb, eqb-true}
+use borrow.Author.Tests.{eq-eqb, ne-eqb, eqb-true, lt-ltb, le-ltb}
 use Rattle.points.specs.declared.Point.{Point}
-use Rattle.points.specs.Points.{pointAt, withPoint}
+use Rattle.points.specs.Points.{pointAt, withPoint, halfwayP}
 use Rattle.lists.specs.Sort.{tabulate, itself}
 use Rattle.lists.specs.Every.{countTo}
 use Rattle.lists.specs.Regions.{part, Part, Out, Apart, Kept}
@@ -20,14 +20,15 @@ use Rattle.lists.proofs.Laws.{getD-tab, length-tab, tab-suc, Filled, filled-end
 use Rattle.lists.proofs.Every.{count-le, count-mono, count-zero, count-yes, count-no}
 use Rattle.lists.proofs.Regions.{part-of, part-get, part-set, part-as, part-kept, part-len, kept-refl, kept-set, kept-then, RegionFilled, region-start, region-turn, region-part, region-end, region-other}
 use Rattle.sheet.specs.Quads.{Quad, quad}
-use Rattle.sheet.specs.Flat.{flatQuads}
+use Rattle.sheet.specs.Flat.{corner, flatQuads}
 use Rattle.sheet.specs.Sheet.{pointsOf, flatPoints}
 use Rattle.sheet.proofs.Tests.{length-points}
 use Rattle.results.specs.Results.{Front}
 use Rattle.results.proofs.Results.{length-flat-points, length-flat-quads}
 use Rattle.incidence.specs.Corners.{Cornered, edgeOrder}
+use Rattle.refine.specs.Finer.{centreP}
 use Rattle.refine.specs.Requests.{requestOf, firstOf, own, numberOf, sameEdge, linkedTo, positionIn, withQuad}
-use Rattle.refine.specs.Loops.{Linking, Firsts, Numbering, Writing, madeTo, putRequest}
+use Rattle.refine.specs.Loops.{lowAt, Held, Linking, Firsts, Numbering, Numbered, Writing, madeTo, putRequest}
 use Rattle.refine.proofs.Edges.{Same, sorted, same-yes, same-no, linked-start, linked-new, linked-same, linked-end}
 
 -- ---- the links
@@ -45,6 +46,7 @@ module _ {np nq : ℕ} {Q : List ℕ} {order first i : ℕ} {w : List ℕ} (L : 
 
   -- what a turn reads is in range
   pub record LinkTurn : Type 0 where
+    pub positive : 0 < i
     pub fits : order + i < length w
     pub room : first + 5 * nq ≤ length w
     pub few : nq ≤ 1048576
@@ -54,6 +56,7 @@ module _ {np nq : ℕ} {Q : List ℕ} {order first i : ℕ} {w : List ℕ} (L : 
 
   pub link-turn : 0 < i → LinkTurn
   link-turn p = record {
+    positive = p;
     fits = omega (arith, L .at .fits);
     room = L .linked .fits;
     few = L .cornered .few;
@@ -90,6 +93,17 @@ pub link-end : {np nq : ℕ} {Q : List ℕ} {order first i : ℕ} {w : List ℕ}
 link-end {np} {nq} {Q} {order} {first} {i} {w} L e = part-as (rw e at (L .linked)) (linked-end (L .cornered))
 
 -- ---- the numbers
+
+bit-le : (b : Bool) → cond b 1 0 ≤ 1
+bit-le true = omega arith
+bit-le false = omega arith
+
+-- the count of a request that is the first of its key, and of another
+pub own-yes : (first m t : ℕ) (w : List ℕ) → first + m ≤ length w → t < m → getD w (first + t) 0 ≡ t → _≡_ {A = ℕ} 1 (cond (own (part first m w) t) 1 0)
+own-yes first m t w h l e = rw (eq-eqb (getD (part first m w) t 0) t (sym (part-get 0 t (part-of first m w h) l) ∙ e))
+
+pub own-no : (first m t : ℕ) (w : List ℕ) → first + m ≤ length w → t < m → (getD w (first + t) 0 ≡ t → ⊥) → _≡_ {A = ℕ} 0 (cond (own (part first m w) t) 1 0)
+own-no first m t w h l e = rw (ne-eqb (getD (part first m w) t 0) t (λ q. e (part-get 0 t (part-of first m w h) l ∙ q)))
 
 pub count-suc : (p : ℕ → Bool) (i : ℕ) → countTo p (i + 1) ≡ countTo p i + cond (p i) 1 0
 unfolding countTo
@@ -158,8 +172,8 @@ module _ {n m first num : ℕ} {v w : List ℕ} {next t : ℕ} (I : NumberLoop n
   }
 
   -- the next number fits
-  pub numbers-small : t ≤ m → next ≤ n + m
-  numbers-small h = omega (arith, I .next-is, count-le (own (part first m v)) t)
+  pub numbers-small : (o : ℕ) → t < m → o ≡ cond (own (part first m w) t) 1 0 → next + o ≤ n + m
+  numbers-small o h e = omega (arith, I .next-is, count-le (own (part first m v)) t, bit-le (own (part first m w) t))
 
   pub numbers-end : m ≤ t → (next ≡ n + countTo (own (part first m v)) m) × (Part num m (tabulate (numberOf n (part first m v)) m) w × Kept (Out num m) v w)
   numbers-end h =
@@ -258,9 +272,9 @@ unfolding madeTo
 points-start n m P Q F d h = record { t≤ = zero-le; len = refl; front = rw append-nil h }
 
 module _ {n m : ℕ} {P : List Float} {Q F : List ℕ} {d s : List Float} {t : ℕ} (I : PointLoop n m P Q F d s t) where
-  pub points-turn : (N : List ℕ) (r : List Float) → t < m → N ≡ tabulate (numberOf n F) m → Firsts m F → getD N t 0 * 3 + 3 ≤ length d → r ≡ putRequest F N (pointAt P) Q t s → PointLoop n m P Q F d r (t + 1)
+  pub points-turn : (N : List ℕ) (r : List Float) → t < m → Numbered n m F N → getD N t 0 * 3 + 3 ≤ length d → r ≡ putRequest F N (pointAt P) Q t s → PointLoop n m P Q F d r (t + 1)
   unfolding numberOf
-  points-turn N r h eN G room er = go (own F t) refl
+  points-turn N r h G room er = go (own F t) refl
     where
       ps : List Point
       ps = pointsOf n P ++ madeTo F (pointAt P) Q t
@@ -273,7 +287,7 @@ module _ {n m : ℕ} {P : List Float} {Q F : List ℕ} {d s : List Float} {t : �
       }
       go true e =
           let f : getD F t 0 ≡ t = eqb-true (getD F t 0) t e in
-          let k : getD N t 0 ≡ length ps = ap (λ (l : List ℕ). getD l t 0) eN ∙ getD-tab (numberOf n F) m t 0 h ∙ ap (λ (k : ℕ). n + countTo (own F) k) f
+          let k : getD N t 0 ≡ length ps = ap (λ (l : List ℕ). getD l t 0) (G .is) ∙ getD-tab (numberOf n F) m t 0 h ∙ ap (λ (k : ℕ). n + countTo (own F) k) f
           ∙ sym (length-append (pointsOf n P) (madeTo F (pointAt P) Q t) ∙ rw (length-points n P, length-made F (pointAt P) Q t)) in
           record {
             t≤ = omega arith;
@@ -297,3 +311,25 @@ quads-next f s c F h = rw (add-one c, tab-suc f c) (front-quad (tabulate f c) c 
 pub quads-zero : (f : ℕ → Quad) (s : List ℕ) → Front (flatQuads (tabulate f 0)) s
 unfolding tabulate flatQuads
 quads-zero f s = front-none s
+
+-- ---- corners in range
+
+pub low-yes : (np : ℕ) (Q : List ℕ) (c r : ℕ) → r ≡ getD Q c 0 → r < np → lowAt np Q c ≡ true
+low-yes np Q c r e h = rw (← e) (lt-ltb r np h)
+
+pub low-no : (np : ℕ) (Q : List ℕ) (c r : ℕ) → r ≡ getD Q c 0 → np ≤ r → lowAt np Q c ≡ false
+low-no np Q c r e h = rw (← e) (le-ltb r np h)
+
+pub held-corner : {np nq : ℕ} {P : List Float} {Q : List ℕ} (q j : ℕ) → Held np nq P Q → q < nq → j < 4 → getD Q (4 * q + j) 0 * 3 + 3 ≤ length P
+held-corner q j H hq hj = omega (arith, H .points, H .cornered .points (4 * q + j) (omega arith))
+
+-- ---- the position of a request
+
+module _ (at : ℕ → Point) (Q : List ℕ) (q j : ℕ) (r : Point) where
+  pub position-centre : (a b c d : Point) → j ≡ 4 → a ≡ at (corner Q q 0) → b ≡ at (corner Q q 1) → c ≡ at (corner Q q 2) → d ≡ at (corner Q q 3) → r ≡ centreP a b c d → r ≡ positionIn at Q q j
+  unfolding positionIn
+  position-centre a b c d e ea eb ec ed er = rw (e, ← ea, ← eb, ← ec, ← ed) er
+
+  pub position-halfway : (a b : Point) → (j ≡ 4 → ⊥) → a ≡ at (corner Q q j) → b ≡ at (corner Q q ((j + 1) % 4)) → r ≡ halfwayP a b → r ≡ positionIn at Q q j
+  unfolding positionIn
+  position-halfway a b ne ea eb er = rw (ne-eqb j 4 ne, ← ea, ← eb) er

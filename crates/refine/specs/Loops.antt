@@ -64,3 +64,8 @@ pub record Writing (np nq : ℕ) (P : List Float) (Q : List ℕ) (first num : �
   pub firsts : Part first (5 * nq) F w
   pub numbers : Part num (5 * nq) N w
   pub rooms : (t : ℕ) → t < 5 * nq → getD N t 0 * 3 + 3 ≤ room
+
+-- N has the numbers of the points of m requests behind n points, by their first requests F
+pub record Numbered (n m : ℕ) (F N : List ℕ) : Type 0 where
+  pub firsts : Firsts m F
+  pub is : N ≡ tabulate (numberOf n F) m

@@ -7,6 +7,7 @@ use sheet::{Counts, Verdict};
 
 ghost use mathlib.Core.Path.{_≡_};
 ghost use mathlib.Core.Bool.{cond};
+ghost use mathlib.Core.List.{_++_};
 ghost use Prim.Native.Nat.{ℕ, _+_, _*_, _/_, _%_, _<_, _≤_, _^_};
 ghost use lib.ListN.{length, getD, replicate};
 ghost use Rattle.numeric.specs.Num.{zeroF};
@@ -14,13 +15,14 @@ ghost use Rattle.points.specs.Points.{pointAt};
 ghost use Rattle.lists.specs.Sort.{tabulate};
 ghost use Rattle.lists.specs.Every.{every, countTo};
 ghost use Rattle.lists.specs.Regions.{part, Part, Out, Out2, Out3, Apart, Kept};
+ghost use Rattle.sheet.specs.Quads.{quad};
 ghost use Rattle.sheet.specs.Flat.{corner, quadsOf, flatQuads};
 ghost use Rattle.sheet.specs.Sheet.{pointsOf, flatPoints, sheetOf, LentSheet, LentWork};
 ghost use Rattle.results.specs.Results.{Leaves, Fills, Front};
 ghost use Rattle.incidence.specs.Corners.{Cornered, edgeOrder};
 ghost use Rattle.refine.specs.Finer.{centreP, finerCount, refined, refineRule};
 ghost use Rattle.refine.specs.Requests.{requestOf, sameEdge, positionIn, firstOf, linkedTo, own, numberOf, childAt, withQuad, labelAt};
-ghost use Rattle.refine.specs.Loops.{lowAt, nth, Linking, Firsts, Numbering, Held, putRequest, madeTo, Writing};
+ghost use Rattle.refine.specs.Loops.{lowAt, nth, Linking, Firsts, Numbering, Held, putRequest, madeTo, Writing, Numbered};
 
 // The centre of a quad.
 fn centre(p: Point, q: Point, r: Point, s: Point) -> Point
@@ -181,4 +183,118 @@ fn position(points: &[f64], quads: &[u32], np: usize, nq: usize, q: usize, j: us
     let a = corner_point(points, quads, np, nq, q, j);
     let b = corner_point(points, quads, np, nq, q, (j + 1) % 4);
     points::halfway(a, b)
+}
+
+// Copies the first n points.
+fn copy_points(n: usize, points: &[f64], new_points: &mut [f64])
+    requires { ⌜ 3 * n ≤ length (now points) ⌝ }
+    requires { ⌜ 3 * n ≤ length (now new_points) ⌝ }
+    ensures { λ _. ⌜ Front (flatPoints (pointsOf n (now (points .entry)))) (now (new_points .exit)) ⌝ }
+{
+    let mut v = 0;
+    while v < n {
+        points::put_point(new_points, v, points::point_at(points, v));
+        v += 1;
+    }
+}
+
+// Puts the point of request t at its number, if the request is the first of its key.
+fn put_request(
+    np: usize,
+    nq: usize,
+    points: &[f64],
+    quads: &[u32],
+    first: usize,
+    num: usize,
+    t: usize,
+    w: &[u32],
+    new_points: &mut [f64],
+)
+    requires { ⌜ Writing np nq (now points) (now quads) first num (part first (5 * nq) (now w)) (part num (5 * nq) (now w)) (now w) (length (now new_points)) ⌝ }
+    requires { ⌜ t < 5 * nq ⌝ }
+    ensures { λ _. ⌜ now (new_points .exit) ≡ putRequest (part first (5 * nq) (now (w .entry))) (part num (5 * nq) (now (w .entry))) (pointAt (now (points .entry))) (now (quads .entry)) t (now (new_points .entry)) ⌝ }
+{
+    if w[first + t] as usize == t {
+        let p = position(points, quads, np, nq, t / 5, t % 5);
+        points::put_point(new_points, lists::at(w, num + t), p);
+        return;
+    }
+}
+
+// Puts the points of all requests at their numbers, behind the np old points.
+fn put_points(
+    np: usize,
+    nq: usize,
+    points: &[f64],
+    quads: &[u32],
+    first: usize,
+    num: usize,
+    w: &[u32],
+    new_points: &mut [f64],
+)
+    requires { ⌜ Writing np nq (now points) (now quads) first num (part first (5 * nq) (now w)) (part num (5 * nq) (now w)) (now w) (length (now new_points)) ⌝ }
+    requires { ⌜ Numbered np (5 * nq) (part first (5 * nq) (now w)) (part num (5 * nq) (now w)) ⌝ }
+    requires { ⌜ Front (flatPoints (pointsOf np (now points))) (now new_points) ⌝ }
+    ensures { λ _. ⌜ Front (flatPoints (pointsOf np (now (points .entry)) ++ madeTo (part first (5 * nq) (now (w .entry))) (pointAt (now (points .entry))) (now (quads .entry)) (5 * nq))) (now (new_points .exit)) ⌝ }
+{
+    let mut t = 0;
+    while t < 5 * nq {
+        put_request(np, nq, points, quads, first, num, t, w, new_points);
+        t += 1;
+    }
+}
+
+// Puts a quad at place i.
+fn put_quad(quads: &mut [u32], i: usize, a: u32, b: u32, c: u32, d: u32)
+    requires { ⌜ 4 * i + 4 ≤ length (now quads) ⌝ }
+    ensures { λ _. ⌜ now (quads .exit) ≡ withQuad (now (quads .entry)) i (quad a b c d) ⌝ }
+{
+    quads[4 * i] = a;
+    quads[4 * i + 1] = b;
+    quads[4 * i + 2] = c;
+    quads[4 * i + 3] = d;
+}
+
+// Puts the child quad at corner c.
+fn put_child(nq: usize, quads: &[u32], num: usize, c: usize, w: &[u32], new_quads: &mut [u32])
+    requires { ⌜ c < 4 * nq ⌝ }
+    requires { ⌜ 4 * nq ≤ length (now quads) ⌝ }
+    requires { ⌜ num + 5 * nq ≤ length (now w) ⌝ }
+    requires { ⌜ 16 * nq ≤ length (now new_quads) ⌝ }
+    ensures { λ _. ⌜ now (new_quads .exit) ≡ withQuad (now (new_quads .entry)) c (childAt (nth (part num (5 * nq) (now (w .entry)))) (now (quads .entry)) c) ⌝ }
+{
+    let q = c / 4;
+    let j = c % 4;
+    let a = quads[4 * q + j];
+    let b = w[num + (5 * q + j)];
+    let e = w[num + (5 * q + 4)];
+    let d = w[num + (5 * q + (j + 3) % 4)];
+    put_quad(new_quads, c, a, b, e, d);
+}
+
+// Puts the four children of every quad.
+fn put_quads(nq: usize, quads: &[u32], num: usize, w: &[u32], new_quads: &mut [u32])
+    requires { ⌜ 4 * nq ≤ length (now quads) ⌝ }
+    requires { ⌜ num + 5 * nq ≤ length (now w) ⌝ }
+    requires { ⌜ 16 * nq ≤ length (now new_quads) ⌝ }
+    ensures { λ _. ⌜ Front (flatQuads (tabulate (childAt (nth (part num (5 * nq) (now (w .entry)))) (now (quads .entry))) (4 * nq))) (now (new_quads .exit)) ⌝ }
+{
+    let mut c = 0;
+    while c < 4 * nq {
+        put_child(nq, quads, num, c, w, new_quads);
+        c += 1;
+    }
+}
+
+// Puts each quad's label four times.
+fn put_labels(nq: usize, labels: &[u8], new_labels: &mut [u8])
+    requires { ⌜ nq ≤ length (now labels) ⌝ }
+    requires { ⌜ 4 * nq ≤ length (now new_labels) ⌝ }
+    ensures { λ _. ⌜ Front (tabulate (labelAt (now (labels .entry))) (4 * nq)) (now (new_labels .exit)) ⌝ }
+{
+    let mut i = 0;
+    while i < 4 * nq {
+        new_labels[i] = labels[i / 4];
+        i += 1;
+    }
 }

@@ -1,5 +1,6 @@
 use native.Mathlib.Omega.{arith}
 use borrow.Author.Needs.{needs}
+use Rattle.refine.proofs.Loops.{held-corner}
 use Rattle.refine.proofs.corner_point.Statement.{statement}
 use Rattle.refine.proofs.corner_point.Tie as tie
 use Rattle.refine.proofs.corner_point.Reads as reads
@@ -7,17 +8,14 @@ use Rattle.refine.proofs.corner_point.Lts as lts
 use Rattle.points.proofs.point_at.Reads as point-at-reads
 use Rattle.sheet.proofs.corner_at.Reads as corner-at-reads
 
--- src/lib.rt:164:30
 corner-at-requires : tie.Need-corner-at-requires
-corner-at-requires c κs = search needs
+corner-at-requires c κs = let s = c .before .before in omega (arith, s .pre .0 .cornered .quads)
 
--- src/lib.rt:164:5
 point-at-requires : tie.Need-point-at-requires
-point-at-requires c κs = search needs
+point-at-requires c κs = let s = c .before .before .before in omega (arith, held-corner _ _ (s .pre .0) (s .pre .1 .0) (s .pre .1 .1), c .corner-at .ensures)
 
--- src/lib.rt:158:1
 returns : tie.Need-returns
-returns c = ?
+returns c = cc
 
 pub corner-point-spec : {M : Type 1} → statement M
 corner-point-spec = tie.close (tie.spec corner-at-requires point-at-requires returns)

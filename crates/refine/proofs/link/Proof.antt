@@ -1,5 +1,7 @@
 use native.Mathlib.Omega.{arith}
 use borrow.Author.Needs.{needs}
+use mathlib.Core.Path.{sym, _∙_}
+use Rattle.refine.proofs.Loops.{LinkTurn, link-turn, link-first, link-other, link-same}
 use Rattle.refine.proofs.link.Statement.{statement}
 use Rattle.refine.proofs.link.Tie as tie
 use Rattle.refine.proofs.link.Reads as reads
@@ -7,93 +9,78 @@ use Rattle.refine.proofs.link.Lts as lts
 use Rattle.refine.proofs.request_of.Reads as request-of-reads
 use Rattle.refine.proofs.same_edge.Reads as same-edge-reads
 
--- src/lib.rt:83:9
-returns : tie.Need-returns
-returns c = ?
+turn-at : (c : tie.Else1) → let s = c .before .before .before in LinkTurn (s .pre .0) (s .pre .1)
+turn-at c = let s = c .before .before .before in link-turn (s .pre .0) (s .pre .1) (omega arith)
 
--- src/lib.rt:85:15
+returns : tie.Need-returns
+returns c = let s = c .before .before .before in link-first (s .pre .0) (s .pre .1) (c .if1 .taken)
+
 add-p : tie.Need-add-p
 add-p c = search needs
 
--- src/lib.rt:85:15
 sub-p : tie.Need-sub-p
 sub-p c = search needs
 
--- src/lib.rt:85:13
 mul-p : tie.Need-mul-p
 mul-p c = search needs
 
--- src/lib.rt:85:13
 slice-read-p : tie.Need-slice-read-p
-slice-read-p c = search needs
+slice-read-p c = let t = turn-at (c .before) in omega arith
 
--- src/lib.rt:85:13
 cast-p : tie.Need-cast-p
-cast-p c = ?
+cast-p c = let t = turn-at (c .before) in omega arith
 
--- src/lib.rt:86:15
 add-c : tie.Need-add-c
-add-c c = search needs
+add-c c = let t = turn-at (c .before) in omega arith
 
--- src/lib.rt:86:13
 mul-c : tie.Need-mul-c
 mul-c c = search needs
 
--- src/lib.rt:86:13
 slice-read-c : tie.Need-slice-read-c
-slice-read-c c = search needs
+slice-read-c c = let t = turn-at (c .before .before) in omega arith
 
--- src/lib.rt:86:13
 cast-c : tie.Need-cast-c
-cast-c c = ?
+cast-c c = let t = turn-at (c .before .before) in omega arith
 
--- src/lib.rt:87:8
 same-edge-requires : tie.Need-same-edge-requires
-same-edge-requires c κs = search needs
+same-edge-requires c κs = let t = turn-at (c .before .before) in (omega arith, omega arith)
 
--- src/lib.rt:88:46
 request-of-requires : tie.Need-request-of-requires
-request-of-requires c κs = search needs
+request-of-requires c κs = let t = turn-at (c .before .before .before .before) in omega arith
 
--- src/lib.rt:88:38
 add-w : tie.Need-add-w
-add-w c = omega arith
+add-w c = let t = turn-at (c .before .before .before .before .before) in omega (arith, c .request-of .ensures)
 
--- src/lib.rt:88:36
 mul-w : tie.Need-mul-w
-mul-w c = search needs
+mul-w c = let t = turn-at (c .before .before .before .before .before) in omega (arith, c .request-of .ensures)
 
--- src/lib.rt:88:36
 slice-read-w : tie.Need-slice-read-w
-slice-read-w c = omega arith
+slice-read-w c = let t = turn-at (c .before .before .before .before .before .before) in omega (arith, c .before .request-of .ensures)
 
--- src/lib.rt:88:19
 request-of-requires-2 : tie.Need-request-of-requires-2
-request-of-requires-2 c κs = search needs
+request-of-requires-2 c κs = let t = turn-at (c .before .before .before .before .before .before) in omega arith
 
--- src/lib.rt:88:11
 add-w-2 : tie.Need-add-w-2
-add-w-2 c = omega arith
+add-w-2 c = let t = turn-at (c .before .before .before .before .before .before .before) in omega (arith, c .request-of2 .ensures)
 
--- src/lib.rt:88:9
 mul-w-2 : tie.Need-mul-w-2
-mul-w-2 c = search needs
+mul-w-2 c = let t = turn-at (c .before .before .before .before .before .before .before) in omega (arith, c .request-of2 .ensures)
 
--- src/lib.rt:88:9
 slice-write-w : tie.Need-slice-write-w
-slice-write-w c = omega arith
+slice-write-w c = let t = turn-at (c .before .before .before .before .before .before .before) in omega (arith, c .request-of2 .ensures)
 
--- src/lib.rt:89:9
 same-length : tie.Need-same-length
 same-length c = search needs
 
--- src/lib.rt:89:9
 returns-2 : tie.Need-returns-2
-returns-2 c = ?
+returns-2 c = let r = c .before .before in
+    let e = r .before .before in
+    let s = e .before .before .before .before .before .before in
+    link-same (s .pre .0) (s .pre .1) _ _ (turn-at (e .before .before .before) .positive) (sym (e .same-edge .ensures) ∙ r .before .if2 .taken) (c .request-of2 .ensures) (r .request-of .ensures)
 
--- src/lib.rt:76:1
 returns-3 : tie.Need-returns-3
-returns-3 c = ?
+returns-3 c = let s = c .before .before .before .before .before .before .before in
+    link-other (s .pre .0) (s .pre .1) (sym (c .before .same-edge .ensures) ∙ c .if2 .left)
 
 pub link-spec : {M : Type 1} → statement M
 link-spec =

@@ -1,5 +1,7 @@
 use native.Mathlib.Omega.{arith}
 use borrow.Author.Needs.{needs}
+use Prim.Native.Nat.{_-_}
+use Rattle.refine.proofs.Loops.{bit-le, NumberLoop, numbers-start, numbers-ready, numbers-turn, numbers-small, numbers-end}
 use Rattle.refine.proofs.number_points.Statement.{statement}
 use Rattle.refine.proofs.number_points.Tie as tie
 use Rattle.refine.proofs.number_points.Reads as reads
@@ -8,58 +10,49 @@ use Rattle.refine.proofs.number_at.Reads as number-at-reads
 use Rattle.refine.proofs.own_at.Reads as own-at-reads
 
 abbrev Inv-loop : tie.InvT-loop
-Inv-loop n m first num w₀ next₀ t₀ w next t = ?
+Inv-loop n m first num w₀ next₀ t₀ w next t = NumberLoop n m first num w₀ w next t
 
 abbrev μ-loop : tie.MeasureT-loop
-μ-loop n m first num w₀ next₀ t₀ w next t = ?
+μ-loop n m first num w₀ next₀ t₀ w next t = m - t
 
--- src/lib.rt:148:5
 loop-holds : tie.Need-loop-holds Inv-loop μ-loop
-loop-holds c = ?
+loop-holds c = numbers-start (c .before .pre)
 
--- src/lib.rt:149:13
 number-at-requires : tie.Need-number-at-requires Inv-loop μ-loop
-number-at-requires c κs = search needs
+number-at-requires c κs = (numbers-ready (c .before .before .loop .inv), c .before .loop-test .taken)
 
--- src/lib.rt:150:17
 own-at-requires : tie.Need-own-at-requires Inv-loop μ-loop
-own-at-requires c κs = search needs
+own-at-requires c κs = let t = c .before .before .before in (t .loop-test .taken, numbers-ready (t .before .loop .inv) .in-first)
 
--- src/lib.rt:150:9
 add-next : tie.Need-add-next Inv-loop μ-loop
-add-next c = omega arith
+add-next c = let t = c .before .before .before .before in
+    let k = t .before .loop .inv in
+    omega (arith, numbers-small k _ (t .loop-test .taken) (c .own-at .ensures), k .start .few)
 
--- src/lib.rt:151:11
 add-w : tie.Need-add-w Inv-loop μ-loop
-add-w c = omega arith
+add-w c = let k = c .before .before .before .before .before .loop .inv in omega (arith, k .start .in-num)
 
--- src/lib.rt:151:9
 mul-w : tie.Need-mul-w Inv-loop μ-loop
 mul-w c = search needs
 
--- src/lib.rt:151:9
 slice-write-w : tie.Need-slice-write-w Inv-loop μ-loop
-slice-write-w c = omega arith
+slice-write-w c = let k = c .before .before .before .before .before .loop .inv in omega (arith, k .start .in-num, k .filled .len)
 
--- src/lib.rt:152:9
 add-t : tie.Need-add-t Inv-loop μ-loop
 add-t c = omega arith
 
--- src/lib.rt:148:5
 loop-less : tie.Need-loop-less Inv-loop μ-loop
 loop-less c = omega arith
 
--- src/lib.rt:148:5
 loop-again : tie.Need-loop-again Inv-loop μ-loop
-loop-again c = ?
+loop-again c = let t = c .before .before .before .before in
+    numbers-turn (t .before .loop .inv) _ _ (t .loop-test .taken) (c .before .before .number-at .ensures) (c .own-at .ensures)
 
--- src/lib.rt:140:1
 same-length : tie.Need-same-length Inv-loop μ-loop
-same-length c = ?
+same-length c = c .before .loop .inv .filled .len
 
--- src/lib.rt:140:1
 returns : tie.Need-returns Inv-loop μ-loop
-returns c = ?
+returns c = numbers-end (c .before .loop .inv) (omega arith)
 
 pub number-points-spec : {M : Type 1} → statement M
 number-points-spec =
