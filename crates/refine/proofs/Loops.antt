@@ -27,8 +27,8 @@ use Rattle.results.specs.Results.{Front}
 use Rattle.results.proofs.Results.{length-flat-points, length-flat-quads}
 use Rattle.incidence.specs.Corners.{Cornered, edgeOrder}
 use Rattle.refine.specs.Finer.{centreP}
-use Rattle.refine.specs.Requests.{requestOf, firstOf, own, numberOf, sameEdge, linkedTo, positionIn, withQuad}
-use Rattle.refine.specs.Loops.{lowAt, Held, Linking, Firsts, Numbering, Numbered, Writing, madeTo, putRequest}
+use Rattle.refine.specs.Requests.{requestOf, firstOf, own, numberOf, sameEdge, linkedTo, positionIn, childAt, withQuad}
+use Rattle.refine.specs.Loops.{lowAt, nth, Held, Linking, Firsts, Numbering, Numbered, Writing, madeTo, putRequest}
 use Rattle.refine.proofs.Edges.{Same, sorted, same-yes, same-no, linked-start, linked-new, linked-same, linked-end}
 
 -- ---- the links
@@ -295,22 +295,77 @@ module _ {n m : ℕ} {P : List Float} {Q F : List ℕ} {d s : List Float} {t : �
             front = rw (er, e, made-suc F (pointAt P) Q t, e, ← append-assoc) (front-point ps (getD N t 0) (positionIn (pointAt P) Q (t / 5) (t % 5)) (I .front) k (omega (arith, I .len)));
           }
 
--- the old points
-pub old-next : (n : ℕ) (P s : List Float) (v : ℕ) (p : Point) → Front (flatPoints (pointsOf v P)) s → p ≡ pointAt P v → v * 3 + 3 ≤ length s → Front (flatPoints (pointsOf (v + 1) P)) (withPoint s v p)
-unfolding pointsOf
-old-next n P s v p F e h = rw (add-one v, tab-suc (pointAt P) v, ← e) (front-point (tabulate (pointAt P) v) v p F (sym (length-tab (pointAt P) v)) h)
+-- at the end all of them stand
+pub points-end : {n m : ℕ} {P : List Float} {Q F : List ℕ} {d s : List Float} {t : ℕ} → PointLoop n m P Q F d s t → m ≤ t → Front (flatPoints (pointsOf n P ++ madeTo F (pointAt P) Q m)) s
+points-end {n} {m} {P} {Q} {F} {d} {s} {t} I h = let e : t ≡ m = omega (arith, I .t≤) in rw e at (I .front)
 
-pub old-zero : (P s : List Float) → Front (flatPoints (pointsOf 0 P)) s
+-- the writing goes on in a slice of the same length
+pub writing-same : {np nq : ℕ} {P : List Float} {Q : List ℕ} {first num : ℕ} {F N w : List ℕ} {room more : ℕ} → Writing np nq P Q first num F N w room → more ≡ room → Writing np nq P Q first num F N w more
+writing-same W e = rw e W
+
+module _ {np nq : ℕ} {P : List Float} {Q : List ℕ} {first num : ℕ} {F N w : List ℕ} {room : ℕ} (W : Writing np nq P Q first num F N w room) (t : ℕ) (h : t < 5 * nq) where
+  pub writing-room : getD w (num + t) 0 * 3 + 3 ≤ room
+  writing-room = rw (part-get 0 t (W .numbers) h) (W .rooms t h)
+
+  pub put-yes : (k : ℕ) (p : Point) (s r : List Float) → getD w (first + t) 0 ≡ t → k ≡ getD w (num + t) 0 → p ≡ positionIn (pointAt P) Q (t / 5) (t % 5) → r ≡ withPoint s k p → r ≡ putRequest F N (pointAt P) Q t s
+  put-yes k p s r e ek ep er = rw (eq-eqb (getD F t 0) t (sym (part-get 0 t (W .firsts) h) ∙ e), ← part-get 0 t (W .numbers) h, ← ek, ← ep) er
+
+  pub put-no : (s : List Float) → (getD w (first + t) 0 ≡ t → ⊥) → s ≡ putRequest F N (pointAt P) Q t s
+  put-no s e = rw (ne-eqb (getD F t 0) t (λ q. e (part-get 0 t (W .firsts) h ∙ q)))
+
+-- ---- the old points
+
+pub record OldLoop (n : ℕ) (P d s : List Float) (v : ℕ) : Type 0 where
+  pub v≤ : v ≤ n
+  pub len : length s ≡ length d
+  pub front : Front (flatPoints (pointsOf v P)) s
+
+pub old-start : (n : ℕ) (P d : List Float) → OldLoop n P d d 0
 unfolding pointsOf tabulate flatPoints
-old-zero P s = front-none s
+old-start n P d = record { v≤ = zero-le; len = refl; front = front-none d }
 
--- the quads
-pub quads-next : (f : ℕ → Quad) (s : List ℕ) (c : ℕ) → Front (flatQuads (tabulate f c)) s → 4 * c + 4 ≤ length s → Front (flatQuads (tabulate f (c + 1))) (withQuad s c (f c))
-quads-next f s c F h = rw (add-one c, tab-suc f c) (front-quad (tabulate f c) c (f c) F (sym (length-tab f c)) h)
+pub old-turn : {n : ℕ} {P d s : List Float} {v : ℕ} (p : Point) (r : List Float) → OldLoop n P d s v → v < n → 3 * n ≤ length d → p ≡ pointAt P v → r ≡ withPoint s v p → OldLoop n P d r (v + 1)
+unfolding pointsOf
+old-turn {n} {P} {d} {s} {v} p r I h b ep er = record {
+  v≤ = omega arith;
+  len = rw er (length-with s v p ∙ I .len);
+  front = rw (add-one v, tab-suc (pointAt P) v, ← ep, er) (front-point (tabulate (pointAt P) v) v p (I .front) (sym (length-tab (pointAt P) v)) (omega (arith, I .len)));
+}
 
-pub quads-zero : (f : ℕ → Quad) (s : List ℕ) → Front (flatQuads (tabulate f 0)) s
+pub old-end : {n : ℕ} {P d s : List Float} {v : ℕ} → OldLoop n P d s v → n ≤ v → Front (flatPoints (pointsOf n P)) s
+old-end {n} {P} {d} {s} {v} I h = let e : v ≡ n = omega (arith, I .v≤) in rw e at (I .front)
+
+-- ---- the quads
+
+pub record QuadLoop (f : ℕ → Quad) (m : ℕ) (d s : List ℕ) (c : ℕ) : Type 0 where
+  pub c≤ : c ≤ m
+  pub len : length s ≡ length d
+  pub front : Front (flatQuads (tabulate f c)) s
+
+pub quads-start : (f : ℕ → Quad) (m : ℕ) (d : List ℕ) → QuadLoop f m d d 0
 unfolding tabulate flatQuads
-quads-zero f s = front-none s
+quads-start f m d = record { c≤ = zero-le; len = refl; front = front-none d }
+
+length-with-quad : (s : List ℕ) (k : ℕ) (q : Quad) → length (withQuad s k q) ≡ length s
+length-with-quad s k (quad a b c d) = simp length-set
+
+pub quads-turn : {f : ℕ → Quad} {m : ℕ} {d s : List ℕ} {c : ℕ} (r : List ℕ) → QuadLoop f m d s c → c < m → 4 * m ≤ length d → r ≡ withQuad s c (f c) → QuadLoop f m d r (c + 1)
+quads-turn {f} {m} {d} {s} {c} r I h b er = record {
+  c≤ = omega arith;
+  len = rw er (length-with-quad s c (f c) ∙ I .len);
+  front = rw (add-one c, tab-suc f c, er) (front-quad (tabulate f c) c (f c) (I .front) (sym (length-tab f c)) (omega (arith, I .len)));
+}
+
+pub quads-end : {f : ℕ → Quad} {m : ℕ} {d s : List ℕ} {c : ℕ} → QuadLoop f m d s c → m ≤ c → Front (flatQuads (tabulate f m)) s
+quads-end {f} {m} {d} {s} {c} I h = let e : c ≡ m = omega (arith, I .c≤) in rw e at (I .front)
+
+-- the child quad that is read from the numbers
+pub child-read : (nq num c : ℕ) (Q w s r : List ℕ) → num + 5 * nq ≤ length w → c < 4 * nq
+    → r ≡ withQuad s c (quad (getD Q (4 * (c / 4) + c % 4) 0) (getD w (num + (5 * (c / 4) + c % 4)) 0) (getD w (num + (5 * (c / 4) + 4)) 0) (getD w (num + (5 * (c / 4) + (c % 4 + 3) % 4)) 0))
+    → r ≡ withQuad s c (childAt (nth (part num (5 * nq) w)) Q c)
+child-read nq num c Q w s r h b e =
+    let P = part-of num (5 * nq) w h in
+    rw (← part-get 0 (5 * (c / 4) + c % 4) P (omega arith), ← part-get 0 (5 * (c / 4) + 4) P (omega arith), ← part-get 0 (5 * (c / 4) + (c % 4 + 3) % 4) P (omega arith)) e
 
 -- ---- corners in range
 

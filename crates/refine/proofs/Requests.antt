@@ -109,10 +109,10 @@ made-snoc seen (x ∷ l) r = go (eqb (sum (is (x .key)) seen) 0) (made-snoc (see
     go true p q = rw p
     go false p q = q
 
-made-new : (seen : List ℕ) (r : Request) → sum (is (r .key)) seen ≡ 0 → made seen (r ∷ []) ≡ r ∷ []
+pub made-new : (seen : List ℕ) (r : Request) → sum (is (r .key)) seen ≡ 0 → made seen (r ∷ []) ≡ r ∷ []
 made-new seen r h = rw (eq-eqb (sum (is (r .key)) seen) 0 h)
 
-made-old : (seen : List ℕ) (r : Request) → 0 < sum (is (r .key)) seen → made seen (r ∷ []) ≡ []
+pub made-old : (seen : List ℕ) (r : Request) → 0 < sum (is (r .key)) seen → made seen (r ∷ []) ≡ []
 made-old seen r h = rw (ne-eqb (sum (is (r .key)) seen) 0 (λ e. omega arith))
 
 -- ---- the labels and the quads in order

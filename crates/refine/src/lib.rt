@@ -186,14 +186,14 @@ fn position(points: &[f64], quads: &[u32], np: usize, nq: usize, q: usize, j: us
 }
 
 // Copies the first n points.
-fn copy_points(n: usize, points: &[f64], new_points: &mut [f64])
+fn copy_points(n: usize, points: &[f64], out: &mut [f64])
     requires { ⌜ 3 * n ≤ length (now points) ⌝ }
-    requires { ⌜ 3 * n ≤ length (now new_points) ⌝ }
-    ensures { λ _. ⌜ Front (flatPoints (pointsOf n (now (points .entry)))) (now (new_points .exit)) ⌝ }
+    requires { ⌜ 3 * n ≤ length (now out) ⌝ }
+    ensures { λ _. ⌜ Front (flatPoints (pointsOf n (now (points .entry)))) (now (out .exit)) ⌝ }
 {
     let mut v = 0;
     while v < n {
-        points::put_point(new_points, v, points::point_at(points, v));
+        points::put_point(out, v, points::point_at(points, v));
         v += 1;
     }
 }
@@ -208,15 +208,15 @@ fn put_request(
     num: usize,
     t: usize,
     w: &[u32],
-    new_points: &mut [f64],
+    out: &mut [f64],
 )
-    requires { ⌜ Writing np nq (now points) (now quads) first num (part first (5 * nq) (now w)) (part num (5 * nq) (now w)) (now w) (length (now new_points)) ⌝ }
+    requires { ⌜ Writing np nq (now points) (now quads) first num (part first (5 * nq) (now w)) (part num (5 * nq) (now w)) (now w) (length (now out)) ⌝ }
     requires { ⌜ t < 5 * nq ⌝ }
-    ensures { λ _. ⌜ now (new_points .exit) ≡ putRequest (part first (5 * nq) (now (w .entry))) (part num (5 * nq) (now (w .entry))) (pointAt (now (points .entry))) (now (quads .entry)) t (now (new_points .entry)) ⌝ }
+    ensures { λ _. ⌜ now (out .exit) ≡ putRequest (part first (5 * nq) (now (w .entry))) (part num (5 * nq) (now (w .entry))) (pointAt (now (points .entry))) (now (quads .entry)) t (now (out .entry)) ⌝ }
 {
     if w[first + t] as usize == t {
         let p = position(points, quads, np, nq, t / 5, t % 5);
-        points::put_point(new_points, lists::at(w, num + t), p);
+        points::put_point(out, lists::at(w, num + t), p);
         return;
     }
 }
@@ -230,16 +230,16 @@ fn put_points(
     first: usize,
     num: usize,
     w: &[u32],
-    new_points: &mut [f64],
+    out: &mut [f64],
 )
-    requires { ⌜ Writing np nq (now points) (now quads) first num (part first (5 * nq) (now w)) (part num (5 * nq) (now w)) (now w) (length (now new_points)) ⌝ }
+    requires { ⌜ Writing np nq (now points) (now quads) first num (part first (5 * nq) (now w)) (part num (5 * nq) (now w)) (now w) (length (now out)) ⌝ }
     requires { ⌜ Numbered np (5 * nq) (part first (5 * nq) (now w)) (part num (5 * nq) (now w)) ⌝ }
-    requires { ⌜ Front (flatPoints (pointsOf np (now points))) (now new_points) ⌝ }
-    ensures { λ _. ⌜ Front (flatPoints (pointsOf np (now (points .entry)) ++ madeTo (part first (5 * nq) (now (w .entry))) (pointAt (now (points .entry))) (now (quads .entry)) (5 * nq))) (now (new_points .exit)) ⌝ }
+    requires { ⌜ Front (flatPoints (pointsOf np (now points))) (now out) ⌝ }
+    ensures { λ _. ⌜ Front (flatPoints (pointsOf np (now (points .entry)) ++ madeTo (part first (5 * nq) (now (w .entry))) (pointAt (now (points .entry))) (now (quads .entry)) (5 * nq))) (now (out .exit)) ⌝ }
 {
     let mut t = 0;
     while t < 5 * nq {
-        put_request(np, nq, points, quads, first, num, t, w, new_points);
+        put_request(np, nq, points, quads, first, num, t, w, out);
         t += 1;
     }
 }
@@ -256,12 +256,12 @@ fn put_quad(quads: &mut [u32], i: usize, a: u32, b: u32, c: u32, d: u32)
 }
 
 // Puts the child quad at corner c.
-fn put_child(nq: usize, quads: &[u32], num: usize, c: usize, w: &[u32], new_quads: &mut [u32])
+fn put_child(nq: usize, quads: &[u32], num: usize, c: usize, w: &[u32], out: &mut [u32])
     requires { ⌜ c < 4 * nq ⌝ }
     requires { ⌜ 4 * nq ≤ length (now quads) ⌝ }
     requires { ⌜ num + 5 * nq ≤ length (now w) ⌝ }
-    requires { ⌜ 16 * nq ≤ length (now new_quads) ⌝ }
-    ensures { λ _. ⌜ now (new_quads .exit) ≡ withQuad (now (new_quads .entry)) c (childAt (nth (part num (5 * nq) (now (w .entry)))) (now (quads .entry)) c) ⌝ }
+    requires { ⌜ 16 * nq ≤ length (now out) ⌝ }
+    ensures { λ _. ⌜ now (out .exit) ≡ withQuad (now (out .entry)) c (childAt (nth (part num (5 * nq) (now (w .entry)))) (now (quads .entry)) c) ⌝ }
 {
     let q = c / 4;
     let j = c % 4;
@@ -269,32 +269,32 @@ fn put_child(nq: usize, quads: &[u32], num: usize, c: usize, w: &[u32], new_quad
     let b = w[num + (5 * q + j)];
     let e = w[num + (5 * q + 4)];
     let d = w[num + (5 * q + (j + 3) % 4)];
-    put_quad(new_quads, c, a, b, e, d);
+    put_quad(out, c, a, b, e, d);
 }
 
 // Puts the four children of every quad.
-fn put_quads(nq: usize, quads: &[u32], num: usize, w: &[u32], new_quads: &mut [u32])
+fn put_quads(nq: usize, quads: &[u32], num: usize, w: &[u32], out: &mut [u32])
     requires { ⌜ 4 * nq ≤ length (now quads) ⌝ }
     requires { ⌜ num + 5 * nq ≤ length (now w) ⌝ }
-    requires { ⌜ 16 * nq ≤ length (now new_quads) ⌝ }
-    ensures { λ _. ⌜ Front (flatQuads (tabulate (childAt (nth (part num (5 * nq) (now (w .entry)))) (now (quads .entry))) (4 * nq))) (now (new_quads .exit)) ⌝ }
+    requires { ⌜ 16 * nq ≤ length (now out) ⌝ }
+    ensures { λ _. ⌜ Front (flatQuads (tabulate (childAt (nth (part num (5 * nq) (now (w .entry)))) (now (quads .entry))) (4 * nq))) (now (out .exit)) ⌝ }
 {
     let mut c = 0;
     while c < 4 * nq {
-        put_child(nq, quads, num, c, w, new_quads);
+        put_child(nq, quads, num, c, w, out);
         c += 1;
     }
 }
 
 // Puts each quad's label four times.
-fn put_labels(nq: usize, labels: &[u8], new_labels: &mut [u8])
+fn put_labels(nq: usize, labels: &[u8], out: &mut [u8])
     requires { ⌜ nq ≤ length (now labels) ⌝ }
-    requires { ⌜ 4 * nq ≤ length (now new_labels) ⌝ }
-    ensures { λ _. ⌜ Front (tabulate (labelAt (now (labels .entry))) (4 * nq)) (now (new_labels .exit)) ⌝ }
+    requires { ⌜ 4 * nq ≤ length (now out) ⌝ }
+    ensures { λ _. ⌜ Front (tabulate (labelAt (now (labels .entry))) (4 * nq)) (now (out .exit)) ⌝ }
 {
     let mut i = 0;
     while i < 4 * nq {
-        new_labels[i] = labels[i / 4];
+        out[i] = labels[i / 4];
         i += 1;
     }
 }

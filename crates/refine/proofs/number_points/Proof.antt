@@ -1,7 +1,7 @@
 use native.Mathlib.Omega.{arith}
 use borrow.Author.Needs.{needs}
 use Prim.Native.Nat.{_-_}
-use Rattle.refine.proofs.Loops.{bit-le, NumberLoop, numbers-start, numbers-ready, numbers-turn, numbers-small, numbers-end}
+use Rattle.refine.proofs.Loops.{NumberLoop, numbers-start, numbers-ready, numbers-turn, numbers-small, numbers-end}
 use Rattle.refine.proofs.number_points.Statement.{statement}
 use Rattle.refine.proofs.number_points.Tie as tie
 use Rattle.refine.proofs.number_points.Reads as reads

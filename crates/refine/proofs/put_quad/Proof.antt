@@ -1,75 +1,59 @@
 use native.Mathlib.Omega.{arith}
 use borrow.Author.Needs.{needs}
+use lib.ListN.{length-set}
 use Rattle.refine.proofs.put_quad.Statement.{statement}
 use Rattle.refine.proofs.put_quad.Tie as tie
 use Rattle.refine.proofs.put_quad.Reads as reads
 use Rattle.refine.proofs.put_quad.Lts as lts
 
--- src/lib.rt:252:11
 mul-quads : tie.Need-mul-quads
 mul-quads c = search needs
 
--- src/lib.rt:252:5
 mul-quads-2 : tie.Need-mul-quads-2
 mul-quads-2 c = search needs
 
--- src/lib.rt:252:5
 slice-write-quads : tie.Need-slice-write-quads
 slice-write-quads c = search needs
 
--- src/lib.rt:253:11
 mul-quads-3 : tie.Need-mul-quads-3
 mul-quads-3 c = search needs
 
--- src/lib.rt:253:11
 add-quads : tie.Need-add-quads
 add-quads c = search needs
 
--- src/lib.rt:253:5
 mul-quads-4 : tie.Need-mul-quads-4
 mul-quads-4 c = search needs
 
--- src/lib.rt:253:5
 slice-write-quads-2 : tie.Need-slice-write-quads-2
-slice-write-quads-2 c = omega arith
+slice-write-quads-2 c = simp length-set (omega arith)
 
--- src/lib.rt:254:11
 mul-quads-5 : tie.Need-mul-quads-5
 mul-quads-5 c = search needs
 
--- src/lib.rt:254:11
 add-quads-2 : tie.Need-add-quads-2
 add-quads-2 c = search needs
 
--- src/lib.rt:254:5
 mul-quads-6 : tie.Need-mul-quads-6
 mul-quads-6 c = search needs
 
--- src/lib.rt:254:5
 slice-write-quads-3 : tie.Need-slice-write-quads-3
-slice-write-quads-3 c = omega arith
+slice-write-quads-3 c = simp length-set (omega arith)
 
--- src/lib.rt:255:11
 mul-quads-7 : tie.Need-mul-quads-7
 mul-quads-7 c = search needs
 
--- src/lib.rt:255:11
 add-quads-3 : tie.Need-add-quads-3
 add-quads-3 c = search needs
 
--- src/lib.rt:255:5
 mul-quads-8 : tie.Need-mul-quads-8
 mul-quads-8 c = search needs
 
--- src/lib.rt:255:5
 slice-write-quads-4 : tie.Need-slice-write-quads-4
-slice-write-quads-4 c = omega arith
+slice-write-quads-4 c = simp length-set (omega arith)
 
--- src/lib.rt:248:1
 same-length : tie.Need-same-length
 same-length c = search needs
 
--- src/lib.rt:248:1
 returns : tie.Need-returns
 returns c = search needs
 
