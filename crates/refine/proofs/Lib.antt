@@ -1,3 +1,4 @@
 pub mod Requests
 pub mod Edges
 pub mod Loops
+pub mod Sheet

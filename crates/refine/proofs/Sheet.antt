@@ -28,17 +28,13 @@ use Rattle.sheet.proofs.FirstUse.{First, usedTo, ownFirst, used-new, used-old, 
 use Rattle.results.specs.Results.{countsOf}
 use Rattle.incidence.specs.Corners.{Cornered}
 use Rattle.refine.specs.Finer.{split, fourLabels, edgeKey, centreKey, keys, asked, midOf, cenOf, finer, centreP, Request, request, keyOf, positionOf, requests, made, pointIn, newPoints, finerSheet}
-use Rattle.refine.specs.Requests.{keyIn, positionIn, keyAt, requestAt, keysOf, firstOf, own, numberOf, childAt, labelAt}
+use Rattle.refine.specs.Requests.{keyIn, positionIn, keyAt, requestAt, keysOf, firstOf, firstsOf, own, numberOf, childAt, labelAt}
 use Rattle.refine.specs.Loops.{Firsts, madeTo}
 use Rattle.refine.proofs.Edges.{first-of}
 use Rattle.refine.proofs.Loops.{length-made}
 use Rattle.refine.proofs.Requests.{map-append, map-tab, requests-flat, keys-flat, asked-made, made-snoc, made-new, made-old, labels-flat, Numbers, split-flat}
 
 -- ---- the numbers
-
--- the first requests of all requests
-abbrev pub firstsOf : ℕ → ℕ → List ℕ → List ℕ
-firstsOf np nq Q = tabulate (firstOf np nq Q) (5 * nq)
 
 module _ {np nq : ℕ} {Q : List ℕ} (C : Cornered np nq Q) where
   first-at : (t : ℕ) → t < 5 * nq → getD (firstsOf np nq Q) t 0 ≡ firstOf np nq Q t
@@ -160,7 +156,7 @@ length-four [] = refl
 length-four (x ∷ l) = omega (arith, length-four l)
 
 -- the finer sheet of the lent one
-module _ {c : Counts} {P : List Float} {Q labels : List ℕ} (C : Cornered (c .points) (c .quads) Q) (same : c .labels ≡ c .quads) (long : c .labels ≤ length labels) where
+module _ (c : Counts) (P : List Float) (Q labels : List ℕ) (C : Cornered (c .points) (c .quads) Q) (same : c .labels ≡ c .quads) (long : c .labels ≤ length labels) where
   abbrev pub finerOf : Sheet
   finerOf = finerSheet (sheetOf c P Q labels)
 

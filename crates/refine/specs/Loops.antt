@@ -11,8 +11,10 @@ use Rattle.points.specs.Points.{withPoint}
 use Rattle.lists.specs.Sort.{tabulate}
 use Rattle.lists.specs.Every.{countTo}
 use Rattle.lists.specs.Regions.{Part, Apart}
+use Rattle.sheet.specs.declared.Counts.{Counts}
+use Rattle.sheet.specs.Sheet.{LentSheet}
 use Rattle.incidence.specs.Corners.{Cornered, edgeOrder}
-use Rattle.refine.specs.Requests.{linkedTo, own, numberOf, positionIn}
+use Rattle.refine.specs.Requests.{firstsOf, linkedTo, own, numberOf, positionIn}
 
 -- corner c is a number of the n points
 abbrev pub lowAt : ℕ → List ℕ → ℕ → Bool
@@ -69,3 +71,35 @@ pub record Writing (np nq : ℕ) (P : List Float) (Q : List ℕ) (first num : �
 pub record Numbered (n m : ℕ) (F N : List ℕ) : Type 0 where
   pub firsts : Firsts m F
   pub is : N ≡ tabulate (numberOf n F) m
+
+-- where the first requests and the numbers stand in the work slice
+abbrev pub firstsAt : ℕ → ℕ → ℕ
+firstsAt np nq = 9 * (np + nq)
+
+abbrev pub numbersAt : ℕ → ℕ → ℕ
+numbersAt np nq = 14 * (np + nq)
+
+-- how many points the finer sheet has
+abbrev pub pointsAfter : ℕ → ℕ → List ℕ → ℕ
+pointsAfter np nq Q = np + countTo (own (firstsOf np nq Q)) (5 * nq)
+
+-- the work slice w with the first requests and the numbers of all requests
+pub record Worked (np nq : ℕ) (Q w : List ℕ) : Type 0 where
+  pub firsts : Part (firstsAt np nq) (5 * nq) (firstsOf np nq Q) w
+  pub numbers : Part (numbersAt np nq) (5 * nq) (tabulate (numberOf np (firstsOf np nq Q)) (5 * nq)) w
+
+-- what the writing of the finer sheet asks: the sheet, the work done, and room in result slices of p, q and l elements
+pub record Finished (np nq : ℕ) (P : List Float) (Q labels w : List ℕ) (p q l : ℕ) : Type 0 where
+  pub held : Held np nq P Q
+  pub worked : Worked np nq Q w
+  pub labelled : nq ≤ length labels
+  pub in-points : 3 * pointsAfter np nq Q ≤ p
+  pub in-quads : 16 * nq ≤ q
+  pub in-labels : 4 * nq ≤ l
+
+-- what the refining asks after the tests 12, 13, 5 and 6, of slices of p, .. and l elements and of work of w elements
+pub record Refinable (c : Counts) (p : ℕ) (Q : List ℕ) (l w : ℕ) : Type 0 where
+  pub lent : LentSheet c p (length Q) l
+  pub same : c .labels ≡ c .quads
+  pub cornered : Cornered (c .points) (c .quads) Q
+  pub work : 64 * (c .points + c .quads) ≤ w

@@ -52,6 +52,10 @@ keysOf n nq Q = tabulate (keyAt n Q) (5 * nq)
 unfoldable pub firstOf : ℕ → ℕ → List ℕ → ℕ → ℕ
 firstOf n nq Q t = place (keyAt n Q t) (keysOf n nq Q)
 
+-- the first requests of all requests
+abbrev pub firstsOf : ℕ → ℕ → List ℕ → List ℕ
+firstsOf n nq Q = tabulate (firstOf n nq Q) (5 * nq)
+
 -- request t is the first of its key
 abbrev pub own : List ℕ → ℕ → Bool
 own F t = eqb (getD F t 0) t

@@ -20,9 +20,17 @@ ghost use Rattle.sheet.specs.Flat.{corner, quadsOf, flatQuads};
 ghost use Rattle.sheet.specs.Sheet.{pointsOf, flatPoints, sheetOf, LentSheet, LentWork};
 ghost use Rattle.results.specs.Results.{Leaves, Fills, Front};
 ghost use Rattle.incidence.specs.Corners.{Cornered, edgeOrder};
-ghost use Rattle.refine.specs.Finer.{centreP, finerCount, refined, refineRule};
-ghost use Rattle.refine.specs.Requests.{requestOf, sameEdge, positionIn, firstOf, linkedTo, own, numberOf, childAt, withQuad, labelAt};
-ghost use Rattle.refine.specs.Loops.{lowAt, nth, Linking, Firsts, Numbering, Held, putRequest, madeTo, Writing, Numbered};
+ghost use Rattle.refine.specs.Finer.{centreP, finerSheet, madeOrShort, refineRule};
+ghost use Rattle.refine.specs.Requests.{requestOf, sameEdge, positionIn, firstOf, linkedTo, own, numberOf, childAt, withQuad, labelAt, firstsOf};
+ghost use Rattle.refine.specs.Loops.{lowAt, nth, Linking, Firsts, Numbering, Held, putRequest, madeTo, Writing, Numbered, Worked, Finished, Refinable, pointsAfter};
+
+// Regions of the work slice, in units of points and quads together: behind the counters of the sort and its first order stand the corners in the
+// order of their edges, the first request of each request's key, and the numbers of the requests' points.
+const ORDER: usize = 5;
+
+const FIRST: usize = 9;
+
+const NUMBERS: usize = 14;
 
 // The centre of a quad.
 fn centre(p: Point, q: Point, r: Point, s: Point) -> Point
@@ -297,4 +305,136 @@ fn put_labels(nq: usize, labels: &[u8], out: &mut [u8])
         out[i] = labels[i / 4];
         i += 1;
     }
+}
+
+// Finds the first request of each key and numbers the new points, in regions of the work slice; how many points there are then.
+fn number_sheet(np: usize, nq: usize, quads: &[u32], w: &mut [u32]) -> usize
+    requires { ⌜ Cornered np nq (now quads) ⌝ }
+    requires { ⌜ np ≤ 1048576 ⌝ }
+    requires { ⌜ 64 * (np + nq) ≤ length (now w) ⌝ }
+    ensures { λ r. ⌜ r ≡ pointsAfter np nq (now (quads .entry)) ⌝ }
+    ensures { λ _. ⌜ Worked np nq (now (quads .entry)) (now (w .exit)) ⌝ }
+{
+    let n = np + nq;
+    let order = ORDER * n;
+    let first = FIRST * n;
+    let m = 5 * nq;
+    incidence::edge_order(np, nq, quads, n, 0, order, w);
+    lists::number(&mut w[first..first + m]);
+    link_edges(np, nq, quads, order, first, w);
+    number_points(np, m, first, NUMBERS * n, w)
+}
+
+// Writes the points, quads and labels of the finer sheet.
+fn put_sheet(
+    np: usize,
+    nq: usize,
+    points: &[f64],
+    quads: &[u32],
+    labels: &[u8],
+    w: &[u32],
+    new_points: &mut [f64],
+    new_quads: &mut [u32],
+    new_labels: &mut [u8],
+)
+    requires { ⌜ Finished np nq (now points) (now quads) (now labels) (now w) (length (now «new_points»)) (length (now «new_quads»)) (length (now «new_labels»)) ⌝ }
+    ensures { λ _. ⌜ Front (flatPoints (pointsOf np (now (points .entry)) ++ madeTo (firstsOf np nq (now (quads .entry))) (pointAt (now (points .entry))) (now (quads .entry)) (5 * nq))) (now («new_points» .exit)) ⌝ }
+    ensures { λ _. ⌜ Front (flatQuads (tabulate (childAt (numberOf np (firstsOf np nq (now (quads .entry)))) (now (quads .entry))) (4 * nq))) (now («new_quads» .exit)) ⌝ }
+    ensures { λ _. ⌜ Front (tabulate (labelAt (now (labels .entry))) (4 * nq)) (now («new_labels» .exit)) ⌝ }
+{
+    let n = np + nq;
+    copy_points(np, points, new_points);
+    put_points(np, nq, points, quads, FIRST * n, NUMBERS * n, w, new_points);
+    put_quads(nq, quads, NUMBERS * n, w, new_quads);
+    put_labels(nq, labels, new_labels);
+}
+
+// The finer sheet of a sheet whose corners are points; 13 if the result slices or the limit hold less.
+fn refine_tested(
+    c: Counts,
+    points: &[f64],
+    quads: &[u32],
+    labels: &[u8],
+    new_points: &mut [f64],
+    new_quads: &mut [u32],
+    new_labels: &mut [u8],
+    w: &mut [u32],
+) -> Made
+    requires { ⌜ Refinable c (length (now points)) (now quads) (length (now labels)) (length (now w)) ⌝ }
+    ensures { λ r. ⌜ Fills (madeOrShort (finerSheet (sheetOf c (now (points .entry)) (now (quads .entry)) (now (labels .entry)))) (length (now («new_points» .entry))) (length (now («new_quads» .entry))) (length (now («new_labels» .entry)))) r (now («new_points» .exit)) (now («new_quads» .exit)) (now («new_labels» .exit)) ⌝ }
+{
+    let np = c.points;
+    let nq = c.quads;
+    let made = Counts {
+        points: number_sheet(np, nq, quads, w),
+        quads: 4 * nq,
+        labels: 4 * nq,
+    };
+    if sheet::is_large(made) {
+        return Made::Refused(sheet::SHORT);
+    }
+    if sheet::is_short(made, new_points.len(), new_quads.len(), new_labels.len()) {
+        return Made::Refused(sheet::SHORT);
+    }
+    put_sheet(np, nq, points, quads, labels, w, new_points, new_quads, new_labels);
+    Made::Done(made)
+}
+
+// The finer sheet, or the first refusal; the slices behind it may hold anything.
+fn refine_or_refusal(
+    c: Counts,
+    points: &[f64],
+    quads: &[u32],
+    labels: &[u8],
+    new_points: &mut [f64],
+    new_quads: &mut [u32],
+    new_labels: &mut [u8],
+    w: &mut [u32],
+    floats: usize,
+) -> Made
+    ensures { λ r. ⌜ Fills (refineRule c (now (points .entry)) (now (quads .entry)) (now (labels .entry)) (length (now (w .entry))) floats (length (now («new_points» .entry))) (length (now («new_quads» .entry))) (length (now («new_labels» .entry)))) r (now («new_points» .exit)) (now («new_quads» .exit)) (now («new_labels» .exit)) ⌝ }
+{
+    let v = sheet::lent(c, points.len(), quads.len(), labels.len(), w.len(), floats);
+    if let Verdict::Refused(n) = v {
+        return Made::Refused(n);
+    }
+    if c.labels != c.quads {
+        return Made::Refused(sheet::BARE);
+    }
+    if in_range(c.points, 4 * c.quads, quads) {
+        return refine_tested(c, points, quads, labels, new_points, new_quads, new_labels, w);
+    }
+    Made::Refused(sheet::CORNER)
+}
+
+// Refines a sheet: a halfway point on each edge, a centre in each quad, four quads for each. The sheet goes to the result slices, the answer has its counts.
+pub fn refine(
+    c: Counts,
+    points: &[f64],
+    quads: &[u32],
+    labels: &[u8],
+    new_points: &mut [f64],
+    new_quads: &mut [u32],
+    new_labels: &mut [u8],
+    work: &mut [u32],
+    floats: &mut [f64],
+) -> Made
+    ensures { λ r. ⌜ Leaves (refineRule c (now (points .entry)) (now (quads .entry)) (now (labels .entry)) (length (now (work .entry))) (length (now (floats .entry))) (length (now («new_points» .entry))) (length (now («new_quads» .entry))) (length (now («new_labels» .entry)))) (length (now («new_points» .entry))) (length (now («new_quads» .entry))) (length (now («new_labels» .entry))) r (now («new_points» .exit)) (now («new_quads» .exit)) (now («new_labels» .exit)) ⌝ }
+    ensures { λ _. ⌜ now (work .exit) ≡ replicate (length (now (work .entry))) 0 ⌝ }
+    ensures { λ _. ⌜ now (floats .exit) ≡ replicate (length (now (floats .entry))) zeroF ⌝ }
+{
+    let r = refine_or_refusal(
+        c,
+        points,
+        quads,
+        labels,
+        new_points,
+        new_quads,
+        new_labels,
+        work,
+        floats.len(),
+    );
+    results::clear_unused(results::shown_counts(r), new_points, new_quads, new_labels);
+    results::clear_work(work, floats);
+    r
 }
