@@ -19,7 +19,7 @@ shown-counts-requires c κs = search needs
 
 -- src/lib.rt:437:5
 clear-unused-requires : tie.Need-clear-unused-requires
-clear-unused-requires c κs = search needs
+clear-unused-requires c κs = ?
 
 -- src/lib.rt:438:5
 clear-work-requires : tie.Need-clear-work-requires
