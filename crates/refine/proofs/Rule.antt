@@ -29,7 +29,9 @@ use Rattle.sheet.proofs.Flat.{length-quads}
 use Rattle.sheet.proofs.Tests.{all-tab, few-of, lent-is, length-points}
 use Rattle.results.specs.declared.Made.{Made}
 use Rattle.results.specs.declared.Made.the-variants as made
-use Rattle.results.specs.Results.{Outcome, refuses, makes, answerOf, countsOf, Front, Fills}
+use Rattle.numeric.specs.Num.{zeroF}
+use Rattle.results.specs.Results.{Outcome, refuses, makes, answerOf, countsOf, Front, Fills, Leaves, Room, cleared, shownCounts}
+use Rattle.results.proofs.Results.{fills-room, fills-leaves}
 use Rattle.incidence.specs.Corners.{Cornered, edgeOrder}
 use Rattle.refine.specs.Finer.{finerSheet, madeOrShort, refined, afterLent, refineRule}
 use Rattle.refine.specs.Requests.{firstOf, firstsOf, own, numberOf, childAt, labelAt, linkedTo}
@@ -243,3 +245,13 @@ module _ (c : Counts) (P : List Float) (Q labels : List ℕ) (w f p q l : ℕ) w
         → Fills (madeOrShort (finerSheet (sheetOf c P Q labels)) p q l) a A B D → Fills Rule a A B D
     unfolding refineRule refined
     rule-tested a A B D s r F = rw (e, length-labels, length-quads (c .quads) Q, eq-eqb (c .labels) (c .quads) s, length-points (c .points) P, ← range-is (c .points) (c .quads) Q, r) F
+
+-- ---- the slices once they are cleared
+
+pub shown-room : {o : Outcome} {r : Made} {P : List Float} {Q labels : List ℕ} {k : Counts} → Fills o r P Q labels → k ≡ shownCounts r → Room k (length P) (length Q) (length labels)
+shown-room F e = rw e (fills-room F)
+
+pub leaves-of : {o : Outcome} {r : Made} {P A : List Float} {Q labels B D : List ℕ} {k : Counts} (p q l : ℕ) → Fills o r P Q labels → k ≡ shownCounts r
+    → length P ≡ p → length Q ≡ q → length labels ≡ l
+    → (A ≡ cleared zeroF (3 * k .points) P) × ((B ≡ cleared 0 (4 * k .quads) Q) × (D ≡ cleared 0 (k .labels) labels)) → Leaves o p q l r A B D
+leaves-of {o} {r} {P} {A} {Q} {labels} {B} {D} {k} p q l F e ep eq el E = rw (← ep, ← eq, ← el, E .0, E .1 .0, E .1 .1, e) (fills-leaves F)
