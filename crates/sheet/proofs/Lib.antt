@@ -3,3 +3,4 @@ pub mod Flat
 pub mod Edges
 pub mod Masks
 pub mod Tests
+pub mod FirstUse

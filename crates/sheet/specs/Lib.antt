@@ -5,3 +5,4 @@ pub mod Tests
 pub mod Numbers
 pub mod Sheet
 pub mod Closed
+pub mod FirstUse

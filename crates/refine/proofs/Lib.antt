@@ -1,0 +1,5 @@
+pub mod Requests
+pub mod Edges
+pub mod Loops
+pub mod Sheet
+pub mod Rule
