@@ -1,27 +1,22 @@
 -- The requests of a sheet's quads by their places, and the points that they make. Assumes nothing.
 use Prim.Native.Nat.{ℕ, zero, suc, _+_, _*_, _/_, _%_, _≤_, _<_}
-use mathlib.Core.Logic.{_⊎_, inl, inr, ⊎-elim}
 use mathlib.Core.Path.{_≡_, refl, sym, ap, _∙_}
 use mathlib.Core.Bool.{Bool, true, false, cond}
 use mathlib.Core.List.{List, [], _∷_, _++_, map, append-assoc, append-nil}
 use native.Mathlib.Omega.{arith}
-use native.Mathlib.Numerals.{add-one}
-use lib.ListN.{length, getD, length-append, take}
+use lib.ListN.{length, take}
 use lib.Seq.{take-suc}
 use lib.Dec.{eqb}
 use borrow.Author.Tests.{eq-eqb, ne-eqb}
 use Rattle.points.specs.declared.Point.{Point}
 use Rattle.points.specs.Points.{pointAt}
 use Rattle.lists.specs.Sort.{tabulate}
-use Rattle.lists.specs.Every.{countTo}
-use Rattle.lists.proofs.Laws.{eq-or-ne, lt-or-le, length-tab, getD-tab, tab-suc, tab-ext}
 use Rattle.sheet.specs.Quads.{Quad, quad, is, sum}
 use Rattle.sheet.specs.Flat.{corner, quadAt, quadsOf}
-use Rattle.sheet.specs.FirstUse.{firsts, place}
-use Rattle.sheet.proofs.Flat.{quads-suc, length-quads}
-use Rattle.refine.specs.Finer.{split, fourLabels, edgeKey, centreKey, keys, asked, midOf, cenOf, finer, finerCount, Request, request, keyOf, positionOf, requests, made}
-use Rattle.refine.specs.Requests.{keyIn, positionIn, keyAt, requestAt, keysOf, behind, childOf, childAt, labelAt}
-use Rattle.sheet.proofs.FirstUse.{firsts-append}
+use Rattle.sheet.specs.FirstUse.{firsts}
+use Rattle.sheet.proofs.Flat.{length-quads}
+use Rattle.refine.specs.Finer.{split, fourLabels, keys, asked, Request, keyOf, requests, made}
+use Rattle.refine.specs.Requests.{positionIn, keyAt, requestAt, keysOf, childAt, labelAt}
 
 -- ---- lists and tables
 

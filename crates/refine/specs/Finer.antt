@@ -1,6 +1,6 @@
 -- The finer sheet of `refine`: each quad becomes four round its centre. Document 01, "The finer sheet and the rows", and `refine` of 000.
 use Prim.Native.Nat.{ℕ, suc, _+_, _*_, min, max}
-use mathlib.Core.Bool.{Bool, cond, _||_}
+use mathlib.Core.Bool.{cond, _||_}
 use mathlib.Core.List.{List, [], _∷_, _++_, map}
 use lib.Dec.{eqb}
 use lib.ListN.{length, getD}

@@ -1,14 +1,8 @@
-use native.Mathlib.Omega.{arith}
+-- `refine::put_sheet` meets its contract. Assumes nothing.
 use borrow.Author.Needs.{needs}
 use Rattle.refine.proofs.Rule.{writing-of, numbered-of, points-put, quads-put}
 use Rattle.refine.proofs.put_sheet.Statement.{statement}
 use Rattle.refine.proofs.put_sheet.Tie as tie
-use Rattle.refine.proofs.put_sheet.Reads as reads
-use Rattle.refine.proofs.put_sheet.Lts as lts
-use Rattle.refine.proofs.copy_points.Reads as copy-points-reads
-use Rattle.refine.proofs.put_labels.Reads as put-labels-reads
-use Rattle.refine.proofs.put_points.Reads as put-points-reads
-use Rattle.refine.proofs.put_quads.Reads as put-quads-reads
 
 add-n : tie.Need-add-n
 add-n c = search needs

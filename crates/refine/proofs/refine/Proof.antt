@@ -1,14 +1,8 @@
-use native.Mathlib.Omega.{arith}
+-- `refine::refine` meets its contract. Assumes nothing.
 use borrow.Author.Needs.{needs}
 use Rattle.refine.proofs.Rule.{shown-room, leaves-of}
 use Rattle.refine.proofs.refine.Statement.{statement}
 use Rattle.refine.proofs.refine.Tie as tie
-use Rattle.refine.proofs.refine.Reads as reads
-use Rattle.refine.proofs.refine.Lts as lts
-use Rattle.refine.proofs.refine_or_refusal.Reads as refine-or-refusal-reads
-use Rattle.results.proofs.clear_unused.Reads as clear-unused-reads
-use Rattle.results.proofs.clear_work.Reads as clear-work-reads
-use Rattle.results.proofs.shown_counts.Reads as shown-counts-reads
 
 refine-or-refusal-requires : tie.Need-refine-or-refusal-requires
 refine-or-refusal-requires c κs = search needs

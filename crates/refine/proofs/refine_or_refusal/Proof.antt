@@ -1,3 +1,4 @@
+-- `refine::refine_or_refusal` meets its contract. Assumes nothing.
 use native.Mathlib.Omega.{arith}
 use borrow.Author.Needs.{needs}
 use mathlib.Core.Path.{_≡_, sym, _∙_}
@@ -7,11 +8,6 @@ use Rattle.sheet.specs.Sheet.{lentVerdict}
 use Rattle.refine.proofs.Rule.{rule-lent, rule-few, rule-bare, rule-corner, rule-refinable, rule-tested}
 use Rattle.refine.proofs.refine_or_refusal.Statement.{statement}
 use Rattle.refine.proofs.refine_or_refusal.Tie as tie
-use Rattle.refine.proofs.refine_or_refusal.Reads as reads
-use Rattle.refine.proofs.refine_or_refusal.Lts as lts
-use Rattle.refine.proofs.in_range.Reads as in-range-reads
-use Rattle.refine.proofs.refine_tested.Reads as refine-tested-reads
-use Rattle.sheet.proofs.lent.Reads as lent-reads
 
 accepted : (c : tie.After-struct-known2) →
     let a = c .before .before .before .before .before .before .before .before .before .before .before .before .before .args in

@@ -1,16 +1,10 @@
-use native.Mathlib.Omega.{arith}
+-- `refine::refine_tested` meets its contract. Assumes nothing.
 use borrow.Author.Needs.{needs}
 use mathlib.Core.Path.{sym, _∙_}
 use Rattle.sheet.proofs.Tests.{few-of}
 use Rattle.refine.proofs.Rule.{tested-large, tested-short, tested-finished, tested-done}
 use Rattle.refine.proofs.refine_tested.Statement.{statement}
 use Rattle.refine.proofs.refine_tested.Tie as tie
-use Rattle.refine.proofs.refine_tested.Reads as reads
-use Rattle.refine.proofs.refine_tested.Lts as lts
-use Rattle.refine.proofs.number_sheet.Reads as number-sheet-reads
-use Rattle.refine.proofs.put_sheet.Reads as put-sheet-reads
-use Rattle.sheet.proofs.is_large.Reads as is-large-reads
-use Rattle.sheet.proofs.is_short.Reads as is-short-reads
 
 number-sheet-requires : tie.Need-number-sheet-requires
 number-sheet-requires c κs = search needs
