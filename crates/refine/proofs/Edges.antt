@@ -156,15 +156,17 @@ neighbour {np} {nq} {Q} {E} i b S h l s =
     (λ (e : i ≡ k). absurd (omega (arith, ap (λ (m : ℕ). getD E m 0) e, I .at)))
     (λ (ne : i ≡ k → ⊥). absurd (later (S .order i k (omega arith) kb) (I .at)))
     (eq-or-ne i k))
-    (lt-or-le k i) in
-    (omega arith, ⊎-elim
-    (λ (e : k ≡ i - 1). rw (← e, I .at) s)
-    (λ (ne : k ≡ i - 1 → ⊥).
-    let o = S .order k (i - 1) (omega arith) (omega arith) in
-    let p = S .order (i - 1) i (omega arith) h in
-    let o′ : Before Q b (getD E (i - 1) 0) = rw (I .at) at o in
-    between (getD E (i - 1) 0) o′ p)
-    (eq-or-ne k (i - 1)))
+    (lt-or-le k i) in (
+      omega arith,
+      ⊎-elim
+          (λ (e : k ≡ i - 1). rw (← e, I .at) s)
+          (λ (ne : k ≡ i - 1 → ⊥).
+          let o = S .order k (i - 1) (omega arith) (omega arith) in
+          let p = S .order (i - 1) i (omega arith) h in
+          let o′ : Before Q b (getD E (i - 1) 0) = rw (I .at) at o in
+          between (getD E (i - 1) 0) o′ p)
+          (eq-or-ne k (i - 1)),
+    )
   where
     later : {d : ℕ} → Before Q (getD E i 0) d → d ≡ b → ⊥
     later {d} o e =

@@ -78,8 +78,7 @@ module _ {np nq : ℕ} {Q : List ℕ} {order first i : ℕ} {w : List ℕ} (L : 
       let s : Same Q (getD (edgeOrder np nq Q) (i - 1) 0) (getD (edgeOrder np nq Q) i 0) = rw (before p, here) at (same-yes Q _ _ e) in
       let v : getD w (first + y) 0 ≡ linkedTo np nq Q i (requestOf (getD (edgeOrder np nq Q) (i - 1) 0)) =
       part-get 0 y (L .linked) yb ∙ getD-tab (linkedTo np nq Q i) (5 * nq) y 0 yb ∙ ap (linkedTo np nq Q i) (ey ∙ ap requestOf (before p)) in
-      let ex′ : x ≡ requestOf (getD (edgeOrder np nq Q) i 0) = ex ∙ ap requestOf here in
-      (
+      let ex′ : x ≡ requestOf (getD (edgeOrder np nq Q) i 0) = ex ∙ ap requestOf here in (
         part-as (part-set x (getD w (first + y) 0) (L .linked) xb) (rw ex′ (linked-same (L .cornered) i (getD w (first + y) 0) h p s v)),
         kept-set (first + x) (getD w (first + y) 0) (kept-refl (Out first (5 * nq)) w) (λ o. o (omega arith) (omega arith)),
       )

@@ -52,8 +52,16 @@ five at n Q k =
     let d : (j : ℕ) → j < 5 → (5 * k + j) / 5 ≡ k = λ j h. omega arith in
     let r : (j : ℕ) → j < 5 → (5 * k + j) % 5 ≡ j = λ j h. omega arith in
     rw (
-      d 0 (omega arith), r 0 (omega arith), d 1 (omega arith), r 1 (omega arith), d 2 (omega arith), r 2 (omega arith),
-      d 3 (omega arith), r 3 (omega arith), d 4 (omega arith), r 4 (omega arith),
+      d 0 (omega arith),
+      r 0 (omega arith),
+      d 1 (omega arith),
+      r 1 (omega arith),
+      d 2 (omega arith),
+      r 2 (omega arith),
+      d 3 (omega arith),
+      r 3 (omega arith),
+      d 4 (omega arith),
+      r 4 (omega arith),
     )
 
 pub requests-flat : (at : ℕ → Point) (n nq : ℕ) (Q : List ℕ) → requests at n 0 (quadsOf nq Q) ≡ tabulate (requestAt at n Q) (5 * nq)
@@ -145,8 +153,19 @@ four {mid} {cen} {Q} {nq} {N} k R h =
     let e2 : mid (corner Q k 2) (corner Q k 3) ≡ N (5 * k + 2) = R .edge k 2 h (omega arith) in
     let e3 : mid (corner Q k 3) (corner Q k 0) ≡ N (5 * k + 3) = R .edge k 3 h (omega arith) in
     rw (
-      e0, e1, e2, e3, R .centre k h,
-      d 0 (omega arith), r 0 (omega arith), d 1 (omega arith), r 1 (omega arith), d 2 (omega arith), r 2 (omega arith), d 3 (omega arith), r 3 (omega arith),
+      e0,
+      e1,
+      e2,
+      e3,
+      R .centre k h,
+      d 0 (omega arith),
+      r 0 (omega arith),
+      d 1 (omega arith),
+      r 1 (omega arith),
+      d 2 (omega arith),
+      r 2 (omega arith),
+      d 3 (omega arith),
+      r 3 (omega arith),
     )
 
 pub split-flat : {mid : ℕ → ℕ → ℕ} {cen : ℕ → ℕ} {Q : List ℕ} {nq : ℕ} {N : ℕ → ℕ} (k : ℕ) → Numbers mid cen Q nq N → k ≤ nq → split mid cen 0 (quadsOf k Q) ≡ tabulate (childAt N Q) (4 * k)

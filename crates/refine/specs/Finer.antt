@@ -83,13 +83,15 @@ pub record Request : Type 0 where
   pub key : ℕ
   pub position : Point
 
+-- the request of a key at a position
 abbrev pub request : ℕ → Point → Request
 request k p = record { key = k; position = p }
 
--- the key and the position of a request
+-- the key of a request
 abbrev pub keyOf : Request → ℕ
 keyOf r = r .key
 
+-- the position of a request
 abbrev pub positionOf : Request → Point
 positionOf r = r .position
 

@@ -14,10 +14,11 @@ use Rattle.sheet.specs.FirstUse.{place}
 use Rattle.incidence.specs.Corners.{edgeOrder}
 use Rattle.refine.specs.Finer.{edgeKey, centreKey, centreP, Request, request}
 
--- the corner after corner j of a quad, and the one before it
+-- the corner after corner j of a quad
 abbrev pub after : ℕ → ℕ
 after j = (j + 1) % 4
 
+-- the corner before corner j of a quad
 abbrev pub behind : ℕ → ℕ
 behind j = (j + 3) % 4
 
