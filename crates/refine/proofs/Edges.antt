@@ -10,20 +10,19 @@ use native.Mathlib.Numerals.{add-one}
 use native.Mathlib.Nat.{le-of-suc-le-suc, mul-add-mod-self-right, mul-add-div-right, mod-eq-of-lt, div-eq-of-lt, suc-mul, mul-le-mul-right}
 use lib.ListN.{length, getD, set}
 use lib.Dec.{eqb}
-use borrow.Author.Tests.{eq-eqb, ne-eqb, eqb-true, eqb-false}
+use borrow.Author.Tests.{eq-eqb, ne-eqb, eqb-true}
 use Rattle.lists.specs.Sort.{tabulate, bucket, sortBy, start, consIf, itself}
 use Rattle.lists.specs.Every.{some}
 use Rattle.lists.proofs.Laws.{eq-or-ne, lt-or-le, length-tab, getD-tab, start-mono, getD-sort, Place, place, tab-ext, tab-set}
-use Rattle.lists.proofs.Every.{some-at, some-zero, or-split, and-left, and-right}
-use Rattle.lists.proofs.Order.{Each, each-bucket, bucket-key, In, in-bucket, Below, below-tab, below-sort}
-use Rattle.sheet.specs.Flat.{corner, from, to}
+use Rattle.lists.proofs.Every.{some-at, or-split, and-left, and-right}
+use Rattle.lists.proofs.Order.{Each, each-bucket, bucket-key, In, in-bucket, below-tab, below-sort}
+use Rattle.sheet.specs.Flat.{from, to}
 use Rattle.sheet.specs.Edges.{smaller, larger, allCorners}
 use Rattle.sheet.proofs.FirstUse.{First, place-first, first-unique}
 use Rattle.incidence.specs.declared.Key.the-variants.{Smaller, Larger}
 use Rattle.incidence.specs.Corners.{keyOf, Cornered, edgeOrder}
 use Rattle.incidence.proofs.Corners.{key-below}
-use Rattle.refine.specs.Finer.{edgeKey, centreKey}
-use Rattle.refine.specs.Requests.{requestOf, keyIn, keyAt, keysOf, firstOf, sameEdge, linkedTo, isLinked}
+use Rattle.refine.specs.Requests.{requestOf, keyAt, firstOf, sameEdge, linkedTo, isLinked}
 
 -- ---- lists that ascend, and their sorts
 
@@ -157,15 +156,17 @@ neighbour {np} {nq} {Q} {E} i b S h l s =
     (λ (e : i ≡ k). absurd (omega (arith, ap (λ (m : ℕ). getD E m 0) e, I .at)))
     (λ (ne : i ≡ k → ⊥). absurd (later (S .order i k (omega arith) kb) (I .at)))
     (eq-or-ne i k))
-    (lt-or-le k i) in
-    (omega arith, ⊎-elim
-    (λ (e : k ≡ i - 1). rw (← e, I .at) s)
-    (λ (ne : k ≡ i - 1 → ⊥).
-    let o = S .order k (i - 1) (omega arith) (omega arith) in
-    let p = S .order (i - 1) i (omega arith) h in
-    let o′ : Before Q b (getD E (i - 1) 0) = rw (I .at) at o in
-    between (getD E (i - 1) 0) o′ p)
-    (eq-or-ne k (i - 1)))
+    (lt-or-le k i) in (
+      omega arith,
+      ⊎-elim
+          (λ (e : k ≡ i - 1). rw (← e, I .at) s)
+          (λ (ne : k ≡ i - 1 → ⊥).
+          let o = S .order k (i - 1) (omega arith) (omega arith) in
+          let p = S .order (i - 1) i (omega arith) h in
+          let o′ : Before Q b (getD E (i - 1) 0) = rw (I .at) at o in
+          between (getD E (i - 1) 0) o′ p)
+          (eq-or-ne k (i - 1)),
+    )
   where
     later : {d : ℕ} → Before Q (getD E i 0) d → d ≡ b → ⊥
     later {d} o e =

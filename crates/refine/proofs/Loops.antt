@@ -1,6 +1,5 @@
 -- The turns of the loops of `refine`: the links from corner to corner, the numbers of the points, and the slices that are written. Assumes nothing.
 use Prim.Native.Nat.{ℕ, zero, suc, _+_, _-_, _*_, _/_, _%_, _^_, _≤_, _<_, zero-le}
-use mathlib.Core.Logic.{_⊎_, inl, inr, ⊎-elim}
 use mathlib.Core.Path.{_≡_, refl, sym, ap, _∙_}
 use mathlib.Core.Bool.{Bool, true, false, cond}
 use mathlib.Core.List.{List, [], _∷_, _++_, append-nil, append-assoc}
@@ -8,28 +7,27 @@ use native.Mathlib.Omega.{arith}
 use native.Mathlib.Numerals.{add-one}
 use lib.ListN.{length, getD, set, take, drop, length-append, length-set}
 use lib.Seq.{take-suc-set, take-at}
-use lib.Dec.{eqb}
 use lib.Ieee.{Float}
 use borrow.Author.Tests.{eq-eqb, ne-eqb, eqb-true, lt-ltb, le-ltb}
 use Rattle.points.specs.declared.Point.{Point}
 use Rattle.points.specs.Points.{pointAt, withPoint, halfwayP}
-use Rattle.lists.specs.Sort.{tabulate, itself}
+use Rattle.lists.specs.Sort.{tabulate}
 use Rattle.lists.specs.Every.{countTo}
-use Rattle.lists.specs.Regions.{part, Part, Out, Apart, Kept}
+use Rattle.lists.specs.Regions.{part, Part, Out, Kept}
 use Rattle.lists.proofs.Laws.{getD-tab, length-tab, tab-suc, Filled, filled-end}
-use Rattle.lists.proofs.Every.{count-le, count-mono, count-zero, count-yes, count-no}
-use Rattle.lists.proofs.Regions.{part-of, part-get, part-set, part-as, part-kept, part-len, kept-refl, kept-set, kept-then, RegionFilled, region-start, region-turn, region-part, region-end, region-other}
+use Rattle.lists.proofs.Every.{count-le, count-zero}
+use Rattle.lists.proofs.Regions.{part-of, part-get, part-set, part-as, part-kept, kept-refl, kept-set, RegionFilled, region-start, region-turn, region-part, region-end, region-other}
 use Rattle.sheet.specs.Quads.{Quad, quad}
 use Rattle.sheet.specs.Flat.{corner, flatQuads}
 use Rattle.sheet.specs.Sheet.{pointsOf, flatPoints}
 use Rattle.sheet.proofs.Tests.{length-points}
 use Rattle.results.specs.Results.{Front}
 use Rattle.results.proofs.Results.{length-flat-points, length-flat-quads}
-use Rattle.incidence.specs.Corners.{Cornered, edgeOrder}
+use Rattle.incidence.specs.Corners.{edgeOrder}
 use Rattle.refine.specs.Finer.{centreP}
 use Rattle.refine.specs.Requests.{requestOf, firstOf, own, numberOf, sameEdge, linkedTo, positionIn, childAt, withQuad}
-use Rattle.refine.specs.Loops.{lowAt, nth, Held, Linking, Firsts, Numbering, Numbered, Writing, madeTo, putRequest}
-use Rattle.refine.proofs.Edges.{Same, sorted, same-yes, same-no, linked-start, linked-new, linked-same, linked-end}
+use Rattle.refine.specs.Loops.{lowAt, nth, Held, Linking, Numbering, Numbered, Writing, madeTo, putRequest}
+use Rattle.refine.proofs.Edges.{Same, sorted, same-yes, same-no, linked-new, linked-same, linked-end}
 
 -- ---- the links
 
@@ -80,8 +78,7 @@ module _ {np nq : ℕ} {Q : List ℕ} {order first i : ℕ} {w : List ℕ} (L : 
       let s : Same Q (getD (edgeOrder np nq Q) (i - 1) 0) (getD (edgeOrder np nq Q) i 0) = rw (before p, here) at (same-yes Q _ _ e) in
       let v : getD w (first + y) 0 ≡ linkedTo np nq Q i (requestOf (getD (edgeOrder np nq Q) (i - 1) 0)) =
       part-get 0 y (L .linked) yb ∙ getD-tab (linkedTo np nq Q i) (5 * nq) y 0 yb ∙ ap (linkedTo np nq Q i) (ey ∙ ap requestOf (before p)) in
-      let ex′ : x ≡ requestOf (getD (edgeOrder np nq Q) i 0) = ex ∙ ap requestOf here in
-      (
+      let ex′ : x ≡ requestOf (getD (edgeOrder np nq Q) i 0) = ex ∙ ap requestOf here in (
         part-as (part-set x (getD w (first + y) 0) (L .linked) xb) (rw ex′ (linked-same (L .cornered) i (getD w (first + y) 0) h p s v)),
         kept-set (first + x) (getD w (first + y) 0) (kept-refl (Out first (5 * nq)) w) (λ o. o (omega arith) (omega arith)),
       )

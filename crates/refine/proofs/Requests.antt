@@ -1,27 +1,22 @@
 -- The requests of a sheet's quads by their places, and the points that they make. Assumes nothing.
 use Prim.Native.Nat.{ℕ, zero, suc, _+_, _*_, _/_, _%_, _≤_, _<_}
-use mathlib.Core.Logic.{_⊎_, inl, inr, ⊎-elim}
 use mathlib.Core.Path.{_≡_, refl, sym, ap, _∙_}
 use mathlib.Core.Bool.{Bool, true, false, cond}
 use mathlib.Core.List.{List, [], _∷_, _++_, map, append-assoc, append-nil}
 use native.Mathlib.Omega.{arith}
-use native.Mathlib.Numerals.{add-one}
-use lib.ListN.{length, getD, length-append, take}
+use lib.ListN.{length, take}
 use lib.Seq.{take-suc}
 use lib.Dec.{eqb}
 use borrow.Author.Tests.{eq-eqb, ne-eqb}
 use Rattle.points.specs.declared.Point.{Point}
 use Rattle.points.specs.Points.{pointAt}
 use Rattle.lists.specs.Sort.{tabulate}
-use Rattle.lists.specs.Every.{countTo}
-use Rattle.lists.proofs.Laws.{eq-or-ne, lt-or-le, length-tab, getD-tab, tab-suc, tab-ext}
 use Rattle.sheet.specs.Quads.{Quad, quad, is, sum}
 use Rattle.sheet.specs.Flat.{corner, quadAt, quadsOf}
-use Rattle.sheet.specs.FirstUse.{firsts, place}
-use Rattle.sheet.proofs.Flat.{quads-suc, length-quads}
-use Rattle.refine.specs.Finer.{split, fourLabels, edgeKey, centreKey, keys, asked, midOf, cenOf, finer, finerCount, Request, request, keyOf, positionOf, requests, made}
-use Rattle.refine.specs.Requests.{keyIn, positionIn, keyAt, requestAt, keysOf, behind, childOf, childAt, labelAt}
-use Rattle.sheet.proofs.FirstUse.{firsts-append}
+use Rattle.sheet.specs.FirstUse.{firsts}
+use Rattle.sheet.proofs.Flat.{length-quads}
+use Rattle.refine.specs.Finer.{split, fourLabels, keys, asked, Request, keyOf, requests, made}
+use Rattle.refine.specs.Requests.{positionIn, keyAt, requestAt, keysOf, childAt, labelAt}
 
 -- ---- lists and tables
 
@@ -57,8 +52,16 @@ five at n Q k =
     let d : (j : ℕ) → j < 5 → (5 * k + j) / 5 ≡ k = λ j h. omega arith in
     let r : (j : ℕ) → j < 5 → (5 * k + j) % 5 ≡ j = λ j h. omega arith in
     rw (
-      d 0 (omega arith), r 0 (omega arith), d 1 (omega arith), r 1 (omega arith), d 2 (omega arith), r 2 (omega arith),
-      d 3 (omega arith), r 3 (omega arith), d 4 (omega arith), r 4 (omega arith),
+      d 0 (omega arith),
+      r 0 (omega arith),
+      d 1 (omega arith),
+      r 1 (omega arith),
+      d 2 (omega arith),
+      r 2 (omega arith),
+      d 3 (omega arith),
+      r 3 (omega arith),
+      d 4 (omega arith),
+      r 4 (omega arith),
     )
 
 pub requests-flat : (at : ℕ → Point) (n nq : ℕ) (Q : List ℕ) → requests at n 0 (quadsOf nq Q) ≡ tabulate (requestAt at n Q) (5 * nq)
@@ -150,8 +153,19 @@ four {mid} {cen} {Q} {nq} {N} k R h =
     let e2 : mid (corner Q k 2) (corner Q k 3) ≡ N (5 * k + 2) = R .edge k 2 h (omega arith) in
     let e3 : mid (corner Q k 3) (corner Q k 0) ≡ N (5 * k + 3) = R .edge k 3 h (omega arith) in
     rw (
-      e0, e1, e2, e3, R .centre k h,
-      d 0 (omega arith), r 0 (omega arith), d 1 (omega arith), r 1 (omega arith), d 2 (omega arith), r 2 (omega arith), d 3 (omega arith), r 3 (omega arith),
+      e0,
+      e1,
+      e2,
+      e3,
+      R .centre k h,
+      d 0 (omega arith),
+      r 0 (omega arith),
+      d 1 (omega arith),
+      r 1 (omega arith),
+      d 2 (omega arith),
+      r 2 (omega arith),
+      d 3 (omega arith),
+      r 3 (omega arith),
     )
 
 pub split-flat : {mid : ℕ → ℕ → ℕ} {cen : ℕ → ℕ} {Q : List ℕ} {nq : ℕ} {N : ℕ → ℕ} (k : ℕ) → Numbers mid cen Q nq N → k ≤ nq → split mid cen 0 (quadsOf k Q) ≡ tabulate (childAt N Q) (4 * k)

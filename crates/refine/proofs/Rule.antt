@@ -1,22 +1,19 @@
 -- The stages of `refine`, from the work slice to the outcome of its rule. Assumes nothing.
-use Prim.Native.Nat.{ℕ, zero, suc, _+_, _-_, _*_, _/_, _%_, _^_, _≤_, _<_}
-use mathlib.Core.Logic.{⊎-elim}
+use Prim.Native.Nat.{ℕ, zero, suc, _+_, _-_, _*_, _/_, _%_, _≤_, _<_}
 use mathlib.Core.Path.{_≡_, refl, sym, ap, _∙_}
-use mathlib.Core.Bool.{Bool, true, false, cond, _&&_, _||_, true≢false}
-use mathlib.Core.List.{List, [], _∷_, _++_}
+use mathlib.Core.Bool.{Bool, true, false, _&&_, _||_, true≢false}
+use mathlib.Core.List.{List, _++_}
 use native.Mathlib.Omega.{arith}
-use native.Mathlib.Numerals.{add-one}
 use lib.ListN.{length, getD, take}
 use lib.Seq.{length-take-le}
-use lib.Dec.{eqb, ltb}
 use lib.Ieee.{Float}
 use borrow.Author.Tests.{eq-eqb, ne-eqb, ltb-true, ltb-false}
 use borrow.Rule.Slice.PartMut.{midOf, putMid}
 use Rattle.points.specs.Points.{pointAt}
 use Rattle.lists.specs.Sort.{tabulate, itself}
 use Rattle.lists.specs.Every.{every, countTo}
-use Rattle.lists.specs.Regions.{part, Part, Out, Out3, Apart, Kept}
-use Rattle.lists.proofs.Laws.{getD-tab, length-tab, tab-ext}
+use Rattle.lists.specs.Regions.{part, Part, Out, Kept}
+use Rattle.lists.proofs.Laws.{getD-tab, tab-ext}
 use Rattle.lists.proofs.Every.{every-at, every-zero, every-on, bool-iff, and-left, and-right, count-zero, count-yes, count-mono}
 use Rattle.lists.proofs.Regions.{part-as, part-kept, lent-tab}
 use Rattle.sheet.specs.declared.Counts.{Counts}
@@ -24,21 +21,21 @@ use Rattle.sheet.specs.declared.Verdict.the-variants.{Accepted, Refused}
 use Rattle.sheet.specs.Quads.{all}
 use Rattle.sheet.specs.Flat.{quadAt, quadsOf, flatQuads}
 use Rattle.sheet.specs.Tests.{inRange}
-use Rattle.sheet.specs.Sheet.{sheetOf, pointsOf, flatPoints, isLarge, isShort, lentVerdict, LentSheet, LentWork, Few}
+use Rattle.sheet.specs.Sheet.{sheetOf, pointsOf, flatPoints, isLarge, isShort, lentVerdict, LentSheet}
 use Rattle.sheet.proofs.Flat.{length-quads}
-use Rattle.sheet.proofs.Tests.{all-tab, few-of, lent-is, length-points}
+use Rattle.sheet.proofs.Tests.{all-tab, lent-is, length-points}
 use Rattle.results.specs.declared.Made.{Made}
-use Rattle.results.specs.declared.Made.the-variants as made
 use Rattle.numeric.specs.Num.{zeroF}
 use Rattle.results.specs.Results.{Outcome, refuses, makes, answerOf, countsOf, Front, Fills, Leaves, Room, cleared, shownCounts}
 use Rattle.results.proofs.Results.{fills-room, fills-leaves}
 use Rattle.incidence.specs.Corners.{Cornered, edgeOrder}
-use Rattle.refine.specs.Finer.{finerSheet, madeOrShort, refined, afterLent, refineRule}
-use Rattle.refine.specs.Requests.{firstOf, firstsOf, own, numberOf, childAt, labelAt, linkedTo}
-use Rattle.refine.specs.Loops.{lowAt, nth, Linking, Firsts, Numbering, Numbered, Held, Writing, madeTo, firstsAt, numbersAt, pointsAfter, Worked, Finished, Refinable}
+use Rattle.refine.specs.Finer.{finerSheet, madeOrShort, refined, refineRule}
+use Rattle.refine.specs.Requests.{firstsOf, own, numberOf, childAt, labelAt}
+use Rattle.refine.specs.Loops.{lowAt, nth, Linking, Numbering, Numbered, Writing, madeTo, firstsAt, numbersAt, pointsAfter, Worked, Finished, Refinable}
 use Rattle.refine.proofs.Edges.{linked-start}
 use Rattle.refine.proofs.Loops.{front-none}
-use Rattle.refine.proofs.Sheet.{firsts-known, finerOf, finer-points, finer-quads, finer-labels, finer-counts}
+use Rattle.refine.proofs.Sheet.{firsts-known, finer-points, finer-quads, finer-labels, finer-counts}
+use Rattle.results.specs.declared.Made.the-variants as made
 
 -- ---- the work slice
 

@@ -1,34 +1,30 @@
 -- What the loops of `refine` leave is the finer sheet. Assumes nothing.
 use Prim.Native.Nat.{ℕ, zero, suc, _+_, _*_, _/_, _%_, _≤_, _<_}
-use mathlib.Core.Logic.{_⊎_, inl, inr, ⊎-elim}
+use mathlib.Core.Logic.{_⊎_, ⊎-elim}
 use mathlib.Core.Path.{_≡_, refl, sym, ap, _∙_}
-use mathlib.Core.Bool.{Bool, true, false, cond}
-use mathlib.Core.List.{List, [], _∷_, _++_, map, append-nil}
+use mathlib.Core.List.{List, [], _∷_, _++_, map}
 use native.Mathlib.Omega.{arith}
-use native.Mathlib.Numerals.{add-one}
-use lib.ListN.{length, getD, take, length-append, length-map}
-use lib.Seq.{length-take-le}
+use lib.ListN.{length, getD, length-append, length-map}
 use lib.Dec.{eqb}
 use lib.Ieee.{Float}
-use borrow.Author.Tests.{eq-eqb, ne-eqb, eqb-true}
+use borrow.Author.Tests.{eq-eqb, ne-eqb}
 use Rattle.points.specs.declared.Point.{Point}
-use Rattle.points.specs.Points.{pointAt, halfwayP}
+use Rattle.points.specs.Points.{pointAt}
 use Rattle.lists.specs.Sort.{tabulate}
 use Rattle.lists.specs.Every.{countTo}
-use Rattle.lists.proofs.Laws.{eq-or-ne, length-tab, getD-tab, tab-suc, tab-ext}
+use Rattle.lists.proofs.Laws.{eq-or-ne, length-tab, getD-tab, tab-ext}
 use Rattle.lists.proofs.Every.{count-ext}
 use Rattle.sheet.specs.declared.Counts.{Counts}
-use Rattle.sheet.specs.Quads.{Quad, quad, is, sum}
+use Rattle.sheet.specs.Quads.{Quad, quad}
 use Rattle.sheet.specs.Flat.{corner, quadsOf}
 use Rattle.sheet.specs.FirstUse.{firsts, place}
 use Rattle.sheet.specs.Sheet.{Sheet, sheetOf, pointsOf}
-use Rattle.sheet.proofs.Flat.{length-quads}
 use Rattle.sheet.proofs.Tests.{length-points}
-use Rattle.sheet.proofs.FirstUse.{First, usedTo, ownFirst, used-new, used-old, count-used, place-used, first-unique}
+use Rattle.sheet.proofs.FirstUse.{usedTo, ownFirst, used-new, used-old, count-used, place-used, first-unique}
 use Rattle.results.specs.Results.{countsOf}
 use Rattle.incidence.specs.Corners.{Cornered}
-use Rattle.refine.specs.Finer.{split, fourLabels, edgeKey, centreKey, keys, asked, midOf, cenOf, finer, centreP, Request, request, keyOf, positionOf, requests, made, pointIn, newPoints, finerSheet}
-use Rattle.refine.specs.Requests.{keyIn, positionIn, keyAt, requestAt, keysOf, firstOf, firstsOf, own, numberOf, childAt, labelAt}
+use Rattle.refine.specs.Finer.{split, edgeKey, centreKey, asked, midOf, cenOf, finer, finerCount, keyOf, positionOf, requests, made, pointIn, newPoints, finerSheet}
+use Rattle.refine.specs.Requests.{positionIn, keyAt, requestAt, firstOf, firstsOf, own, numberOf, childAt, labelAt}
 use Rattle.refine.specs.Loops.{Firsts, madeTo}
 use Rattle.refine.proofs.Edges.{first-of}
 use Rattle.refine.proofs.Loops.{length-made}
@@ -140,23 +136,27 @@ module _ {np nq : ℕ} {Q : List ℕ} (C : Cornered np nq Q) where
     points-are =
         sym (rw (length-points np P, requests-flat (pointIn (pointsOf np P)) np nq Q, requests-are) (made-is (pointAt P) (5 * nq) (omega arith)))
 
-    -- and as many
-    pub length-new : length (newPoints (pointsOf np P) (quadsOf nq Q)) ≡ length (asked np (quadsOf nq Q))
-    unfolding newPoints
-    length-new =
-        let at = pointIn (pointsOf np P) in
-        let l = made [] (requests at (length (pointsOf np P)) 0 (quadsOf nq Q)) in
-        length-map l positionOf ∙ sym (length-map l keyOf) ∙ ap length (asked-made at (length (pointsOf np P)) (quadsOf nq Q)) ∙ ap (λ (k : ℕ). length (asked k (quadsOf nq Q))) (length-points np P)
-
 -- ---- the counts
 
 length-split : (mid : ℕ → ℕ → ℕ) (cen : ℕ → ℕ) (i : ℕ) (S : List Quad) → length (split mid cen i S) ≡ 4 * length S
 length-split mid cen i [] = refl
 length-split mid cen i (quad a b c d ∷ S) = omega (arith, length-split mid cen (suc i) S)
 
-length-four : (l : List ℕ) → length (fourLabels l) ≡ 4 * length l
-length-four [] = refl
-length-four (x ∷ l) = omega (arith, length-four l)
+-- the new points are as many as are asked for
+pub length-new : (ps : List Point) (S : List Quad) → length (newPoints ps S) ≡ length (asked (length ps) S)
+unfolding newPoints
+length-new ps S =
+    let l = made [] (requests (pointIn ps) (length ps) 0 S) in
+    length-map l positionOf ∙ sym (length-map l keyOf) ∙ ap length (asked-made (pointIn ps) (length ps) S)
+
+-- the finer sheet has as many points, quads and labels as its definitions say
+pub finer-count : (s : Sheet) → length (finerSheet s .points) ≡ finerCount (length (s .points)) (s .quads)
+unfolding finerSheet finerCount
+finer-count s = length-append (s .points) (newPoints (s .points) (s .quads)) ∙ rw (length-new (s .points) (s .quads))
+
+pub finer-four : (n : ℕ) (S : List Quad) → length (finer n S) ≡ 4 * length S
+unfolding finer
+finer-four n S = length-split (midOf n S) (cenOf n S) 0 S
 
 -- the finer sheet of the lent one
 module _ (c : Counts) (P : List Float) (Q labels : List ℕ) (C : Cornered (c .points) (c .quads) Q) (same : c .labels ≡ c .quads) (long : c .labels ≤ length labels) where

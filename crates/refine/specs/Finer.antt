@@ -1,6 +1,6 @@
 -- The finer sheet of `refine`: each quad becomes four round its centre. Document 01, "The finer sheet and the rows", and `refine` of 000.
 use Prim.Native.Nat.{ℕ, suc, _+_, _*_, min, max}
-use mathlib.Core.Bool.{Bool, cond, _||_}
+use mathlib.Core.Bool.{cond, _||_}
 use mathlib.Core.List.{List, [], _∷_, _++_, map}
 use lib.Dec.{eqb}
 use lib.ListN.{length, getD}
@@ -83,13 +83,15 @@ pub record Request : Type 0 where
   pub key : ℕ
   pub position : Point
 
+-- the request of a key at a position
 abbrev pub request : ℕ → Point → Request
 request k p = record { key = k; position = p }
 
--- the key and the position of a request
+-- the key of a request
 abbrev pub keyOf : Request → ℕ
 keyOf r = r .key
 
+-- the position of a request
 abbrev pub positionOf : Request → Point
 positionOf r = r .position
 

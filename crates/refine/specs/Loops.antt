@@ -72,10 +72,11 @@ pub record Numbered (n m : ℕ) (F N : List ℕ) : Type 0 where
   pub firsts : Firsts m F
   pub is : N ≡ tabulate (numberOf n F) m
 
--- where the first requests and the numbers stand in the work slice
+-- where the first requests stand in the work slice
 abbrev pub firstsAt : ℕ → ℕ → ℕ
 firstsAt np nq = 9 * (np + nq)
 
+-- where the numbers of the new points stand in the work slice
 abbrev pub numbersAt : ℕ → ℕ → ℕ
 numbersAt np nq = 14 * (np + nq)
 
@@ -97,7 +98,7 @@ pub record Finished (np nq : ℕ) (P : List Float) (Q labels w : List ℕ) (p q 
   pub in-quads : 16 * nq ≤ q
   pub in-labels : 4 * nq ≤ l
 
--- what the refining asks after the tests 12, 13, 5 and 6, of slices of p, .. and l elements and of work of w elements
+-- what the tests 12, 13, 5 and 6 leave: a sheet in slices of p coordinates and l labels that can be refined, and work of w elements
 pub record Refinable (c : Counts) (p : ℕ) (Q : List ℕ) (l w : ℕ) : Type 0 where
   pub lent : LentSheet c p (length Q) l
   pub same : c .labels ≡ c .quads

@@ -1,12 +1,11 @@
 -- The requests for new points by their places: request 5 q + j is for the edge of corner j of quad q, or for the centre where j is 4.
-use Prim.Native.Nat.{ℕ, suc, _+_, _*_, _/_, _%_}
+use Prim.Native.Nat.{ℕ, _+_, _*_, _/_, _%_}
 use mathlib.Core.Bool.{Bool, cond, _&&_, _||_}
 use mathlib.Core.List.{List}
-use lib.Dec.{eqb, ltb}
-use lib.ListN.{length, getD, set}
-use lib.Ieee.{Float}
+use lib.Dec.{eqb}
+use lib.ListN.{getD, set}
 use Rattle.points.specs.declared.Point.{Point}
-use Rattle.points.specs.Points.{halfwayP, pointAt}
+use Rattle.points.specs.Points.{halfwayP}
 use Rattle.lists.specs.Sort.{tabulate}
 use Rattle.lists.specs.Every.{countTo, some}
 use Rattle.sheet.specs.Quads.{Quad, quad}
@@ -15,10 +14,11 @@ use Rattle.sheet.specs.FirstUse.{place}
 use Rattle.incidence.specs.Corners.{edgeOrder}
 use Rattle.refine.specs.Finer.{edgeKey, centreKey, centreP, Request, request}
 
--- the corner after corner j of a quad, and the one before it
+-- the corner after corner j of a quad
 abbrev pub after : ℕ → ℕ
 after j = (j + 1) % 4
 
+-- the corner before corner j of a quad
 abbrev pub behind : ℕ → ℕ
 behind j = (j + 3) % 4
 

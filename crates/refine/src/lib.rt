@@ -3,26 +3,26 @@
 
 use points::Point;
 use results::Made;
-use sheet::{Counts, Verdict};
-
+use sheet::Counts;
+use sheet::Verdict;
 ghost use mathlib.Core.Path.{_≡_};
 ghost use mathlib.Core.Bool.{cond};
 ghost use mathlib.Core.List.{_++_};
-ghost use Prim.Native.Nat.{ℕ, _+_, _*_, _/_, _%_, _<_, _≤_, _^_};
-ghost use lib.ListN.{length, getD, replicate};
+ghost use Prim.Native.Nat.{_+_, _*_, _/_, _%_, _<_, _≤_, _^_};
+ghost use lib.ListN.{length, replicate};
 ghost use Rattle.numeric.specs.Num.{zeroF};
 ghost use Rattle.points.specs.Points.{pointAt};
 ghost use Rattle.lists.specs.Sort.{tabulate};
 ghost use Rattle.lists.specs.Every.{every, countTo};
-ghost use Rattle.lists.specs.Regions.{part, Part, Out, Out2, Out3, Apart, Kept};
+ghost use Rattle.lists.specs.Regions.{part, Part, Out, Kept};
 ghost use Rattle.sheet.specs.Quads.{quad};
-ghost use Rattle.sheet.specs.Flat.{corner, quadsOf, flatQuads};
-ghost use Rattle.sheet.specs.Sheet.{pointsOf, flatPoints, sheetOf, LentSheet, LentWork};
+ghost use Rattle.sheet.specs.Flat.{corner, flatQuads};
+ghost use Rattle.sheet.specs.Sheet.{pointsOf, flatPoints, sheetOf};
 ghost use Rattle.results.specs.Results.{Leaves, Fills, Front};
-ghost use Rattle.incidence.specs.Corners.{Cornered, edgeOrder};
+ghost use Rattle.incidence.specs.Corners.{Cornered};
 ghost use Rattle.refine.specs.Finer.{centreP, finerSheet, madeOrShort, refineRule};
 ghost use Rattle.refine.specs.Requests.{requestOf, sameEdge, positionIn, firstOf, linkedTo, own, numberOf, childAt, withQuad, labelAt, firstsOf};
-ghost use Rattle.refine.specs.Loops.{lowAt, nth, Linking, Firsts, Numbering, Held, putRequest, madeTo, Writing, Numbered, Worked, Finished, Refinable, pointsAfter};
+ghost use Rattle.refine.specs.Loops.{lowAt, nth, Linking, Numbering, Held, putRequest, madeTo, Writing, Numbered, Worked, Finished, Refinable, pointsAfter};
 
 // Regions of the work slice, in units of points and quads together: behind the counters of the sort and its first order stand the corners in the
 // order of their edges, the first request of each request's key, and the numbers of the requests' points.
@@ -126,15 +126,7 @@ fn own_at(m: usize, first: usize, t: usize, w: &[u32]) -> usize
 }
 
 // The number of the point of request t: the next one if it is the first of its key, else that of the first.
-fn number_at(
-    n: usize,
-    m: usize,
-    first: usize,
-    num: usize,
-    t: usize,
-    next: usize,
-    w: &[u32],
-) -> u32
+fn number_at(n: usize, m: usize, first: usize, num: usize, t: usize, next: usize, w: &[u32]) -> u32
     requires { ⌜ Numbering n m first num (part first m (now w)) t next (now w) ⌝ }
     requires { ⌜ t < m ⌝ }
     ensures { λ r. ⌜ r ≡ numberOf n (part first m (now (w .entry))) t ⌝ }
@@ -376,7 +368,17 @@ fn refine_tested(
     if sheet::is_short(made, new_points.len(), new_quads.len(), new_labels.len()) {
         return Made::Refused(sheet::SHORT);
     }
-    put_sheet(np, nq, points, quads, labels, w, new_points, new_quads, new_labels);
+    put_sheet(
+        np,
+        nq,
+        points,
+        quads,
+        labels,
+        w,
+        new_points,
+        new_quads,
+        new_labels,
+    );
     Made::Done(made)
 }
 
@@ -402,7 +404,16 @@ fn refine_or_refusal(
         return Made::Refused(sheet::BARE);
     }
     if in_range(c.points, 4 * c.quads, quads) {
-        return refine_tested(c, points, quads, labels, new_points, new_quads, new_labels, w);
+        return refine_tested(
+            c,
+            points,
+            quads,
+            labels,
+            new_points,
+            new_quads,
+            new_labels,
+            w,
+        );
     }
     Made::Refused(sheet::CORNER)
 }

@@ -3,7 +3,7 @@ use Prim.Native.Nat.{ℕ, zero, suc, _+_, _≤_, _<_}
 use mathlib.Core.Logic.{_⊎_, inl, inr, ⊎-elim}
 use mathlib.Core.Path.{_≡_, refl, sym, ap, _∙_}
 use mathlib.Core.Bool.{Bool, true, false, cond}
-use mathlib.Core.List.{List, [], _∷_, _++_, map}
+use mathlib.Core.List.{List, [], _∷_, _++_}
 use native.Mathlib.Omega.{arith}
 use native.Mathlib.Numerals.{add-one}
 use lib.ListN.{length, getD, length-append}
@@ -13,7 +13,7 @@ use Rattle.lists.specs.Sort.{tabulate}
 use Rattle.lists.specs.Every.{countTo}
 use Rattle.lists.proofs.Laws.{eq-or-ne, lt-or-le, length-tab, getD-tab, tab-suc}
 use Rattle.lists.proofs.Every.{count-zero, count-yes, count-no}
-use Rattle.sheet.specs.Quads.{num, is, sum}
+use Rattle.sheet.specs.Quads.{is, sum}
 use Rattle.sheet.specs.FirstUse.{firsts, place}
 use Rattle.sheet.proofs.Flat.{sum-append}
 
@@ -164,11 +164,8 @@ module _ (key : ℕ → ℕ) where
 
     pub used-old : (t : ℕ) → t < m → (f t ≡ t → ⊥) → 0 < sum (is (key t)) (usedTo t)
     used-old t h ne =
-        let b : f t < t = omega (arith, first t h .le, lt-or-eq (f t) t (first t h .le) ne) in
+        let b : f t < t = omega (arith, first t h .le) in
         rw (first t h .same) at (some-used t (f t) b)
-      where
-        lt-or-eq : (a b : ℕ) → a ≤ b → (a ≡ b → ⊥) → a < b
-        lt-or-eq a b l n = omega arith
 
     -- as many keys are used as numbers are the first of theirs
     pub count-used : (t : ℕ) → t ≤ m → length (usedTo t) ≡ countTo ownFirst t
@@ -180,7 +177,7 @@ module _ (key : ℕ → ℕ) where
         (λ (ne : f t ≡ t → ⊥). rw (firsts-old (key t) (usedTo t) (used-old t (omega arith) ne), count-no ownFirst t (ne-eqb (f t) t ne)) ih)
         (eq-or-ne (f t) t))
 
-    first-first : (t : ℕ) → t < m → f (f t) ≡ f t
+    pub first-first : (t : ℕ) → t < m → f (f t) ≡ f t
     first-first t h =
         let A = first t h in
         let B = first (f t) (omega (arith, A .le)) in

@@ -1,12 +1,8 @@
-use native.Mathlib.Omega.{arith}
+-- `refine::centre` meets its contract. Assumes nothing.
 use borrow.Author.Needs.{needs}
 use Rattle.refine.specs.Finer.{centreP}
 use Rattle.refine.proofs.centre.Statement.{statement}
 use Rattle.refine.proofs.centre.Tie as tie
-use Rattle.refine.proofs.centre.Reads as reads
-use Rattle.refine.proofs.centre.Lts as lts
-use Rattle.points.proofs.add.Reads as add-reads
-use Rattle.points.proofs.mul.Reads as mul-reads
 
 add-requires : tie.Need-add-requires
 add-requires c κs = search needs

@@ -1,13 +1,9 @@
+-- `refine::copy_points` meets its contract. Assumes nothing.
 use native.Mathlib.Omega.{arith}
-use borrow.Author.Needs.{needs}
 use Prim.Native.Nat.{_-_}
 use Rattle.refine.proofs.Loops.{OldLoop, old-start, old-turn, old-end}
 use Rattle.refine.proofs.copy_points.Statement.{statement}
 use Rattle.refine.proofs.copy_points.Tie as tie
-use Rattle.refine.proofs.copy_points.Reads as reads
-use Rattle.refine.proofs.copy_points.Lts as lts
-use Rattle.points.proofs.point_at.Reads as point-at-reads
-use Rattle.points.proofs.put_point.Reads as put-point-reads
 
 abbrev Inv-loop : tie.InvT-loop
 Inv-loop n points out₀ v₀ out v = OldLoop n points out₀ out v

@@ -1,12 +1,8 @@
+-- `refine::corner_point` meets its contract. Assumes nothing.
 use native.Mathlib.Omega.{arith}
-use borrow.Author.Needs.{needs}
 use Rattle.refine.proofs.Loops.{held-corner}
 use Rattle.refine.proofs.corner_point.Statement.{statement}
 use Rattle.refine.proofs.corner_point.Tie as tie
-use Rattle.refine.proofs.corner_point.Reads as reads
-use Rattle.refine.proofs.corner_point.Lts as lts
-use Rattle.points.proofs.point_at.Reads as point-at-reads
-use Rattle.sheet.proofs.corner_at.Reads as corner-at-reads
 
 corner-at-requires : tie.Need-corner-at-requires
 corner-at-requires c κs = let s = c .before .before in omega (arith, s .pre .0 .cornered .quads)

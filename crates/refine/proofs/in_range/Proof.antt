@@ -1,6 +1,7 @@
+-- `refine::in_range` meets its contract. Assumes nothing.
 use native.Mathlib.Omega.{arith}
 use borrow.Author.Needs.{needs}
-use mathlib.Core.Path.{_≡_, sym, _∙_}
+use mathlib.Core.Path.{_≡_, sym}
 use mathlib.Core.Bool.{true}
 use Prim.Native.Nat.{_≤_, _-_}
 use Rattle.lists.specs.Every.{every}
@@ -9,9 +10,6 @@ use Rattle.refine.specs.Loops.{lowAt}
 use Rattle.refine.proofs.Loops.{low-yes, low-no}
 use Rattle.refine.proofs.in_range.Statement.{statement}
 use Rattle.refine.proofs.in_range.Tie as tie
-use Rattle.refine.proofs.in_range.Reads as reads
-use Rattle.refine.proofs.in_range.Lts as lts
-use Rattle.lists.proofs.at.Reads as at-reads
 
 abbrev Inv-loop : tie.InvT-loop
 Inv-loop np n quads c₀ c = (c ≤ n) × (every (lowAt np quads) c ≡ true)

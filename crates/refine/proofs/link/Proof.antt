@@ -1,13 +1,10 @@
+-- `refine::link` meets its contract. Assumes nothing.
 use native.Mathlib.Omega.{arith}
 use borrow.Author.Needs.{needs}
 use mathlib.Core.Path.{sym, _∙_}
 use Rattle.refine.proofs.Loops.{LinkTurn, link-turn, link-first, link-other, link-same}
 use Rattle.refine.proofs.link.Statement.{statement}
 use Rattle.refine.proofs.link.Tie as tie
-use Rattle.refine.proofs.link.Reads as reads
-use Rattle.refine.proofs.link.Lts as lts
-use Rattle.refine.proofs.request_of.Reads as request-of-reads
-use Rattle.refine.proofs.same_edge.Reads as same-edge-reads
 
 turn-at : (c : tie.Else1) → let s = c .before .before .before in LinkTurn (s .pre .0) (s .pre .1)
 turn-at c = let s = c .before .before .before in link-turn (s .pre .0) (s .pre .1) (omega arith)

@@ -1,5 +1,5 @@
+-- `refine::link_edges` meets its contract. Assumes nothing.
 use native.Mathlib.Omega.{arith}
-use borrow.Author.Needs.{needs}
 use Prim.Native.Nat.{_≤_, _*_, _-_}
 use Rattle.lists.specs.Regions.{Out, Kept}
 use Rattle.lists.proofs.Regions.{kept-refl, kept-then}
@@ -7,9 +7,6 @@ use Rattle.refine.specs.Loops.{Linking}
 use Rattle.refine.proofs.Loops.{link-next, link-end}
 use Rattle.refine.proofs.link_edges.Statement.{statement}
 use Rattle.refine.proofs.link_edges.Tie as tie
-use Rattle.refine.proofs.link_edges.Reads as reads
-use Rattle.refine.proofs.link_edges.Lts as lts
-use Rattle.refine.proofs.link.Reads as link-reads
 
 abbrev Inv-loop : tie.InvT-loop
 Inv-loop np nq quads order first w₀ i₀ w i = (i ≤ 4 * nq) × (Linking np nq quads order first i w × Kept (Out first (5 * nq)) w₀ w)

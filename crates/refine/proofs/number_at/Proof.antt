@@ -1,11 +1,10 @@
+-- `refine::number_at` meets its contract. Assumes nothing.
 use native.Mathlib.Omega.{arith}
 use borrow.Author.Needs.{needs}
 use mathlib.Core.Path.{refl}
 use Rattle.refine.proofs.Loops.{NumberTurn, number-turn}
 use Rattle.refine.proofs.number_at.Statement.{statement}
 use Rattle.refine.proofs.number_at.Tie as tie
-use Rattle.refine.proofs.number_at.Reads as reads
-use Rattle.refine.proofs.number_at.Lts as lts
 
 turn-at : (c : tie.Start) → NumberTurn (c .pre .0) (c .pre .1) refl
 turn-at c = number-turn (c .pre .0) (c .pre .1) refl

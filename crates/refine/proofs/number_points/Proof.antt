@@ -1,13 +1,10 @@
+-- `refine::number_points` meets its contract. Assumes nothing.
 use native.Mathlib.Omega.{arith}
 use borrow.Author.Needs.{needs}
 use Prim.Native.Nat.{_-_}
 use Rattle.refine.proofs.Loops.{NumberLoop, numbers-start, numbers-ready, numbers-turn, numbers-small, numbers-end}
 use Rattle.refine.proofs.number_points.Statement.{statement}
 use Rattle.refine.proofs.number_points.Tie as tie
-use Rattle.refine.proofs.number_points.Reads as reads
-use Rattle.refine.proofs.number_points.Lts as lts
-use Rattle.refine.proofs.number_at.Reads as number-at-reads
-use Rattle.refine.proofs.own_at.Reads as own-at-reads
 
 abbrev Inv-loop : tie.InvT-loop
 Inv-loop n m first num w₀ next₀ t₀ w next t = NumberLoop n m first num w₀ w next t

@@ -1,4 +1,4 @@
-use native.Mathlib.Omega.{arith}
+-- `refine::number_sheet` meets its contract. Assumes nothing.
 use borrow.Author.Needs.{needs}
 use Prim.Native.Nat.{_+_, _-_, _*_}
 use borrow.Rule.Slice.PartMut.{putMid}
@@ -6,12 +6,6 @@ use Rattle.refine.specs.Loops.{firstsAt}
 use Rattle.refine.proofs.Rule.{Started, started, numbering-start, worked}
 use Rattle.refine.proofs.number_sheet.Statement.{statement}
 use Rattle.refine.proofs.number_sheet.Tie as tie
-use Rattle.refine.proofs.number_sheet.Reads as reads
-use Rattle.refine.proofs.number_sheet.Lts as lts
-use Rattle.incidence.proofs.edge_order.Reads as edge-order-reads
-use Rattle.lists.proofs.number.Reads as number-reads
-use Rattle.refine.proofs.link_edges.Reads as link-edges-reads
-use Rattle.refine.proofs.number_points.Reads as number-points-reads
 
 abbrev begin : tie.After-link-edges-arg → tie.Start
 begin c = c .before .before .before .before .before .before .before .before .before .before .before

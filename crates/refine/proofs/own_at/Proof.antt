@@ -1,11 +1,10 @@
+-- `refine::own_at` meets its contract. Assumes nothing.
 use native.Mathlib.Omega.{arith}
 use borrow.Author.Needs.{needs}
 use Rattle.refine.proofs.Loops.{own-yes, own-no}
 use Prim.Native.Nat.{_+_}
 use Rattle.refine.proofs.own_at.Statement.{statement}
 use Rattle.refine.proofs.own_at.Tie as tie
-use Rattle.refine.proofs.own_at.Reads as reads
-use Rattle.refine.proofs.own_at.Lts as lts
 
 add-if1 : tie.Need-add-if1
 add-if1 c = search needs

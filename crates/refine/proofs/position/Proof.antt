@@ -1,14 +1,8 @@
-use native.Mathlib.Omega.{arith}
+-- `refine::position` meets its contract. Assumes nothing.
 use borrow.Author.Needs.{needs}
-use Rattle.refine.specs.Requests.{positionIn}
 use Rattle.refine.proofs.Loops.{position-centre, position-halfway}
 use Rattle.refine.proofs.position.Statement.{statement}
 use Rattle.refine.proofs.position.Tie as tie
-use Rattle.refine.proofs.position.Reads as reads
-use Rattle.refine.proofs.position.Lts as lts
-use Rattle.points.proofs.halfway.Reads as halfway-reads
-use Rattle.refine.proofs.centre.Reads as centre-reads
-use Rattle.refine.proofs.corner_point.Reads as corner-point-reads
 
 corner-point-requires : tie.Need-corner-point-requires
 corner-point-requires c κs = search needs

@@ -1,11 +1,8 @@
-use native.Mathlib.Omega.{arith}
+-- `refine::put_child` meets its contract. Assumes nothing.
 use borrow.Author.Needs.{needs}
 use Rattle.refine.proofs.Loops.{child-read}
 use Rattle.refine.proofs.put_child.Statement.{statement}
 use Rattle.refine.proofs.put_child.Tie as tie
-use Rattle.refine.proofs.put_child.Reads as reads
-use Rattle.refine.proofs.put_child.Lts as lts
-use Rattle.refine.proofs.put_quad.Reads as put-quad-reads
 
 mul-a : tie.Need-mul-a
 mul-a c = search needs

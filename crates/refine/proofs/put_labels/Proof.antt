@@ -1,5 +1,5 @@
+-- `refine::put_labels` meets its contract. Assumes nothing.
 use native.Mathlib.Omega.{arith}
-use borrow.Author.Needs.{needs}
 use mathlib.Core.Path.{refl}
 use Prim.Native.Nat.{_*_, _-_}
 use Rattle.lists.proofs.Laws.{Filled, filled-start, filled-turn}
@@ -7,8 +7,6 @@ use Rattle.refine.specs.Requests.{labelAt}
 use Rattle.refine.proofs.Loops.{front-filled}
 use Rattle.refine.proofs.put_labels.Statement.{statement}
 use Rattle.refine.proofs.put_labels.Tie as tie
-use Rattle.refine.proofs.put_labels.Reads as reads
-use Rattle.refine.proofs.put_labels.Lts as lts
 
 abbrev Inv-loop : tie.InvT-loop
 Inv-loop nq labels out₀ i₀ out i = Filled (labelAt labels) out₀ (4 * nq) out i

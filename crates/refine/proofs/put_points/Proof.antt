@@ -1,13 +1,10 @@
+-- `refine::put_points` meets its contract. Assumes nothing.
 use native.Mathlib.Omega.{arith}
-use borrow.Author.Needs.{needs}
 use Prim.Native.Nat.{_*_, _-_}
 use Rattle.lists.specs.Regions.{part}
 use Rattle.refine.proofs.Loops.{PointLoop, points-start, points-turn, points-end, writing-same}
 use Rattle.refine.proofs.put_points.Statement.{statement}
 use Rattle.refine.proofs.put_points.Tie as tie
-use Rattle.refine.proofs.put_points.Reads as reads
-use Rattle.refine.proofs.put_points.Lts as lts
-use Rattle.refine.proofs.put_request.Reads as put-request-reads
 
 abbrev Inv-loop : tie.InvT-loop
 Inv-loop np nq points quads first num w out₀ t₀ out t = PointLoop np (5 * nq) points quads (part first (5 * nq) w) out₀ out t

@@ -1,5 +1,5 @@
+-- `refine::put_quads` meets its contract. Assumes nothing.
 use native.Mathlib.Omega.{arith}
-use borrow.Author.Needs.{needs}
 use Prim.Native.Nat.{_*_, _-_}
 use Rattle.lists.specs.Regions.{part}
 use Rattle.refine.specs.Requests.{childAt}
@@ -7,9 +7,6 @@ use Rattle.refine.specs.Loops.{nth}
 use Rattle.refine.proofs.Loops.{QuadLoop, quads-start, quads-turn, quads-end}
 use Rattle.refine.proofs.put_quads.Statement.{statement}
 use Rattle.refine.proofs.put_quads.Tie as tie
-use Rattle.refine.proofs.put_quads.Reads as reads
-use Rattle.refine.proofs.put_quads.Lts as lts
-use Rattle.refine.proofs.put_child.Reads as put-child-reads
 
 abbrev Inv-loop : tie.InvT-loop
 Inv-loop nq quads num w out₀ c₀ out c = QuadLoop (childAt (nth (part num (5 * nq) w)) quads) (4 * nq) out₀ out c

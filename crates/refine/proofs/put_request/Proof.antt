@@ -1,14 +1,10 @@
+-- `refine::put_request` meets its contract. Assumes nothing.
 use native.Mathlib.Omega.{arith}
 use borrow.Author.Needs.{needs}
 use Prim.Native.Nat.{_+_}
 use Rattle.refine.proofs.Loops.{writing-room, put-yes, put-no}
 use Rattle.refine.proofs.put_request.Statement.{statement}
 use Rattle.refine.proofs.put_request.Tie as tie
-use Rattle.refine.proofs.put_request.Reads as reads
-use Rattle.refine.proofs.put_request.Lts as lts
-use Rattle.lists.proofs.at.Reads as at-reads
-use Rattle.points.proofs.put_point.Reads as put-point-reads
-use Rattle.refine.proofs.position.Reads as position-reads
 
 add-if1 : tie.Need-add-if1
 add-if1 c = omega (arith, c .before .before .before .before .pre .0 .firsts .fits)

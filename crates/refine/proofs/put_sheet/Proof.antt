@@ -1,14 +1,14 @@
-use native.Mathlib.Omega.{arith}
+-- `refine::put_sheet` meets its contract. Assumes nothing.
 use borrow.Author.Needs.{needs}
 use Rattle.refine.proofs.Rule.{writing-of, numbered-of, points-put, quads-put}
 use Rattle.refine.proofs.put_sheet.Statement.{statement}
 use Rattle.refine.proofs.put_sheet.Tie as tie
-use Rattle.refine.proofs.put_sheet.Reads as reads
-use Rattle.refine.proofs.put_sheet.Lts as lts
-use Rattle.refine.proofs.copy_points.Reads as copy-points-reads
-use Rattle.refine.proofs.put_labels.Reads as put-labels-reads
-use Rattle.refine.proofs.put_points.Reads as put-points-reads
-use Rattle.refine.proofs.put_quads.Reads as put-quads-reads
+
+abbrev begin : tie.After-put-points-arg → tie.Start
+begin c = c .before .before .before .before .before .before .before .before .before .before .before .before
+
+abbrev put : tie.After-slice-known7 → tie.After-put-points
+put c = c .before .before .before .before .before .before .before .before .before .before
 
 add-n : tie.Need-add-n
 add-n c = search needs
@@ -23,7 +23,7 @@ mul-put-points-2 : tie.Need-mul-put-points-2
 mul-put-points-2 c = search needs
 
 put-points-requires : tie.Need-put-points-requires
-put-points-requires c κs = let p = c .before .before .before .before .before .before .before .before .before .before .before .before .pre in
+put-points-requires c κs = let p = begin c .pre in
     let k = c .before .before .before .copy-points in
     (writing-of p _ (k .kept .1 .1 .0), (numbered-of p, k .ensures))
 
@@ -46,8 +46,9 @@ same-length-3 : tie.Need-same-length-3
 same-length-3 c = search needs
 
 returns : tie.Need-returns
-returns c = let p = c .before .before .before .before .before .before .before .before .before .before .before .before .before .before .before .before .before .before .before .before .before .before .before .pre in
-    (points-put p (c .before .before .before .before .before .before .before .before .before .before .put-points .ensures), (quads-put p (c .before .before .before .before .before .before .put-quads .ensures), c .before .before .put-labels .ensures))
+returns c = let k = put c in
+    let p = begin (k .before) .pre in
+    (points-put p (k .put-points .ensures), (quads-put p (c .before .before .before .before .before .before .put-quads .ensures), c .before .before .put-labels .ensures))
 
 pub put-sheet-spec : {M : Type 1} → statement M
 put-sheet-spec =

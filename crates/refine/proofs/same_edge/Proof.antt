@@ -1,11 +1,8 @@
-use native.Mathlib.Omega.{arith}
+-- `refine::same_edge` meets its contract. Assumes nothing.
 use borrow.Author.Needs.{needs}
 use Rattle.refine.specs.Requests.{sameEdge}
 use Rattle.refine.proofs.same_edge.Statement.{statement}
 use Rattle.refine.proofs.same_edge.Tie as tie
-use Rattle.refine.proofs.same_edge.Reads as reads
-use Rattle.refine.proofs.same_edge.Lts as lts
-use Rattle.lists.proofs.at.Reads as at-reads
 
 at-requires : tie.Need-at-requires
 at-requires c κs = search needs
