@@ -42,6 +42,7 @@ map-tab h g zero = refl
 map-tab h g (suc n) = map-append h (tabulate g n) (g n ∷ []) ∙ rw (map-tab h g n)
 
 module _ {A B C : Type 0} (f : A → B → C) (x : A) (y : B) where
+  -- the length and the elements of a zip
   length-zip : (a : List A) (b : List B) → length a ≡ length b → length (zipWith f a b) ≡ length a
   unfolding zipWith
   length-zip [] b e = refl

@@ -54,16 +54,19 @@ cellsOf b s = zipWith (cellOf b (s .points)) (s .quads) (s .labels)
 unfoldable pub goodNormal : Point → Bool
 goodNormal n = finiteP n && not (lt (normP n) half)
 
+-- a cell with such a normal
 abbrev pub hasNormal : Cell → Bool
 hasNormal c = goodNormal (c .normal)
 
--- the shape, the least Jacobian over 5 by 5 places and the area of a cell
+-- the shape of a cell
 abbrev pub cellShape : Cell → Float
 cellShape c = shapeOf (c .corners) (c .normal)
 
+-- its least Jacobian at 5 by 5 places
 abbrev pub cellJacobian : Cell → Float
 cellJacobian c = leastJacobian (c .corners) (c .normal)
 
+-- its area
 abbrev pub cellArea : Cell → Float
 cellArea c = areaOf (c .corners)
 
@@ -119,7 +122,7 @@ ceilOf x = cond (lt zeroF (fractOf x)) (floorOf x + 1) (floorOf x)
 unfoldable pub valueAtPlace : List Float → Float → Float
 valueAtPlace l x = getD l (floorOf x) nan ⊗ (one ⊖ fractOf x) ⊕ getD l (ceilOf x) nan ⊗ fractOf x
 
--- the value at 0.05 × (count − 1)
+-- the value at the place 0.05 × (count − 1), 000's `index`
 unfoldable pub p05Of : List Float → Float
 p05Of l = valueAtPlace l (twentieth ⊗ float (length l - 1))
 
@@ -135,7 +138,7 @@ summaryOf shapes jacobians sorted = record {
   «invalid_cells» = invalidOf jacobians;
 }
 
--- the five values of a sheet's cells: the scores are sorted before their mean is taken, every NaN last
+-- the five values of a sheet's cells: "A NaN score in `quality` sorts last", and the mean of the scores is taken after the sort
 unfoldable pub measuresOf : List Cell → Measures
 measuresOf cells = summaryOf (map cellShape cells) (map cellJacobian cells) (sortFloats (scoresOf (map cellShape cells) (map cellArea cells)))
 

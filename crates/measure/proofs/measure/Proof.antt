@@ -28,7 +28,8 @@ returns : tie.Need-returns
 returns c = let k = c .before .before .before .before .before .before in
     let r = k .before .before .before .before .before .before in
     let s = r .before .before .before .before .before .before .before .before in
-    measured _ _ _ _ _ (s .pre .0) _ _ _ _ _ _ _ _ _ (r .before .before .length .ensures) (k .before .before .before .if1 .taken) (r .read-cells .ensures) (k .sort-scores .ensures) (c .summary .ensures)
+    let e = r .before .before .length .ensures in
+    measured _ _ _ _ _ (s .pre .0) _ _ _ _ _ _ _ _ _ e (k .before .before .before .if1 .taken) (r .read-cells .ensures) (k .sort-scores .ensures) (c .summary .ensures)
 
 same-length-3 : tie.Need-same-length-3
 same-length-3 c = search needs

@@ -34,19 +34,22 @@ loop-again : tie.Need-loop-again Inv-loop μ-loop
 loop-again c = let k = c .before .before .before in
     let a = k .before .before .before in
     let t = a .before .before in
-    read-turn _ _ _ _ (t .before .before .before .before .before .args .labels .now) _ _ _ _ _ _ _ (t .loop .inv) (a .before .loop-test .taken) (a .corners-at .ensures) (k .read-cell .ensures) (c .if1 .taken)
+    let l = t .before .before .before .before .before .args .labels .now in
+    read-turn _ _ _ _ l _ _ _ _ _ _ _ (t .loop .inv) (a .before .loop-test .taken) (a .corners-at .ensures) (k .read-cell .ensures) (c .if1 .taken)
 
 same-length : tie.Need-same-length Inv-loop μ-loop
 same-length c = let k = c .before .before .before in
     let a = k .before .before .before in
     let t = a .before .before in
-    read-fails _ _ _ _ (t .before .before .before .before .before .args .labels .now) _ _ _ _ _ _ _ (t .loop .inv) (a .before .loop-test .taken) (a .corners-at .ensures) (k .read-cell .ensures) (c .if1 .left) .1 .1 .len
+    let l = t .before .before .before .before .before .args .labels .now in
+    read-fails _ _ _ _ l _ _ _ _ _ _ _ (t .loop .inv) (a .before .loop-test .taken) (a .corners-at .ensures) (k .read-cell .ensures) (c .if1 .left) .1 .1 .len
 
 returns : tie.Need-returns Inv-loop μ-loop
 returns c = let k = c .before .before .before in
     let a = k .before .before .before in
     let t = a .before .before in
-    read-fails _ _ _ _ (t .before .before .before .before .before .args .labels .now) _ _ _ _ _ _ _ (t .loop .inv) (a .before .loop-test .taken) (a .corners-at .ensures) (k .read-cell .ensures) (c .if1 .left)
+    let l = t .before .before .before .before .before .args .labels .now in
+    read-fails _ _ _ _ l _ _ _ _ _ _ _ (t .loop .inv) (a .before .loop-test .taken) (a .corners-at .ensures) (k .read-cell .ensures) (c .if1 .left)
 
 same-length-2 : tie.Need-same-length-2 Inv-loop μ-loop
 same-length-2 c = c .before .loop .inv .kept .len
