@@ -4,3 +4,5 @@ pub mod Edges
 pub mod Tests
 pub mod Numbers
 pub mod Sheet
+pub mod Closed
+pub mod FirstUse
