@@ -1,0 +1,4 @@
+pub mod Base
+pub mod Rings
+pub mod Weigh
+pub mod Labels
