@@ -29,7 +29,7 @@ not-false : (b : Bool) → not b ≡ true → b ≡ false
 not-false true e = sym e
 not-false false e = refl
 
-no-edge : (S : List Quad) (a b : ℕ) → not (isEdge S a b) ≡ true → side S a b + side S b a ≡ 0
+pub no-edge : (S : List Quad) (a b : ℕ) → not (isEdge S a b) ≡ true → side S a b + side S b a ≡ 0
 no-edge S a b e = let l = ltb-false 0 (side S a b + side S b a) (not-false (isEdge S a b) e) in omega arith
 
 six-of : (a b c d e f : ℕ) → sixDiffer a b c d e f ≡ true → Six a b c d e f

@@ -1,5 +1,5 @@
 -- What demand 3 claims of quads and labels beside closed sheets and rings: the squared sum, corners in range, different corners, no clash.
-use Prim.Native.Nat.{ℕ, _+_, _*_, _-_, _<_}
+use Prim.Native.Nat.{ℕ, _+_, _*_, _-_, _≤_, _<_}
 use mathlib.Core.Path.{_≡_}
 use mathlib.Core.Logic.{_≢_}
 use mathlib.Core.List.{List, [], _∷_}
@@ -30,3 +30,8 @@ All P (q ∷ S) = P q × All P S
 -- no point touches both labels of an opposite pair, 2 j and 2 j + 1
 unfoldable pub NoClash : List Quad → List ℕ → Type 0
 NoClash S labels = (v j : ℕ) → 0 < touches S labels v (2 * j) → touches S labels v (2 * j + 1) ≡ 0
+
+-- every label is at most 7
+unfoldable pub Low : List ℕ → Type 0
+Low [] = Unit {0}
+Low (l ∷ labels) = (l ≤ 7) × Low labels

@@ -1,0 +1,5 @@
+pub mod Joins
+pub mod Merge
+pub mod MergePass
+pub mod Renumber
+pub mod Visits
