@@ -1,6 +1,6 @@
 -- The passes of `coarsen` as functions of a sheet. Document 01, "The merged sheet". What the rule reads of the points, and the position of a merged point, are parameters.
 use Prim.Native.Nat.{ℕ, zero, suc, _+_, _*_, _-_}
-use mathlib.Core.Option.{Option, none, some}
+use mathlib.Core.Option.{Option, none}
 use mathlib.Core.Bool.{Bool, true, false, cond, _&&_, _||_, not}
 use mathlib.Core.List.{List, [], _∷_, map}
 use lib.Dec.{eqb, leb, ltb}
@@ -10,6 +10,7 @@ use Rattle.points.specs.declared.Point.{Point}
 use Rattle.sheet.specs.Quads.{Quad, quad, sum, uses, valence, isEdge, hasLabel}
 use Rattle.sheet.specs.Sheet.{Sheet}
 use Rattle.swaps.specs.Claims.{sq}
+use Rattle.swaps.specs.Runs.{Answer, run}
 use Rattle.swaps.specs.Swaps.{noneQuad, choose, takeOr}
 use Rattle.merges.specs.Merges.{Slot, out, slot, live, liveLabels, merged, order, renumber, gathered}
 
@@ -116,12 +117,6 @@ compact S labels ps = record { points = gathered ps (order (live S)); quads = re
 abbrev pub nextSheet : (Sheet → MergeState) → Sheet → Sheet
 nextSheet step s = compact ((step s) .slots) (s .labels) ((step s) .points)
 
--- the sheet after some passes and the merges made in all of them
-pub record Coarser : Type 0 where
-  pub sheet : Sheet
-  pub count : ℕ
-
--- at most k passes: they end where one merges nothing
-abbrev pub coarseRun : (Sheet → MergeState) → ℕ → Sheet → ℕ → Coarser
-coarseRun step zero s c = record { sheet = s; count = c }
-coarseRun step (suc k) s c = elim (eqb ((step s) .count) 0) [ true ↦ record { sheet = s; count = c } | false ↦ coarseRun step k (nextSheet step s) (c + (step s) .count) ]
+-- at most k passes: the sheet that is left, and the merges made in all of them
+abbrev pub coarseRun : (Sheet → MergeFits) → (Sheet → Position) → ℕ → Sheet → Answer Sheet
+coarseRun fits position k s = run (λ t. (mergePass fits position t) .count) (nextSheet (mergePass fits position)) k s 0

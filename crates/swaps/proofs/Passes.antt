@@ -1,4 +1,4 @@
--- The swaps that the rule allows, as relations: the swaps of a pass and the passes of a call, without their order and without the points. Assumes nothing.
+-- The swaps that the rule allows, as relations: the swaps of a pass, without their order and without the points. Assumes nothing.
 use mathlib.Core.Path.{_≡_}
 use mathlib.Core.Logic.{_⊎_, _≢_}
 use Prim.Native.Nat.{ℕ, suc, _+_, _≤_, _<_}
@@ -65,9 +65,3 @@ pub data Pass (S0 : List Quad) (labels : List ℕ) (m : ℕ) : List Quad → (�
   two : {S S′ : List Quad} {B B₁ : ℕ → Type 0} {c : ℕ} (i j h0 h1 h2 h3 h4 h5 : ℕ) → Hexagon labels S B i j h0 h1 h2 h3 h4 h5
       → side S0 h2 h5 + side S0 h5 h2 ≡ 0 → valence S h2 + valence S h5 + 2 + m ≤ valence S h0 + valence S h3
       → ((k : ℕ) → Bar S0 B h0 h1 h2 h3 h4 h5 k → B₁ k) → Pass S0 labels m (swapTwo S i j h0 h1 h2 h3 h4 h5) B₁ S′ c → Pass S0 labels m S B S′ (suc c)
-
--- The passes of regularize (m = 1) and of improve_layout (m = 0), with the swaps in all of them. What is barred at
--- first (by the rule nothing) does not matter.
-pub data Passes (labels : List ℕ) (m : ℕ) : List Quad → List Quad → ℕ → Type 1 where
-  end : {S : List Quad} → Passes labels m S S 0
-  pass : {S S₁ S′ : List Quad} {B : ℕ → Type 0} {c d : ℕ} → Pass S labels m S B S₁ c → Passes labels m S₁ S′ d → Passes labels m S S′ (c + d)

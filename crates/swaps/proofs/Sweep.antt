@@ -7,14 +7,14 @@ use Prim.Native.Nat.{ℕ, zero, suc, _+_, _-_, _<_}
 use mathlib.Core.List.{List, [], _∷_, _++_, List·Memᴰ, List·Memᴰ·head, List·Memᴰ·not-nil, List·Memᴰ·cases-cons, Memᴰ·append-left, Memᴰ·append-right}
 use native.Mathlib.Omega.{arith}
 use native.Mathlib.Decide.{ℕ-discrete}
-use lib.Dec.{eqb, leb, ltb, T}
+use lib.Dec.{eqb, leb, ltb}
 use lib.ListN.{length, getD, replicate, length-replicate}
 use borrow.Author.Tests.{eqb-true, leb-true, ltb-false, lt-ltb, le-leb}
 use Rattle.sheet.specs.Edges.{joinTo, edgesFrom, edgeIf, Pair, pair, edgesOf}
 use Rattle.sheet.specs.Quads.{uses, Quad, quad, num, is, valence, side, isEdge}
-use Rattle.swaps.specs.Swaps.{Fits, hex, fresh, turn, swapOne, swapTwo, noneQuad, Place, places, State, meets, barList, sixDiffer, may, choose, swapQuads, tryPlaces, tryEdge, takeOr, sweep, swapPass, Answer, run, NoSwap}
+use Rattle.swaps.specs.Swaps.{Fits, hex, fresh, turn, swapOne, swapTwo, noneQuad, Place, places, State, meets, barList, sixDiffer, may, choose, swapQuads, tryPlaces, tryEdge, takeOr, sweep, swapPass, NoSwap}
 use Rattle.swaps.proofs.Base.{is-self}
-use Rattle.swaps.proofs.Passes.{Passes, end, pass, Six, Has, OneOf, is0, is1, is2, is3, is4, is5, Hexagon, Bar, Pass, stop, one, two}
+use Rattle.swaps.proofs.Passes.{Six, Has, OneOf, is0, is1, is2, is3, is4, is5, Hexagon, Bar, Pass, stop, one, two}
 use Rattle.lists.specs.Sort.{consIf}
 use Rattle.lists.proofs.Every.{and-left, and-right}
 
@@ -279,22 +279,3 @@ module _ (n : ℕ) (labels : List ℕ) (m : ℕ) (fits : Fits) where
       go : (sweep S labels m fits (fresh S) (edgesOf n S) ≡ fresh S) × ((p : Pair) → List·Memᴰ p (edgesOf n S) → tryEdge S labels m fits (fresh S) p ≡ none)
           → ((sweep S labels m fits (fresh S) (edgesOf n S)) .quads ≡ S) × ((a b : ℕ) → a < b → b < n → 0 < side S a b + side S b a → tryEdge S labels m fits (fresh S) (pair a b) ≡ none)
       go (e, f) = (ap (λ t. t .quads) e, (λ a b ab bn h. f (pair a b) (edges-has n S a b ab bn h)))
-
-  abbrev step : List Quad → State
-  step S = swapPass n labels m fits S
-
-  -- The passes are those of Passes.
-  pub run-passes : (k : ℕ) (S : List Quad) (c : ℕ) → (d : ℕ) × Passes labels m S ((run step k S c) .quads) d × ((run step k S c) .count ≡ c + d)
-  run-passes zero S c = (0, end, omega arith)
-  run-passes (suc k) S c = go (eqb ((swapPass n labels m fits S) .count) 0) (run-passes k ((swapPass n labels m fits S) .quads) (c + (swapPass n labels m fits S) .count))
-    where
-      T : State
-      T = swapPass n labels m fits S
-
-      Done : Answer → Type 1
-      Done a = (d : ℕ) × Passes labels m S (a .quads) d × (a .count ≡ c + d)
-
-      go : (b : Bool) → ((d : ℕ) × Passes labels m (T .quads) ((run step k (T .quads) (c + T .count)) .quads) d × ((run step k (T .quads) (c + T .count)) .count ≡ (c + T .count) + d))
-          → Done (elim b [ true ↦ record { quads = S; count = c } | false ↦ run step k (T .quads) (c + T .count) ])
-      go true ih = (0, end, omega arith)
-      go false (d, p, e) = (T .count + d, pass (pass-made S) p, omega (arith, e))

@@ -9,6 +9,7 @@ use lib.ListN.{length, getD, set, replicate}
 use Rattle.lists.specs.Sort.{consIf}
 use Rattle.sheet.specs.Quads.{Quad, quad, is, uses, valence, side, isEdge}
 use Rattle.sheet.specs.Edges.{Pair, pair, edgesOf}
+use Rattle.swaps.specs.Runs.{Answer, run}
 
 -- a quad read from its k-th corner on
 abbrev pub turn : ℕ → Quad → Quad
@@ -148,15 +149,9 @@ fresh S = record { quads = S; barred = replicate (length S) false; count = 0 }
 unfoldable pub swapPass : ℕ → List ℕ → ℕ → Fits → List Quad → State
 swapPass n labels m fits S = sweep S labels m fits (fresh S) (edgesOf n S)
 
--- the quads after some passes and the swaps made in all of them
-pub record Answer : Type 0 where
-  pub quads : List Quad
-  pub count : ℕ
-
--- at most k passes: they end where one swaps nothing. "Regularize's count is the swaps made in all its passes"
-abbrev pub run : (List Quad → State) → ℕ → List Quad → ℕ → Answer
-run step zero S c = record { quads = S; count = c }
-run step (suc k) S c = elim (eqb ((step S) .count) 0) [ true ↦ record { quads = S; count = c } | false ↦ run step k ((step S) .quads) (c + (step S) .count) ]
+-- at most k passes: the quads that are left, and "the swaps made in all its passes"
+abbrev pub swapRun : ℕ → List ℕ → ℕ → Fits → ℕ → List Quad → Answer (List Quad)
+swapRun n labels m fits k S = run (λ T. (swapPass n labels m fits T) .count) (λ T. (swapPass n labels m fits T) .quads) k S 0
 
 -- "No swap is left if, on the sheet left with nothing barred, no edge meets regularize's rule with what that call brought"
 unfoldable pub NoSwap : ℕ → List ℕ → ℕ → Fits → List Quad → Type 0
