@@ -1,0 +1,4 @@
+pub mod Requests
+pub mod Edges
+pub mod Loops
+pub mod Sheet
