@@ -25,7 +25,7 @@ pub not-true : (b : Bool) → not b ≡ true → b ≡ true → ⊥
 not-true true e f = let z : _≡_ {A = ℕ} 0 1 = ap num e in omega arith
 not-true false e f = let z : _≡_ {A = ℕ} 0 1 = ap num f in omega arith
 
-not-false : (b : Bool) → not b ≡ true → b ≡ false
+pub not-false : (b : Bool) → not b ≡ true → b ≡ false
 not-false true e = sym e
 not-false false e = refl
 
