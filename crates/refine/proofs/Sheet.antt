@@ -143,7 +143,10 @@ module _ {np nq : ℕ} {Q : List ℕ} (C : Cornered np nq Q) where
     -- and as many
     pub length-new : length (newPoints (pointsOf np P) (quadsOf nq Q)) ≡ length (asked np (quadsOf nq Q))
     unfolding newPoints
-    length-new = length-map positionOf _ ∙ rw (length-points np P) (sym (length-map keyOf _) ∙ ap length (asked-made (pointIn (pointsOf np P)) np (quadsOf nq Q)))
+    length-new =
+        let at = pointIn (pointsOf np P) in
+        let l = made [] (requests at (length (pointsOf np P)) 0 (quadsOf nq Q)) in
+        length-map l positionOf ∙ sym (length-map l keyOf) ∙ ap length (asked-made at (length (pointsOf np P)) (quadsOf nq Q)) ∙ ap (λ (k : ℕ). length (asked k (quadsOf nq Q))) (length-points np P)
 
 -- ---- the counts
 

@@ -1,5 +1,9 @@
 use native.Mathlib.Omega.{arith}
 use borrow.Author.Needs.{needs}
+use Prim.Native.Nat.{_+_, _-_, _*_}
+use borrow.Rule.Slice.PartMut.{putMid}
+use Rattle.refine.specs.Loops.{firstsAt}
+use Rattle.refine.proofs.Rule.{Started, started, numbering-start, worked}
 use Rattle.refine.proofs.number_sheet.Statement.{statement}
 use Rattle.refine.proofs.number_sheet.Tie as tie
 use Rattle.refine.proofs.number_sheet.Reads as reads
@@ -9,69 +13,63 @@ use Rattle.lists.proofs.number.Reads as number-reads
 use Rattle.refine.proofs.link_edges.Reads as link-edges-reads
 use Rattle.refine.proofs.number_points.Reads as number-points-reads
 
--- src/lib.rt:318:13
+abbrev begin : tie.After-link-edges-arg → tie.Start
+begin c = c .before .before .before .before .before .before .before .before .before .before .before
+
+started-at : (c : tie.After-link-edges-arg) →
+    let a = begin c .args in
+    Started (a .np) (a .nq) (a .quads .now) (a .w .now) (putMid (firstsAt (a .np) (a .nq)) (firstsAt (a .np) (a .nq) + 5 * a .nq - firstsAt (a .np) (a .nq)) (c .before .before .before .before .before .before .before .edge-order .last .1 .1 .1 .1 .1 .1 .0) (c .before .before .before .number .last .0))
+started-at c = let p = begin c .pre in started _ (p .0) (p .1 .1) (c .before .before .before .before .before .before .before .edge-order .ensures) (c .before .before .before .number .ensures)
+
 add-n : tie.Need-add-n
 add-n c = search needs
 
--- src/lib.rt:319:17
 mul-order : tie.Need-mul-order
 mul-order c = search needs
 
--- src/lib.rt:320:17
 mul-first : tie.Need-mul-first
 mul-first c = search needs
 
--- src/lib.rt:321:13
 mul-m : tie.Need-mul-m
 mul-m c = search needs
 
--- src/lib.rt:322:5
 edge-order-requires : tie.Need-edge-order-requires
 edge-order-requires c κs = search needs
 
--- src/lib.rt:323:33
 add-number : tie.Need-add-number
 add-number c = search needs
 
--- src/lib.rt:323:19
 mul-number : tie.Need-mul-number
 mul-number c = search needs
 
--- src/lib.rt:323:19
 sub-number : tie.Need-sub-number
 sub-number c = search needs
 
--- src/lib.rt:323:19
 part-number-start : tie.Need-part-number-start
 part-number-start c = search needs
 
--- src/lib.rt:323:19
 part-number-end : tie.Need-part-number-end
 part-number-end c = search needs
 
--- src/lib.rt:323:5
 number-requires : tie.Need-number-requires
 number-requires c κs = search needs
 
--- src/lib.rt:324:5
 link-edges-requires : tie.Need-link-edges-requires
-link-edges-requires c κs = search needs
+link-edges-requires c κs = started-at c .linking
 
--- src/lib.rt:325:33
 mul-number-points : tie.Need-mul-number-points
 mul-number-points c = search needs
 
--- src/lib.rt:325:5
 number-points-requires : tie.Need-number-points-requires
-number-points-requires c κs = search needs
+number-points-requires c κs = let k = c .before .before .before .before in
+    let p = begin k .pre in
+    numbering-start (p .0) (p .1 .0) (p .1 .1) (started-at k) (c .before .before .before .link-edges .ensures)
 
--- src/lib.rt:311:1
 same-length : tie.Need-same-length
 same-length c = search needs
 
--- src/lib.rt:311:1
 returns : tie.Need-returns
-returns c = ?
+returns c = worked _ (c .before .before .before .before .before .before .link-edges .ensures) (c .before .before .number-points .ensures)
 
 pub number-sheet-spec : {M : Type 1} → statement M
 number-sheet-spec =

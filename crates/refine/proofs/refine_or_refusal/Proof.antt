@@ -1,5 +1,10 @@
 use native.Mathlib.Omega.{arith}
 use borrow.Author.Needs.{needs}
+use mathlib.Core.Path.{_≡_, sym, _∙_}
+use lib.ListN.{length}
+use Rattle.sheet.specs.declared.Verdict.the-variants.{Accepted}
+use Rattle.sheet.specs.Sheet.{lentVerdict}
+use Rattle.refine.proofs.Rule.{rule-lent, rule-few, rule-bare, rule-corner, rule-refinable, rule-tested}
 use Rattle.refine.proofs.refine_or_refusal.Statement.{statement}
 use Rattle.refine.proofs.refine_or_refusal.Tie as tie
 use Rattle.refine.proofs.refine_or_refusal.Reads as reads
@@ -8,60 +13,59 @@ use Rattle.refine.proofs.in_range.Reads as in-range-reads
 use Rattle.refine.proofs.refine_tested.Reads as refine-tested-reads
 use Rattle.sheet.proofs.lent.Reads as lent-reads
 
--- src/lib.rt:397:9
+accepted : (c : tie.After-struct-known2) →
+    let a = c .before .before .before .before .before .before .before .before .before .before .before .before .before .args in
+    lentVerdict (a .c) (length (a .points .now)) (length (a .quads .now)) (length (a .labels .now)) (length (a .w .now)) (a .floats) ≡ Accepted
+accepted c = sym (c .before .before .before .before .before .lent .ensures) ∙ c .before .before .before .enum-told .given .1
+
 lent-requires : tie.Need-lent-requires
 lent-requires c κs = search needs
 
--- src/lib.rt:398:29
 enum-known-v : tie.Need-enum-known-v
 enum-known-v c = search needs
 
--- src/lib.rt:399:9
 returns : tie.Need-returns
-returns c = ?
+returns c = let s = c .before .before .before .before .before .before .before .before .before .before .before .args in
+    rule-lent (s .c) (s .points .now) (s .quads .now) (s .labels .now) (length (s .w .now)) (s .floats) _ _ _ _ _ _ _ (sym (c .before .before .before .lent .ensures) ∙ c .before .v .given .1)
 
 enum-told : tie.Need-enum-told
 enum-told c = search needs
 
--- src/lib.rt:402:9
 returns-2 : tie.Need-returns-2
-returns-2 c = ?
+returns-2 c = let s = c .before .before .before .before .before .before .before .before .before .before .before .before .args in
+    rule-bare (s .c) (s .points .now) (s .quads .now) (s .labels .now) (length (s .w .now)) (s .floats) _ _ _ (sym (c .before .before .before .before .lent .ensures) ∙ c .before .before .enum-told .given .1) _ _ _ (c .if1 .taken)
 
--- src/lib.rt:404:27
 mul-in-range : tie.Need-mul-in-range
-mul-in-range c = search needs
+mul-in-range c = let s = c .before .before .before .before .before .before .before .before .before .before .before .before .before .args in
+    omega (arith, rule-few (s .c) (s .points .now) (s .quads .now) (s .labels .now) (length (s .w .now)) (s .floats) 0 0 0 (accepted c))
 
--- src/lib.rt:404:8
 in-range-requires : tie.Need-in-range-requires
-in-range-requires c κs = search needs
+in-range-requires c κs = let s = c .before .before .before .before .before .before .before .before .before .before .before .before .before .args in
+    rule-few (s .c) (s .points .now) (s .quads .now) (s .labels .now) (length (s .w .now)) (s .floats) 0 0 0 (accepted c) .1
 
--- src/lib.rt:405:9
 refine-tested-requires : tie.Need-refine-tested-requires
-refine-tested-requires c κs = search needs
+refine-tested-requires c κs = let s = c .before .before .before .before .before .before .before .before .before .before .before .before .before .before .before .before .before .before .before .args in
+    rule-refinable (s .c) (s .points .now) (s .quads .now) (s .labels .now) (length (s .w .now)) (s .floats) 0 0 0 (accepted (c .before .before .before .before .before .before)) (c .before .before .before .before .before .before .before .if1 .left) (sym (c .before .before .before .before .before .in-range .ensures) ∙ c .before .before .before .before .if2 .taken)
 
--- src/lib.rt:405:9
 same-length : tie.Need-same-length
 same-length c = search needs
 
--- src/lib.rt:405:9
 same-length-2 : tie.Need-same-length-2
 same-length-2 c = search needs
 
--- src/lib.rt:405:9
 same-length-3 : tie.Need-same-length-3
 same-length-3 c = search needs
 
--- src/lib.rt:405:9
 same-length-4 : tie.Need-same-length-4
 same-length-4 c = search needs
 
--- src/lib.rt:405:9
 returns-3 : tie.Need-returns-3
-returns-3 c = ?
+returns-3 c = let s = c .before .before .before .before .before .before .before .before .before .before .before .before .before .before .before .before .before .before .before .before .before .before .before .before .before .before .before .before .args in
+    rule-tested (s .c) (s .points .now) (s .quads .now) (s .labels .now) (length (s .w .now)) (s .floats) _ _ _ (accepted (c .before .before .before .before .before .before .before .before .before .before .before .before .before .before .before)) _ _ _ _ (c .before .before .before .before .before .before .before .before .before .before .before .before .before .before .before .before .if1 .left) (sym (c .before .before .before .before .before .before .before .before .before .before .before .before .before .before .in-range .ensures) ∙ c .before .before .before .before .before .before .before .before .before .before .before .before .before .if2 .taken) (c .before .before .before .before .before .before .before .before .refine-tested .ensures)
 
--- src/lib.rt:384:1
 returns-4 : tie.Need-returns-4
-returns-4 c = ?
+returns-4 c = let s = c .before .before .before .before .before .before .before .before .before .before .before .before .before .before .before .args in
+    rule-corner (s .c) (s .points .now) (s .quads .now) (s .labels .now) (length (s .w .now)) (s .floats) _ _ _ (accepted (c .before .before)) _ _ _ (c .before .before .before .if1 .left) (sym (c .before .in-range .ensures) ∙ c .if2 .left)
 
 pub refine-or-refusal-spec : {M : Type 1} → statement M
 refine-or-refusal-spec =
