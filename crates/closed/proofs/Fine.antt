@@ -278,7 +278,7 @@ fine-of s a =
         pos (inr g) = g
 
 pub accepted-of : (s : Sheet) → Fine s → Accepted s
-unfolding isLarge isBare goodCorners
+unfolding isLarge isBare goodCorners Below
 accepted-of s f = record {
   not-large = none-of _ _ (none-of _ _ (le-ltb limit (length (s .points)) (f .few-points)) (le-ltb limit (length (s .quads)) (f .few-quads)))
       (le-ltb limit (length (s .labels)) (subst (λ k. k ≤ limit) (sym (f .labelled)) (f .few-quads)));
@@ -292,6 +292,5 @@ accepted-of s f = record {
     is-false b e = rw e refl
 
     some-point : {n : ℕ} (S : List Quad) → 0 < length S → Below n S → 0 < n
-    unfolding Below
     some-point [] h b = absurd (omega arith)
     some-point (quad w x y z ∷ S) h b = let l = b w (omega (arith, at-same w (λ p n. 1) z x)) in omega arith

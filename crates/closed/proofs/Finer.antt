@@ -29,52 +29,52 @@ use Rattle.merges.proofs.Renumber.{valence-list, sum-by-point}
 use Rattle.lists.specs.Sort.{itself}
 
 -- The sum over all corners of a weight that also sees the quad's place.
-abbrev pub itotal : (ℕ → ℕ → ℕ → ℕ → ℕ) → ℕ → List Quad → ℕ
-itotal f i [] = 0
-itotal f i (q ∷ S) = corners (f i) q + itotal f (suc i) S
+abbrev pub indexTotal : (ℕ → ℕ → ℕ → ℕ → ℕ) → ℕ → List Quad → ℕ
+indexTotal f i [] = 0
+indexTotal f i (q ∷ S) = corners (f i) q + indexTotal f (suc i) S
 
-itotal-plain : (f : ℕ → ℕ → ℕ → ℕ) (i : ℕ) (S : List Quad) → itotal (λ i. f) i S ≡ total f S
-itotal-plain f i [] = refl
-itotal-plain f i (q ∷ S) = ap (λ k. corners f q + k) (itotal-plain f (suc i) S)
+index-total-plain : (f : ℕ → ℕ → ℕ → ℕ) (i : ℕ) (S : List Quad) → indexTotal (λ i. f) i S ≡ total f S
+index-total-plain f i [] = refl
+index-total-plain f i (q ∷ S) = ap (λ k. corners f q + k) (index-total-plain f (suc i) S)
 
 -- A property of every corner and the quad's place; what it gives for sums.
 abbrev Each : (ℕ → ℕ → ℕ → ℕ → Type 0) → ℕ → List Quad → Type 0
 Each P i [] = Unit {0}
 Each P i (quad a b c d ∷ S) = (P i d a b × P i a b c × P i b c d × P i c d a) × Each P (suc i) S
 
-itotal-ext : (f g : ℕ → ℕ → ℕ → ℕ → ℕ) (i : ℕ) (S : List Quad) → Each (λ i p m n. f i p m n ≡ g i p m n) i S → itotal f i S ≡ itotal g i S
-itotal-ext f g i [] e = refl
-itotal-ext f g i (quad a b c d ∷ S) ((p, q, r, s), e) = omega (arith, itotal-ext f g (suc i) S e)
+index-total-ext : (f g : ℕ → ℕ → ℕ → ℕ → ℕ) (i : ℕ) (S : List Quad) → Each (λ i p m n. f i p m n ≡ g i p m n) i S → indexTotal f i S ≡ indexTotal g i S
+index-total-ext f g i [] e = refl
+index-total-ext f g i (quad a b c d ∷ S) ((p, q, r, s), e) = omega (arith, index-total-ext f g (suc i) S e)
 
-itotal-add : (f g : ℕ → ℕ → ℕ → ℕ → ℕ) (i : ℕ) (S : List Quad) → itotal (λ i p m n. f i p m n + g i p m n) i S ≡ itotal f i S + itotal g i S
-itotal-add f g i [] = refl
-itotal-add f g i (quad a b c d ∷ S) = omega (arith, itotal-add f g (suc i) S)
+index-total-add : (f g : ℕ → ℕ → ℕ → ℕ → ℕ) (i : ℕ) (S : List Quad) → indexTotal (λ i p m n. f i p m n + g i p m n) i S ≡ indexTotal f i S + indexTotal g i S
+index-total-add f g i [] = refl
+index-total-add f g i (quad a b c d ∷ S) = omega (arith, index-total-add f g (suc i) S)
 
 -- The sides from u to v, with a weight of the quad's place.
-abbrev pub sd : ℕ → ℕ → ℕ → ℕ → ℕ → ℕ
-sd u v k a b = cond (eqb a u) (cond (eqb b v) k 0) 0
+abbrev pub along : ℕ → ℕ → ℕ → ℕ → ℕ → ℕ
+along u v k a b = cond (eqb a u) (cond (eqb b v) k 0) 0
 
-abbrev pub sdb : Bool → Bool → ℕ → ℕ
-sdb x y k = cond x (cond y k 0) 0
+abbrev pub alongBoth : Bool → Bool → ℕ → ℕ
+alongBoth x y k = cond x (cond y k 0) 0
 
-abbrev pub sdq : ℕ → ℕ → ℕ → Quad → ℕ
-sdq u v k (quad a b c d) = sd u v k a b + (sd u v k b c + (sd u v k c d + sd u v k d a))
+abbrev pub alongQuad : ℕ → ℕ → ℕ → Quad → ℕ
+alongQuad u v k (quad a b c d) = along u v k a b + (along u v k b c + (along u v k c d + along u v k d a))
 
-sd-cases : (u v k a b : ℕ) → ((sd u v 1 a b ≡ 0) × (sd u v k a b ≡ 0)) ⊎ ((sd u v 1 a b ≡ 1) × (sd u v k a b ≡ k))
-sd-cases u v k a b = go (eqb a u) (eqb b v)
+along-cases : (u v k a b : ℕ) → ((along u v 1 a b ≡ 0) × (along u v k a b ≡ 0)) ⊎ ((along u v 1 a b ≡ 1) × (along u v k a b ≡ k))
+along-cases u v k a b = go (eqb a u) (eqb b v)
   where
-    go : (x y : Bool) → ((sdb x y 1 ≡ 0) × (sdb x y k ≡ 0)) ⊎ ((sdb x y 1 ≡ 1) × (sdb x y k ≡ k))
+    go : (x y : Bool) → ((alongBoth x y 1 ≡ 0) × (alongBoth x y k ≡ 0)) ⊎ ((alongBoth x y 1 ≡ 1) × (alongBoth x y k ≡ k))
     go true true = inr (refl, refl)
     go true false = inl (refl, refl)
     go false y = inl (refl, refl)
 
-sdq-cases : (u v k : ℕ) (q : Quad) → sdq u v 1 q ≤ 1 → ((sdq u v 1 q ≡ 0) × (sdq u v k q ≡ 0)) ⊎ ((sdq u v 1 q ≡ 1) × (sdq u v k q ≡ k))
-sdq-cases u v k (quad a b c d) h = go (sd-cases u v k a b) (sd-cases u v k b c) (sd-cases u v k c d) (sd-cases u v k d a)
+along-quad-cases : (u v k : ℕ) (q : Quad) → alongQuad u v 1 q ≤ 1 → ((alongQuad u v 1 q ≡ 0) × (alongQuad u v k q ≡ 0)) ⊎ ((alongQuad u v 1 q ≡ 1) × (alongQuad u v k q ≡ k))
+along-quad-cases u v k (quad a b c d) h = go (along-cases u v k a b) (along-cases u v k b c) (along-cases u v k c d) (along-cases u v k d a)
   where
     Two : ℕ → ℕ → Type 0
     Two x y = ((x ≡ 0) × (y ≡ 0)) ⊎ ((x ≡ 1) × (y ≡ k))
 
-    go : Two (sd u v 1 a b) (sd u v k a b) → Two (sd u v 1 b c) (sd u v k b c) → Two (sd u v 1 c d) (sd u v k c d) → Two (sd u v 1 d a) (sd u v k d a) → Two (sdq u v 1 (quad a b c d)) (sdq u v k (quad a b c d))
+    go : Two (along u v 1 a b) (along u v k a b) → Two (along u v 1 b c) (along u v k b c) → Two (along u v 1 c d) (along u v k c d) → Two (along u v 1 d a) (along u v k d a) → Two (alongQuad u v 1 (quad a b c d)) (alongQuad u v k (quad a b c d))
     go (inl (p, p′)) (inl (q, q′)) (inl (r, r′)) (inl (t, t′)) = inl (omega arith, omega arith)
     go (inl (p, p′)) (inl (q, q′)) (inl (r, r′)) (inr (t, t′)) = inr (omega arith, omega arith)
     go (inl (p, p′)) (inl (q, q′)) (inr (r, r′)) (inl (t, t′)) = inr (omega arith, omega arith)
@@ -87,16 +87,16 @@ sdq-cases u v k (quad a b c d) h = go (sd-cases u v k a b) (sd-cases u v k b c) 
     go (inr (p, p′)) (inl (q, q′)) (inr (r, r′)) z = absurd (omega arith)
     go (inr (p, p′)) (inr (q, q′)) y z = absurd (omega arith)
 
-abbrev pub sides-of : ℕ → ℕ → (ℕ → ℕ) → ℕ → List Quad → ℕ
-sides-of u v h i [] = 0
-sides-of u v h i (q ∷ S) = sdq u v (h i) q + sides-of u v h (suc i) S
+abbrev pub sidesOf : ℕ → ℕ → (ℕ → ℕ) → ℕ → List Quad → ℕ
+sidesOf u v h i [] = 0
+sidesOf u v h i (q ∷ S) = alongQuad u v (h i) q + sidesOf u v h (suc i) S
 
 -- No side, no weight; one side, the weight of its quad.
-none-of : (u v : ℕ) (h : ℕ → ℕ) (i : ℕ) (S : List Quad) → sides-of u v (λ i. 1) i S ≡ 0 → sides-of u v h i S ≡ 0
+none-of : (u v : ℕ) (h : ℕ → ℕ) (i : ℕ) (S : List Quad) → sidesOf u v (λ i. 1) i S ≡ 0 → sidesOf u v h i S ≡ 0
 none-of u v h i [] e = refl
-none-of u v h i (q ∷ S) e = go (sdq-cases u v (h i) q (omega arith)) (none-of u v h (suc i) S (omega arith))
+none-of u v h i (q ∷ S) e = go (along-quad-cases u v (h i) q (omega arith)) (none-of u v h (suc i) S (omega arith))
   where
-    go : ((sdq u v 1 q ≡ 0) × (sdq u v (h i) q ≡ 0)) ⊎ ((sdq u v 1 q ≡ 1) × (sdq u v (h i) q ≡ h i)) → sides-of u v h (suc i) S ≡ 0 → sdq u v (h i) q + sides-of u v h (suc i) S ≡ 0
+    go : ((alongQuad u v 1 q ≡ 0) × (alongQuad u v (h i) q ≡ 0)) ⊎ ((alongQuad u v 1 q ≡ 1) × (alongQuad u v (h i) q ≡ h i)) → sidesOf u v h (suc i) S ≡ 0 → alongQuad u v (h i) q + sidesOf u v h (suc i) S ≡ 0
     go (inl (p, r)) z = omega arith
     go (inr (p, r)) z = absurd (omega arith)
 
@@ -104,25 +104,25 @@ none-of u v h i (q ∷ S) e = go (sdq-cases u v (h i) q (omega arith)) (none-of 
 record Only (u v i : ℕ) (S : List Quad) : Type 0 where
   at-place : ℕ
   inside : at-place < length S
-  there : sdq u v 1 (getD S at-place noneQuad) ≡ 1
-  weight : (h : ℕ → ℕ) → sides-of u v h i S ≡ h (i + at-place)
+  there : alongQuad u v 1 (getD S at-place noneQuad) ≡ 1
+  weight : (h : ℕ → ℕ) → sidesOf u v h i S ≡ h (i + at-place)
 
-only : (u v i : ℕ) (S : List Quad) → sides-of u v (λ i. 1) i S ≡ 1 → Only u v i S
+only : (u v i : ℕ) (S : List Quad) → sidesOf u v (λ i. 1) i S ≡ 1 → Only u v i S
 only u v i [] e = absurd (omega arith)
-only u v i (q ∷ S) e = go (sdq-cases u v 1 q (omega arith)) (only u v (suc i) S)
+only u v i (q ∷ S) e = go (along-quad-cases u v 1 q (omega arith)) (only u v (suc i) S)
   where
-    go : ((sdq u v 1 q ≡ 0) × (sdq u v 1 q ≡ 0)) ⊎ ((sdq u v 1 q ≡ 1) × (sdq u v 1 q ≡ 1)) → (sides-of u v (λ i. 1) (suc i) S ≡ 1 → Only u v (suc i) S) → Only u v i (q ∷ S)
+    go : ((alongQuad u v 1 q ≡ 0) × (alongQuad u v 1 q ≡ 0)) ⊎ ((alongQuad u v 1 q ≡ 1) × (alongQuad u v 1 q ≡ 1)) → (sidesOf u v (λ i. 1) (suc i) S ≡ 1 → Only u v (suc i) S) → Only u v i (q ∷ S)
     go (inr (p, p′)) f = record {
       at-place = 0;
       inside = omega arith;
       there = p;
-      weight = λ h. omega (arith, pos (sdq-cases u v (h i) q (omega arith)), none-of u v h (suc i) S (omega arith), ap h (add-zero′ i));
+      weight = λ h. omega (arith, pos (along-quad-cases u v (h i) q (omega arith)), none-of u v h (suc i) S (omega arith), ap h (add-zero′ i));
     }
       where
         add-zero′ : (i : ℕ) → i + 0 ≡ i
         add-zero′ i = omega arith
 
-        pos : {k : ℕ} → ((sdq u v 1 q ≡ 0) × (sdq u v k q ≡ 0)) ⊎ ((sdq u v 1 q ≡ 1) × (sdq u v k q ≡ k)) → sdq u v k q ≡ k
+        pos : {k : ℕ} → ((alongQuad u v 1 q ≡ 0) × (alongQuad u v k q ≡ 0)) ⊎ ((alongQuad u v 1 q ≡ 1) × (alongQuad u v k q ≡ k)) → alongQuad u v k q ≡ k
         pos (inl (z, _)) = absurd (omega arith)
         pos (inr (_, z)) = z
     go (inl (p, p′)) f = later (f (omega arith))
@@ -132,40 +132,40 @@ only u v i (q ∷ S) e = go (sdq-cases u v 1 q (omega arith)) (only u v (suc i) 
           at-place = suc (o .at-place);
           inside = omega (arith, o .inside);
           there = o .there;
-          weight = λ h. omega (arith, zero-q h (sdq-cases u v (h i) q (omega arith)), o .weight h, ap h (shift i (o .at-place)));
+          weight = λ h. omega (arith, zero-q h (along-quad-cases u v (h i) q (omega arith)), o .weight h, ap h (shift i (o .at-place)));
         }
           where
             shift : (i j : ℕ) → suc i + j ≡ i + suc j
             shift i j = omega arith
 
-            zero-q : (h : ℕ → ℕ) → ((sdq u v 1 q ≡ 0) × (sdq u v (h i) q ≡ 0)) ⊎ ((sdq u v 1 q ≡ 1) × (sdq u v (h i) q ≡ h i)) → sdq u v (h i) q ≡ 0
+            zero-q : (h : ℕ → ℕ) → ((alongQuad u v 1 q ≡ 0) × (alongQuad u v (h i) q ≡ 0)) ⊎ ((alongQuad u v 1 q ≡ 1) × (alongQuad u v (h i) q ≡ h i)) → alongQuad u v (h i) q ≡ 0
             zero-q h (inl (_, z)) = z
             zero-q h (inr (z, _)) = absurd (omega arith)
 
 -- as the sums over corners have it: at the side's start, or at its end
-sides-from : (u v : ℕ) (h : ℕ → ℕ) (i : ℕ) (S : List Quad) → itotal (λ i p m x. sd u v (h i) m x) i S ≡ sides-of u v h i S
+sides-from : (u v : ℕ) (h : ℕ → ℕ) (i : ℕ) (S : List Quad) → indexTotal (λ i p m x. along u v (h i) m x) i S ≡ sidesOf u v h i S
 sides-from u v h i [] = refl
 sides-from u v h i (quad a b c d ∷ S) = omega (arith, sides-from u v h (suc i) S)
 
-sides-to : (u v : ℕ) (h : ℕ → ℕ) (i : ℕ) (S : List Quad) → itotal (λ i p m x. sd u v (h i) p m) i S ≡ sides-of u v h i S
+sides-to : (u v : ℕ) (h : ℕ → ℕ) (i : ℕ) (S : List Quad) → indexTotal (λ i p m x. along u v (h i) p m) i S ≡ sidesOf u v h i S
 sides-to u v h i [] = refl
 sides-to u v h i (quad a b c d ∷ S) = omega (arith, sides-to u v h (suc i) S)
 
-pub side-one : (u v i : ℕ) (S : List Quad) → side S u v ≡ sides-of u v (λ i. 1) i S
+pub side-one : (u v i : ℕ) (S : List Quad) → side S u v ≡ sidesOf u v (λ i. 1) i S
 side-one u v i [] = refl
 side-one u v i (quad a b c d ∷ S) = omega (arith, one a b, one b c, one c d, one d a, side-one u v (suc i) S)
   where
-    one : (a b : ℕ) → cond (eqb a u) (is v b) 0 ≡ sd u v 1 a b
+    one : (a b : ℕ) → cond (eqb a u) (is v b) 0 ≡ along u v 1 a b
     one a b = ap (λ k. cond (eqb a u) k 0) (is-sym v b ∙ np (eqb b v))
       where
         np : (x : Bool) → num x ≡ cond x 1 0
         np true = refl
         np false = refl
 
-pub sd-pos : (u v a b : ℕ) → 0 < sd u v 1 a b → (a ≡ u) × (b ≡ v)
-sd-pos u v a b h = go (ℕ-discrete a u) (ℕ-discrete b v)
+pub along-pos : (u v a b : ℕ) → 0 < along u v 1 a b → (a ≡ u) × (b ≡ v)
+along-pos u v a b h = go (ℕ-discrete a u) (ℕ-discrete b v)
   where
-    zero-sd : (a ≢ u) ⊎ (b ≢ v) → sd u v 1 a b ≡ 0
+    zero-sd : (a ≢ u) ⊎ (b ≢ v) → along u v 1 a b ≡ 0
     zero-sd (inl n) = rw (ne-eqb a u n) refl
     zero-sd (inr n) = rw (ne-eqb b v n) (nothing (eqb a u))
       where
@@ -178,13 +178,13 @@ sd-pos u v a b h = go (ℕ-discrete a u) (ℕ-discrete b v)
     go (yes p) (no n) = absurd (omega (arith, zero-sd (inr n)))
     go (no n) q = absurd (omega (arith, zero-sd (inl n)))
 
-pub sd-hit : (u v k : ℕ) → sd u v k u v ≡ k
-sd-hit u v k = rw (eqb-self u, eqb-self v) refl
+pub along-hit : (u v k : ℕ) → along u v k u v ≡ k
+along-hit u v k = rw (eqb-self u, eqb-self v) refl
 
-sd-miss : (u v k a b : ℕ) → (a ≡ u → b ≡ v → ⊥) → sd u v k a b ≡ 0
+sd-miss : (u v k a b : ℕ) → (a ≡ u → b ≡ v → ⊥) → along u v k a b ≡ 0
 sd-miss u v k a b h = go (ℕ-discrete a u)
   where
-    go : Dec (a ≡ u) → sd u v k a b ≡ 0
+    go : Dec (a ≡ u) → along u v k a b ≡ 0
     go (yes p) = rw (p, eqb-self u, ne-eqb b v (h p)) refl
     go (no n) = rw (ne-eqb a u n) refl
 
@@ -216,24 +216,24 @@ sum-once f x (y ∷ w) a i = go (zero-or (is x (f y))) (sum-once f x w (λ k. om
 unfoldable pub Side4 : ℕ → ℕ → ℕ → ℕ → ℕ → ℕ → Type 0
 Side4 u v a b c d = ((a ≡ u) × (b ≡ v)) ⊎ (((b ≡ u) × (c ≡ v)) ⊎ (((c ≡ u) × (d ≡ v)) ⊎ ((d ≡ u) × (a ≡ v))))
 
-pub which : (u v a b c d : ℕ) → 0 < sdq u v 1 (quad a b c d) → Side4 u v a b c d
+pub which : (u v a b c d : ℕ) → 0 < alongQuad u v 1 (quad a b c d) → Side4 u v a b c d
 unfolding Side4
-which u v a b c d h = go (pos-split (sd u v 1 a b) _ h)
+which u v a b c d h = go (pos-split (along u v 1 a b) _ h)
   where
-    last : (0 < sd u v 1 c d) ⊎ (0 < sd u v 1 d a) → ((c ≡ u) × (d ≡ v)) ⊎ ((d ≡ u) × (a ≡ v))
-    last (inl k) = inl (sd-pos u v c d k)
-    last (inr k) = inr (sd-pos u v d a k)
+    last : (0 < along u v 1 c d) ⊎ (0 < along u v 1 d a) → ((c ≡ u) × (d ≡ v)) ⊎ ((d ≡ u) × (a ≡ v))
+    last (inl k) = inl (along-pos u v c d k)
+    last (inr k) = inr (along-pos u v d a k)
 
-    more : (0 < sd u v 1 b c) ⊎ (0 < sd u v 1 c d + sd u v 1 d a) → ((b ≡ u) × (c ≡ v)) ⊎ (((c ≡ u) × (d ≡ v)) ⊎ ((d ≡ u) × (a ≡ v)))
-    more (inl k) = inl (sd-pos u v b c k)
-    more (inr k) = inr (last (pos-split (sd u v 1 c d) (sd u v 1 d a) k))
+    more : (0 < along u v 1 b c) ⊎ (0 < along u v 1 c d + along u v 1 d a) → ((b ≡ u) × (c ≡ v)) ⊎ (((c ≡ u) × (d ≡ v)) ⊎ ((d ≡ u) × (a ≡ v)))
+    more (inl k) = inl (along-pos u v b c k)
+    more (inr k) = inr (last (pos-split (along u v 1 c d) (along u v 1 d a) k))
 
-    go : (0 < sd u v 1 a b) ⊎ (0 < sd u v 1 b c + (sd u v 1 c d + sd u v 1 d a)) → Side4 u v a b c d
-    go (inl k) = inl (sd-pos u v a b k)
-    go (inr k) = inr (more (pos-split (sd u v 1 b c) (sd u v 1 c d + sd u v 1 d a) k))
+    go : (0 < along u v 1 a b) ⊎ (0 < along u v 1 b c + (along u v 1 c d + along u v 1 d a)) → Side4 u v a b c d
+    go (inl k) = inl (along-pos u v a b k)
+    go (inr k) = inr (more (pos-split (along u v 1 b c) (along u v 1 c d + along u v 1 d a) k))
 
 -- A quad of different corners goes along an edge one way only.
-both-ways : (u v : ℕ) (q : Quad) → Differ q → 0 < sdq u v 1 q → 0 < sdq v u 1 q → ⊥
+both-ways : (u v : ℕ) (q : Quad) → Differ q → 0 < alongQuad u v 1 q → 0 < alongQuad v u 1 q → ⊥
 unfolding Side4
 both-ways u v (quad a b c d) (ab, ac, ad, bc, bd, cd) h k = go (which u v a b c d h) (which v u a b c d k)
   where
@@ -267,23 +267,23 @@ each-map P Q f i [] e = tt
 each-map P Q f i (quad a b c d ∷ S) ((p, q, r, s), e) = ((f i d a b p, f i a b c q, f i b c d r, f i c d a s), each-map P Q f (suc i) S e)
 
 -- The weight of one place.
-itotal-miss : (h : ℕ → ℕ → ℕ → ℕ) (k i : ℕ) (S : List Quad) → k < i → itotal (λ i p m x. cond (eqb i k) (h p m x) 0) i S ≡ 0
-itotal-miss h k i [] l = refl
-itotal-miss h k i (quad a b c d ∷ S) l = omega (arith, z (h d a b), z (h a b c), z (h b c d), z (h c d a), itotal-miss h k (suc i) S (omega arith))
+index-total-miss : (h : ℕ → ℕ → ℕ → ℕ) (k i : ℕ) (S : List Quad) → k < i → indexTotal (λ i p m x. cond (eqb i k) (h p m x) 0) i S ≡ 0
+index-total-miss h k i [] l = refl
+index-total-miss h k i (quad a b c d ∷ S) l = omega (arith, z (h d a b), z (h a b c), z (h b c d), z (h c d a), index-total-miss h k (suc i) S (omega arith))
   where
     z : (y : ℕ) → cond (eqb i k) y 0 ≡ 0
     z y = rw (ne-eqb i k (λ e. omega arith)) refl
 
-itotal-at : (h : ℕ → ℕ → ℕ → ℕ) (k i j : ℕ) (S : List Quad) → k ≡ i + j → j < length S → itotal (λ i p m x. cond (eqb i k) (h p m x) 0) i S ≡ corners h (getD S j noneQuad)
-itotal-at h k i j [] e l = absurd (omega arith)
-itotal-at h k i zero (quad a b c d ∷ S) e l = omega (arith, z (h d a b), z (h a b c), z (h b c d), z (h c d a), itotal-miss h k (suc i) S (omega arith))
+index-total-at : (h : ℕ → ℕ → ℕ → ℕ) (k i j : ℕ) (S : List Quad) → k ≡ i + j → j < length S → indexTotal (λ i p m x. cond (eqb i k) (h p m x) 0) i S ≡ corners h (getD S j noneQuad)
+index-total-at h k i j [] e l = absurd (omega arith)
+index-total-at h k i zero (quad a b c d ∷ S) e l = omega (arith, z (h d a b), z (h a b c), z (h b c d), z (h c d a), index-total-miss h k (suc i) S (omega arith))
   where
     ki : i ≡ k
     ki = omega arith
 
     z : (y : ℕ) → cond (eqb i k) y 0 ≡ y
     z y = rw (ki, eqb-self k) refl
-itotal-at h k i (suc j) (quad a b c d ∷ S) e l = omega (arith, z (h d a b), z (h a b c), z (h b c d), z (h c d a), itotal-at h k (suc i) j S (omega arith) (omega arith))
+index-total-at h k i (suc j) (quad a b c d ∷ S) e l = omega (arith, z (h d a b), z (h a b c), z (h b c d), z (h c d a), index-total-at h k (suc i) j S (omega arith) (omega arith))
   where
     z : (y : ℕ) → cond (eqb i k) y 0 ≡ 0
     z y = rw (ne-eqb i k (λ q. omega arith)) refl
@@ -364,7 +364,7 @@ upto-plain n (suc k) f c h = rw add-suc (omega (arith, h (n + k) (omega arith) (
 
 -- Every quad has four corners.
 pub handshake : (n : ℕ) (S : List Quad) → Below n S → upto n (λ v. valence S v) ≡ 4 * length S
-unfolding Below
+unfolding Below flatQuads
 handshake n S b = upto-ext (λ v. valence S v) (λ v. sum (λ x. cond (eqb v x) 1 0) (flatQuads S)) n (λ v l. valence-list v S ∙ same v (flatQuads S))
     ∙ (sym (sum-by-point n (λ v. 1) (flatQuads S) (λ x h. b x (omega (arith, valence-list x S)))) ∙ count S)
   where
@@ -385,7 +385,7 @@ module _ (mid : ℕ → ℕ → ℕ) (cen : ℕ → ℕ) where
   new : (ℕ → ℕ → ℕ → ℕ) → ℕ → ℕ → ℕ → ℕ → ℕ
   new f i p v x = f (mid p v) v (mid v x) + (f v (mid v x) (cen i) + (f (mid v x) (cen i) (mid p v) + f (cen i) (mid p v) v))
 
-  total-split : (f : ℕ → ℕ → ℕ → ℕ) (i : ℕ) (S : List Quad) → total f (split mid cen i S) ≡ itotal (new f) i S
+  total-split : (f : ℕ → ℕ → ℕ → ℕ) (i : ℕ) (S : List Quad) → total f (split mid cen i S) ≡ indexTotal (new f) i S
   unfolding new
   total-split f i [] = refl
   total-split f i (quad a b c d ∷ S) = omega (arith, total-split f (suc i) S)
@@ -413,7 +413,7 @@ module _ (mid : ℕ → ℕ → ℕ) (cen : ℕ → ℕ) where
         first (no k) = rw (ne-eqb m v k) refl
 
     at-old : (v : ℕ) → v < n → (g : ℕ → ℕ → ℕ) (i : ℕ) (S : List Quad) → total (at v g) (split mid cen i S) ≡ atPoint S v (λ p x. g (mid v p) (mid v x))
-    at-old v l g i S = total-split (at v g) i S ∙ (itotal-ext (new (at v g)) (λ i. at v (λ p x. g (mid v p) (mid v x))) i S (all i S) ∙ itotal-plain (at v (λ p x. g (mid v p) (mid v x))) i S)
+    at-old v l g i S = total-split (at v g) i S ∙ (index-total-ext (new (at v g)) (λ i. at v (λ p x. g (mid v p) (mid v x))) i S (all i S) ∙ index-total-plain (at v (λ p x. g (mid v p) (mid v x))) i S)
       where
         all : (i : ℕ) (S : List Quad) → Each (λ i p m x. new (at v g) i p m x ≡ at v (λ p x. g (mid v p) (mid v x)) p m x) i S
         all i [] = tt
@@ -476,11 +476,11 @@ module _ (mid : ℕ → ℕ → ℕ) (cen : ℕ → ℕ) (n : ℕ) (mid-high : (
   -- the corners there
   at-centre : (k : ℕ) → k < length S → (g : ℕ → ℕ → ℕ) → total (at (cen k) g) (split mid cen 0 S) ≡ corners (λ p v x. g (mid v x) (mid p v)) (getD S k noneQuad)
   at-centre k l g = total-split mid cen (at (cen k) g) 0 S
-      ∙ (itotal-ext (new mid cen (at (cen k) g)) (λ i p v x. cond (eqb i k) (g (mid v x) (mid p v)) 0) 0 S (each-map (Fact n S) _ (centre-corner k l g) 0 S facts) ∙ itotal-at (λ p v x. g (mid v x) (mid p v)) k 0 k S (omega arith) l)
+      ∙ (index-total-ext (new mid cen (at (cen k) g)) (λ i p v x. cond (eqb i k) (g (mid v x) (mid p v)) 0) 0 S (each-map (Fact n S) _ (centre-corner k l g) 0 S facts) ∙ index-total-at (λ p v x. g (mid v x) (mid p v)) k 0 k S (omega arith) l)
 
   -- what a corner gives to the point of the edge from u to v
   mid-corner : (u v : ℕ) → 0 < side S u v → u ≢ v → (g : ℕ → ℕ → ℕ) (i p m x : ℕ) → Fact n S i p m x
-      → new mid cen (at (mid u v) g) i p m x ≡ (sd u v (g u (cen i)) m x + sd v u (g v (cen i)) m x) + (sd u v (g (cen i) v) p m + sd v u (g (cen i) u) p m)
+      → new mid cen (at (mid u v) g) i p m x ≡ (along u v (g u (cen i)) m x + along v u (g v (cen i)) m x) + (along u v (g (cen i) v) p m + along v u (g (cen i) u) p m)
   unfolding new
   mid-corner u v uv ne g i p m x (li, lm, pm, mx) = omega (
     arith,
@@ -491,17 +491,17 @@ module _ (mid : ℕ → ℕ → ℕ) (cen : ℕ → ℕ) (n : ℕ) (mid-high : (
   )
     where
       -- an edge's point is that of u v just if the edge is u v, one way or the other
-      meets : (a b : ℕ) → 0 < side S a b → (w : ℕ → ℕ → ℕ) → cond (eqb (mid a b) (mid u v)) (w a b) 0 ≡ sd u v (w u v) a b + sd v u (w v u) a b
+      meets : (a b : ℕ) → 0 < side S a b → (w : ℕ → ℕ → ℕ) → cond (eqb (mid a b) (mid u v)) (w a b) 0 ≡ along u v (w u v) a b + along v u (w v u) a b
       meets a b ab w = go (ℕ-discrete (mid a b) (mid u v))
         where
           same : mid a b ≡ mid u v → cond (eqb (mid a b) (mid u v)) (w a b) 0 ≡ w a b
           same e = rw (e, eqb-self (mid u v)) refl
 
-          hit : mid a b ≡ mid u v → ((a ≡ u) × (b ≡ v)) ⊎ ((a ≡ v) × (b ≡ u)) → cond (eqb (mid a b) (mid u v)) (w a b) 0 ≡ sd u v (w u v) a b + sd v u (w v u) a b
-          hit e (inl (p, q)) = omega (arith, same e, ap₂ w p q, ap₂ (sd u v (w u v)) p q, sd-hit u v (w u v), sd-miss v u (w v u) a b (λ r t. ne (sym p ∙ r)))
-          hit e (inr (p, q)) = omega (arith, same e, ap₂ w p q, ap₂ (sd v u (w v u)) p q, sd-hit v u (w v u), sd-miss u v (w u v) a b (λ r t. ne (sym r ∙ p)))
+          hit : mid a b ≡ mid u v → ((a ≡ u) × (b ≡ v)) ⊎ ((a ≡ v) × (b ≡ u)) → cond (eqb (mid a b) (mid u v)) (w a b) 0 ≡ along u v (w u v) a b + along v u (w v u) a b
+          hit e (inl (p, q)) = omega (arith, same e, ap₂ w p q, ap₂ (along u v (w u v)) p q, along-hit u v (w u v), sd-miss v u (w v u) a b (λ r t. ne (sym p ∙ r)))
+          hit e (inr (p, q)) = omega (arith, same e, ap₂ w p q, ap₂ (along v u (w v u)) p q, along-hit v u (w v u), sd-miss u v (w u v) a b (λ r t. ne (sym r ∙ p)))
 
-          go : Dec (mid a b ≡ mid u v) → cond (eqb (mid a b) (mid u v)) (w a b) 0 ≡ sd u v (w u v) a b + sd v u (w v u) a b
+          go : Dec (mid a b ≡ mid u v) → cond (eqb (mid a b) (mid u v)) (w a b) 0 ≡ along u v (w u v) a b + along v u (w v u) a b
           go (yes e) = hit e (mid-inj a b u v ab uv e)
           go (no k) = omega (arith, miss, sd-miss u v (w u v) a b (λ p q. k (ap₂ mid p q)), sd-miss v u (w v u) a b (λ p q. k (ap₂ mid p q ∙ mid-sym v u)))
             where
@@ -510,14 +510,14 @@ module _ (mid : ℕ → ℕ → ℕ) (cen : ℕ → ℕ) (n : ℕ) (mid-high : (
 
   -- the corners there
   at-mid : (u v : ℕ) → 0 < side S u v → u ≢ v → (g : ℕ → ℕ → ℕ) → total (at (mid u v) g) (split mid cen 0 S)
-      ≡ (sides-of u v (λ i. g u (cen i)) 0 S + sides-of v u (λ i. g v (cen i)) 0 S) + (sides-of u v (λ i. g (cen i) v) 0 S + sides-of v u (λ i. g (cen i) u) 0 S)
+      ≡ (sidesOf u v (λ i. g u (cen i)) 0 S + sidesOf v u (λ i. g v (cen i)) 0 S) + (sidesOf u v (λ i. g (cen i) v) 0 S + sidesOf v u (λ i. g (cen i) u) 0 S)
   at-mid u v uv ne g = omega (
     arith,
     total-split mid cen (at (mid u v) g) 0 S,
-    itotal-ext (new mid cen (at (mid u v) g)) (λ i p m x. (f1 i p m x + f2 i p m x) + (f3 i p m x + f4 i p m x)) 0 S (each-map (Fact n S) _ (mid-corner u v uv ne g) 0 S facts),
-    itotal-add (λ i p m x. f1 i p m x + f2 i p m x) (λ i p m x. f3 i p m x + f4 i p m x) 0 S,
-    itotal-add f1 f2 0 S,
-    itotal-add f3 f4 0 S,
+    index-total-ext (new mid cen (at (mid u v) g)) (λ i p m x. (f1 i p m x + f2 i p m x) + (f3 i p m x + f4 i p m x)) 0 S (each-map (Fact n S) _ (mid-corner u v uv ne g) 0 S facts),
+    index-total-add (λ i p m x. f1 i p m x + f2 i p m x) (λ i p m x. f3 i p m x + f4 i p m x) 0 S,
+    index-total-add f1 f2 0 S,
+    index-total-add f3 f4 0 S,
     sides-from u v (λ i. g u (cen i)) 0 S,
     sides-from v u (λ i. g v (cen i)) 0 S,
     sides-to u v (λ i. g (cen i) v) 0 S,
@@ -525,16 +525,16 @@ module _ (mid : ℕ → ℕ → ℕ) (cen : ℕ → ℕ) (n : ℕ) (mid-high : (
   )
     where
       f1 : ℕ → ℕ → ℕ → ℕ → ℕ
-      f1 i p m x = sd u v (g u (cen i)) m x
+      f1 i p m x = along u v (g u (cen i)) m x
 
       f2 : ℕ → ℕ → ℕ → ℕ → ℕ
-      f2 i p m x = sd v u (g v (cen i)) m x
+      f2 i p m x = along v u (g v (cen i)) m x
 
       f3 : ℕ → ℕ → ℕ → ℕ → ℕ
-      f3 i p m x = sd u v (g (cen i) v) p m
+      f3 i p m x = along u v (g (cen i) v) p m
 
       f4 : ℕ → ℕ → ℕ → ℕ → ℕ
-      f4 i p m x = sd v u (g (cen i) u) p m
+      f4 i p m x = along v u (g (cen i) u) p m
 
   -- a side joins different points
   apart-side : (u v : ℕ) → 0 < side S u v → u ≢ v
@@ -564,11 +564,11 @@ module _ (mid : ℕ → ℕ → ℕ) (cen : ℕ → ℕ) (n : ℕ) (mid-high : (
         same = λ g. omega (arith, at-mid u v h (apart-side u v h) g, first o (λ i. g u (cen i)), first o′ (λ i. g v (cen i)), first o (λ i. g (cen i) v), first o′ (λ i. g (cen i) u));
       }
         where
-          first : {u v : ℕ} (o : Only u v 0 S) (h : ℕ → ℕ) → sides-of u v h 0 S ≡ h (o .at-place)
+          first : {u v : ℕ} (o : Only u v 0 S) (h : ℕ → ℕ) → sidesOf u v h 0 S ≡ h (o .at-place)
           first o h = o .weight h ∙ ap h (omega arith)
 
           two-quads : o .at-place ≢ o′ .at-place
-          two-quads e = both-ways u v (getD S (o .at-place) noneQuad) (all-at S pr (o .at-place) (o .inside)) (omega (arith, o .there)) (omega (arith, o′ .there, ap (λ k. sdq v u 1 (getD S k noneQuad)) e))
+          two-quads e = both-ways u v (getD S (o .at-place) noneQuad) (all-at S pr (o .at-place) (o .inside)) (omega (arith, o .there)) (omega (arith, o′ .there, ap (λ k. alongQuad v u 1 (getD S k noneQuad)) e))
 
   centre-ring : (a b c d : ℕ) → Differ (quad a b c d) → 0 < side S a b → 0 < side S b c → 0 < side S c d → 0 < side S d a → Ring (λ g. corners (λ p v x. g (mid v x) (mid p v)) (quad a b c d))
   centre-ring a b c d (ab, ac, ad, bc, bd, cd) sab sbc scd sda = record {
@@ -658,7 +658,7 @@ module _ (mid : ℕ → ℕ → ℕ) (cen : ℕ → ℕ) (n : ℕ) (mid-high : (
       where
         go : Dec (w < n + k) → w < n + k
         go (yes l) = l
-        go (no l) = absurd (omega (arith, h, total-split mid cen (at w (λ p n. 1)) 0 S, itotal-ext (new mid cen (at w (λ p n. 1))) (λ i p v x. 0) 0 S (each-map (Fact n S) _ one 0 S facts), itotal-plain (λ p v x. 0) 0 S, total-zero S))
+        go (no l) = absurd (omega (arith, h, total-split mid cen (at w (λ p n. 1)) 0 S, index-total-ext (new mid cen (at w (λ p n. 1))) (λ i p v x. 0) 0 S (each-map (Fact n S) _ one 0 S facts), index-total-plain (λ p v x. 0) 0 S, total-zero S))
           where
             one : (i p v x : ℕ) → Fact n S i p v x → new mid cen (at w (λ p n. 1)) i p v x ≡ 0
             one i p v x (li, lv, pv, vx) = omega (
@@ -739,18 +739,18 @@ module _ (mid : ℕ → ℕ → ℕ) (cen : ℕ → ℕ) (n : ℕ) (mid-high : (
             few : (l : ℕ) → touches (split mid cen 0 S) (fourLabels labels) w l ≤ 4 * touches S labels u l
             few l = subst (λ k. touches (split mid cen 0 S) (fourLabels labels) k l ≤ 4 * touches S labels u l) (sym q) (omega (arith, as-sum (mid u v) l, ilsum-four (new mid cen (W (mid u v))) (W u) l 0 S labels (each-quad 0 S facts)))
               where
-                le-u : (a b : ℕ) → sd u v 1 a b ≤ at u (λ p n. 1) 0 a b
+                le-u : (a b : ℕ) → along u v 1 a b ≤ at u (λ p n. 1) 0 a b
                 le-u a b = go (eqb a u) (eqb b v)
                   where
-                    go : (x y : Bool) → sdb x y 1 ≤ cond {A = ℕ} x 1 0
+                    go : (x y : Bool) → alongBoth x y 1 ≤ cond {A = ℕ} x 1 0
                     go true true = omega arith
                     go true false = omega arith
                     go false y = omega arith
 
-                le-v : (a b : ℕ) → sd v u 1 a b ≤ at u (λ p n. 1) 0 b a
+                le-v : (a b : ℕ) → along v u 1 a b ≤ at u (λ p n. 1) 0 b a
                 le-v a b = go (eqb a v) (eqb b u)
                   where
-                    go : (x y : Bool) → sdb x y 1 ≤ cond {A = ℕ} y 1 0
+                    go : (x y : Bool) → alongBoth x y 1 ≤ cond {A = ℕ} y 1 0
                     go true true = omega arith
                     go true false = omega arith
                     go false y = omega arith

@@ -18,7 +18,7 @@ use Rattle.swaps.proofs.Swap.{sum-at}
 use Rattle.swaps.proofs.SwapPass.{is-pos}
 use Rattle.swaps.proofs.Weigh.{is-le, side-at-end, at-point-le}
 use Rattle.merges.proofs.Renumber.{Apart, firsts-apart, firsts-some, at-place}
-use Rattle.closed.proofs.Finer.{sdq, sides-of, sd-hit, Side4, which, side-one, split-below, split-rings, split-used, split-squared, split-points, split-proper, split-length, split-clash}
+use Rattle.closed.proofs.Finer.{alongQuad, sidesOf, along-hit, Side4, which, side-one, split-below, split-rings, split-used, split-squared, split-points, split-proper, split-length, split-clash}
 
 -- a pair of numbers below n is known by its key
 key-parts : (n a b c d : ℕ) → b < n → d < n → a * n + b ≡ c * n + d → (a ≡ c) × (b ≡ d)
@@ -52,7 +52,7 @@ edge-below n u v lu lv = omega (arith, suc-mul (min u v) n, mul-le-mul-right n (
 
 -- the keys of a sheet are those of its edges and its quads
 Source : ℕ → ℕ → List Quad → ℕ → Type 0
-Source n i Q y = ((u : ℕ) × (v : ℕ) × (0 < sides-of u v (λ i. 1) i Q) × (y ≡ edgeKey n u v)) ⊎ ((j : ℕ) × (j < length Q) × (y ≡ centreKey n (i + j)))
+Source n i Q y = ((u : ℕ) × (v : ℕ) × (0 < sidesOf u v (λ i. 1) i Q) × (y ≡ edgeKey n u v)) ⊎ ((j : ℕ) × (j < length Q) × (y ≡ centreKey n (i + j)))
 
 keys-from : (n y i : ℕ) (Q : List Quad) → 0 < sum (is y) (keys n i Q) → Source n i Q y
 unfolding Source
@@ -65,7 +65,7 @@ keys-from n y i (quad a b c d ∷ Q) h = go1 (pos-split (is y (edgeKey n a b)) _
     Later : Type 0
     Later = 0 < sum (is y) (keys n (suc i) Q) → Source n (suc i) Q y
 
-    side-here : (u v : ℕ) → 0 < sdq u v 1 (quad a b c d) → y ≡ edgeKey n u v → Goal
+    side-here : (u v : ℕ) → 0 < alongQuad u v 1 (quad a b c d) → y ≡ edgeKey n u v → Goal
     side-here u v k e = inl (u, v, omega arith, e)
 
     go5 : (0 < is y (centreKey n i)) ⊎ (0 < sum (is y) (keys n (suc i) Q)) → Later → Goal
@@ -77,25 +77,25 @@ keys-from n y i (quad a b c d ∷ Q) h = go1 (pos-split (is y (edgeKey n a b)) _
         later (inr (j, l, e)) = inr (suc j, omega arith, e ∙ ap (centreKey n) (omega arith))
 
     go4 : (0 < is y (edgeKey n d a)) ⊎ (0 < is y (centreKey n i) + sum (is y) (keys n (suc i) Q)) → Later → Goal
-    go4 (inl k) f = side-here d a (omega (arith, sd-hit d a 1)) (is-pos y (edgeKey n d a) k)
+    go4 (inl k) f = side-here d a (omega (arith, along-hit d a 1)) (is-pos y (edgeKey n d a) k)
     go4 (inr k) f = go5 (pos-split (is y (centreKey n i)) _ k) f
 
     go3 : (0 < is y (edgeKey n c d)) ⊎ (0 < is y (edgeKey n d a) + (is y (centreKey n i) + sum (is y) (keys n (suc i) Q))) → Later → Goal
-    go3 (inl k) f = side-here c d (omega (arith, sd-hit c d 1)) (is-pos y (edgeKey n c d) k)
+    go3 (inl k) f = side-here c d (omega (arith, along-hit c d 1)) (is-pos y (edgeKey n c d) k)
     go3 (inr k) f = go4 (pos-split (is y (edgeKey n d a)) _ k) f
 
     go2 : (0 < is y (edgeKey n b c)) ⊎ (0 < is y (edgeKey n c d) + (is y (edgeKey n d a) + (is y (centreKey n i) + sum (is y) (keys n (suc i) Q)))) → Later → Goal
-    go2 (inl k) f = side-here b c (omega (arith, sd-hit b c 1)) (is-pos y (edgeKey n b c) k)
+    go2 (inl k) f = side-here b c (omega (arith, along-hit b c 1)) (is-pos y (edgeKey n b c) k)
     go2 (inr k) f = go3 (pos-split (is y (edgeKey n c d)) _ k) f
 
     go1 : (0 < is y (edgeKey n a b)) ⊎ (0 < is y (edgeKey n b c) + (is y (edgeKey n c d) + (is y (edgeKey n d a) + (is y (centreKey n i) + sum (is y) (keys n (suc i) Q))))) → Later → Goal
-    go1 (inl k) f = side-here a b (omega (arith, sd-hit a b 1)) (is-pos y (edgeKey n a b) k)
+    go1 (inl k) f = side-here a b (omega (arith, along-hit a b 1)) (is-pos y (edgeKey n a b) k)
     go1 (inr k) f = go2 (pos-split (is y (edgeKey n b c)) _ k) f
 
-edge-asked : (n u v i : ℕ) (Q : List Quad) → 0 < sides-of u v (λ i. 1) i Q → 0 < sum (is (edgeKey n u v)) (keys n i Q)
+edge-asked : (n u v i : ℕ) (Q : List Quad) → 0 < sidesOf u v (λ i. 1) i Q → 0 < sum (is (edgeKey n u v)) (keys n i Q)
 unfolding Side4
 edge-asked n u v i [] h = absurd (omega arith)
-edge-asked n u v i (quad a b c d ∷ Q) h = go (pos-split (sdq u v 1 (quad a b c d)) _ h) (edge-asked n u v (suc i) Q)
+edge-asked n u v i (quad a b c d ∷ Q) h = go (pos-split (alongQuad u v 1 (quad a b c d)) _ h) (edge-asked n u v (suc i) Q)
   where
     at-side : (x y : ℕ) → (x ≡ u) × (y ≡ v) → is (edgeKey n u v) (edgeKey n x y) ≡ 1
     at-side x y (p, q) = ap (is (edgeKey n u v)) (ap₂ (edgeKey n) p q) ∙ is-self (edgeKey n u v)
@@ -106,7 +106,7 @@ edge-asked n u v i (quad a b c d ∷ Q) h = go (pos-split (sdq u v 1 (quad a b c
     four (inr (inr (inl e))) = omega (arith, at-side c d e)
     four (inr (inr (inr e))) = omega (arith, at-side d a e)
 
-    go : (0 < sdq u v 1 (quad a b c d)) ⊎ (0 < sides-of u v (λ i. 1) (suc i) Q) → (0 < sides-of u v (λ i. 1) (suc i) Q → 0 < sum (is (edgeKey n u v)) (keys n (suc i) Q)) → 0 < sum (is (edgeKey n u v)) (keys n i (quad a b c d ∷ Q))
+    go : (0 < alongQuad u v 1 (quad a b c d)) ⊎ (0 < sidesOf u v (λ i. 1) (suc i) Q) → (0 < sidesOf u v (λ i. 1) (suc i) Q → 0 < sum (is (edgeKey n u v)) (keys n (suc i) Q)) → 0 < sum (is (edgeKey n u v)) (keys n i (quad a b c d ∷ Q))
     go (inl k) f = four (which u v a b c d k)
     go (inr k) f = omega (arith, f k)
 

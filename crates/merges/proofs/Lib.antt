@@ -3,3 +3,4 @@ pub mod Merge
 pub mod MergePass
 pub mod Renumber
 pub mod Visits
+pub mod Points

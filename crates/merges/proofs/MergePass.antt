@@ -247,8 +247,8 @@ ren-le-a c a (quad x y z w) = omega (arith, le w x y, le x y z, le y z w, le z w
 ren-has : (c a v : ℕ) (q : Quad) → v ≢ a → Has (renameQuad (rename c a) q) v → Has q v
 ren-has c a v q n h = omega (arith, h, ren-le c a v q n)
 
-pub squ-pos : (k : ℕ) → 0 < k → sqUsed k ≡ sq k
-squ-pos k h = ap (λ b. cond b 0 (sq k)) (ne-eqb k 0 (λ p. omega arith))
+pub sq-used-pos : (k : ℕ) → 0 < k → sqUsed k ≡ sq k
+sq-used-pos k h = ap (λ b. cond b 0 (sq k)) (ne-eqb k 0 (λ p. omega arith))
 
 used : ℕ → ℕ
 used k = cond (eqb k 0) 0 1
@@ -457,14 +457,14 @@ module _ (labels : List ℕ) (S0 : List Quad) (S : List Slot) (U : ℕ → Type 
     kept-squares : squaredUsed n (live (merged S k a c)) ≤ squaredUsed n (live S)
     unfolding squaredUsed
     kept-squares = less-squares (sums sqUsed)
-        (squ-pos (valence (live S) a) (omega (arith, va)) ∙ ap sq (now-a (λ p n. 1)))
-        (squ-pos (valence (live S) b) (omega (arith, vb)) ∙ ap sq (now-b (λ p n. 1)))
-        (squ-pos (valence (live S) c) (omega (arith, vc)) ∙ ap sq (now-c (λ p n. 1)))
-        (squ-pos (valence (live S) d) (omega (arith, vd)) ∙ ap sq (now-d (λ p n. 1)))
-        (squ-pos (valence (live (merged S k a c)) a) (omega (arith, va, vc, new-a)) ∙ ap sq wa)
-        (squ-pos (valence (live (merged S k a c)) b) (omega (arith, vb, new-b)) ∙ ap sq wb)
+        (sq-used-pos (valence (live S) a) (omega (arith, va)) ∙ ap sq (now-a (λ p n. 1)))
+        (sq-used-pos (valence (live S) b) (omega (arith, vb)) ∙ ap sq (now-b (λ p n. 1)))
+        (sq-used-pos (valence (live S) c) (omega (arith, vc)) ∙ ap sq (now-c (λ p n. 1)))
+        (sq-used-pos (valence (live S) d) (omega (arith, vd)) ∙ ap sq (now-d (λ p n. 1)))
+        (sq-used-pos (valence (live (merged S k a c)) a) (omega (arith, va, vc, new-a)) ∙ ap sq wa)
+        (sq-used-pos (valence (live (merged S k a c)) b) (omega (arith, vb, new-b)) ∙ ap sq wb)
         (ap sqUsed new-c)
-        (squ-pos (valence (live (merged S k a c)) d) (omega (arith, vd, new-d)) ∙ ap sq wd)
+        (sq-used-pos (valence (live (merged S k a c)) d) (omega (arith, vd, new-d)) ∙ ap sq wd)
         (m .gain)
       where
         wa : valence (live (merged S k a c)) a ≡ valence S0 a + valence S0 c - 2

@@ -2,21 +2,22 @@
 use mathlib.Core.Path.{_≡_, refl, ap, sym, _∙_, subst}
 use mathlib.Core.Logic.{_⊎_, inl, inr}
 use mathlib.Core.Option.{Option, none, some}
-use mathlib.Core.Bool.{Bool, true, false, _&&_}
-use Prim.Native.Nat.{ℕ, zero, suc, _+_, _<_}
+use mathlib.Core.Bool.{Bool, true, false, not, _&&_}
+use Prim.Native.Nat.{ℕ, zero, suc, _+_, _-_, _<_}
 use mathlib.Core.List.{List, [], _∷_}
 use native.Mathlib.Omega.{arith}
+use lib.Dec.{leb, ltb}
 use lib.ListN.{length, getD, set, length-set}
 use Rattle.lists.proofs.Every.{and-left, and-right}
 use Rattle.points.specs.declared.Point.{Point}
 use Rattle.points.specs.Points.{finiteP}
-use Rattle.sheet.specs.Quads.{Quad, quad, is, sum, all}
+use Rattle.sheet.specs.Quads.{Quad, quad, is, sum, all, valence}
 use Rattle.sheet.specs.Sheet.{Sheet}
-use Rattle.swaps.specs.Swaps.{takeOr}
+use Rattle.swaps.specs.Swaps.{choose, takeOr}
 use Rattle.swaps.proofs.Base.{is-self}
 use Rattle.swaps.proofs.Sweep.{none-some, cond-some, choose-some}
 use Rattle.merges.specs.Merges.{Slot, out, slot, nonePoint, gathered}
-use Rattle.merges.specs.Coarse.{MergeState, MergeFits, Position, mayMerge, mergedState, tryFace, visit, freshMerge, mergePass}
+use Rattle.merges.specs.Coarse.{MergeState, MergeFits, Position, masksJoin, shareOnly, noFurther, nearFree, sumBefore, sumAfter, mayMerge, mergedState, tryFace, visit, freshMerge, mergePass}
 
 -- ---- a test of every element
 
@@ -48,15 +49,37 @@ module _ (n : ℕ) (S0 : List Quad) (labels : List ℕ) (fits : MergeFits) (posi
   merged-placed st f a b c d p y = record {
     number = length-set (st .points) a (position (st .points) a c) ∙ p .number;
     all-finite = all-put finiteP (st .points) a (position (st .points) a c) (p .all-finite)
-        (finite (st .points) (st .slots) f a c (p .all-finite) (and-right _ (fits (st .points) (st .slots) f a c) y));
+        (finite (st .points) (st .slots) f a c (p .all-finite) (and-right allowed (fits (st .points) (st .slots) f a c) y));
   }
+    where
+      -- what the rule asks beside `fits`
+      allowed : Bool
+      allowed = masksJoin n S0 labels fits position a c && leb 4 (valence S0 b) && leb 4 (valence S0 d) && shareOnly n S0 labels fits position a b c d
+          && noFurther n S0 labels fits position f a c && nearFree n S0 labels fits position (st .used) a c && leb (sumAfter n S0 labels fits position a b c d) (sumBefore n S0 labels fits position a b c d)
 
   face-placed : (st t : MergeState) (f : ℕ) (s : Slot) → Placed st → tryFace n S0 labels fits position st f s ≡ some t → Placed t
   face-placed st t f out p e = absurd (none-some e)
-  face-placed st t f (slot (quad q0 q1 q2 q3)) p e = chosen (choose-some (mayMerge n S0 labels fits position st f q0 q1 q2 q3) (mayMerge n S0 labels fits position st f q1 q2 q3 q0) _ _ _ t (cond-some _ _ e .1))
+  face-placed st t f (slot (quad q0 q1 q2 q3)) p e = chosen (choose-some first second gains one other t (cond-some free (choose first second gains one other) e .1))
     where
-      chosen : ((mayMerge n S0 labels fits position st f q0 q1 q2 q3 ≡ true) × (mergedState n S0 labels fits position st f q0 q2 ≡ t))
-          ⊎ ((mayMerge n S0 labels fits position st f q1 q2 q3 q0 ≡ true) × (mergedState n S0 labels fits position st f q1 q3 ≡ t)) → Placed t
+      free : Bool
+      free = not (getD (st .used) q0 true) && not (getD (st .used) q1 true) && not (getD (st .used) q2 true) && not (getD (st .used) q3 true)
+
+      first : Bool
+      first = mayMerge n S0 labels fits position st f q0 q1 q2 q3
+
+      second : Bool
+      second = mayMerge n S0 labels fits position st f q1 q2 q3 q0
+
+      gains : Bool
+      gains = ltb (sumBefore n S0 labels fits position q0 q1 q2 q3 - sumAfter n S0 labels fits position q0 q1 q2 q3) (sumBefore n S0 labels fits position q1 q2 q3 q0 - sumAfter n S0 labels fits position q1 q2 q3 q0)
+
+      one : MergeState
+      one = mergedState n S0 labels fits position st f q0 q2
+
+      other : MergeState
+      other = mergedState n S0 labels fits position st f q1 q3
+
+      chosen : ((first ≡ true) × (one ≡ t)) ⊎ ((second ≡ true) × (other ≡ t)) → Placed t
       chosen (inl (y, i)) = subst Placed i (merged-placed st f q0 q1 q2 q3 p y)
       chosen (inr (y, i)) = subst Placed i (merged-placed st f q1 q2 q3 q0 p y)
 

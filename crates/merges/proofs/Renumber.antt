@@ -24,7 +24,7 @@ use Rattle.swaps.proofs.Weigh.{at-same, at-diff, is-le, is-sym, upto-mask, mask
 use Rattle.merges.specs.Merges.{renameQuad, order, renumber}
 use Rattle.merges.proofs.Joins.{sqUsed, squaredUsed, inUse}
 use Rattle.merges.proofs.Merge.{total-zero}
-use Rattle.merges.proofs.MergePass.{squ-pos}
+use Rattle.merges.proofs.MergePass.{sq-used-pos}
 use Rattle.lists.specs.Sort.{itself}
 
 unfoldable pub Apart : List ℕ → Type 0
@@ -297,7 +297,7 @@ module _ (S : List Quad) where
   unfolding order
   in-order v h = (firsts-some v (flatQuads S) []) .1 (omega (arith, valence-list v S))
 
-  of-order : (v : ℕ) → 0 < sum (is v) (order S) → 0 < valence S v
+  pub of-order : (v : ℕ) → 0 < sum (is v) (order S) → 0 < valence S v
   unfolding order
   of-order v h = omega (arith, valence-list v S, (firsts-some v (flatQuads S) []) .0 h)
 
@@ -359,7 +359,7 @@ module _ (S : List Quad) where
       ∙ (upto-list (λ v. sqUsed (valence S v)) (order S) ∙ by-order n b sqUsed refl))
     where
       same : (u : ℕ) → u < length (order S) → sq (valence (renumber S) u) ≡ sqUsed (valence S (getD (order S) u 0))
-      same u l = ap sq (renumber-valence u l) ∙ sym (squ-pos (valence S (getD (order S) u 0)) (member u l))
+      same u l = ap sq (renumber-valence u l) ∙ sym (sq-used-pos (valence S (getD (order S) u 0)) (member u l))
 
   pub renumber-points : (n : ℕ) → Below n S → length (order S) ≡ inUse n S
   unfolding inUse
