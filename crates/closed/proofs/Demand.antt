@@ -14,7 +14,7 @@ use Rattle.points.specs.declared.Point.{Point}
 use Rattle.points.specs.Points.{finiteP}
 use Rattle.sheet.specs.Quads.{Quad, all, uses, valence, touches}
 use Rattle.sheet.specs.Sheet.{Sheet, limit}
-use Rattle.sheet.specs.Closed.{Closed, Rings}
+use Rattle.sheet.specs.Closed.{Rings}
 use Rattle.sheet.proofs.Flat.{upto, upto-ext, sum-tab}
 use Rattle.refine.specs.Finer.{fourLabels, finer, finerCount}
 use Rattle.swaps.specs.Claims.{sq, squared, Below, Differ, All, NoClash, Low}
@@ -24,7 +24,6 @@ use Rattle.swaps.proofs.Weigh.{rings-closed}
 use Rattle.swaps.proofs.Labels.{label-sum-map}
 use Rattle.swaps.proofs.Passes.{Pass}
 use Rattle.swaps.proofs.SwapPass.{pass-kept, inv-start}
-use Rattle.swaps.proofs.SwapPass
 use Rattle.swaps.proofs.Sweep.{Barred, pass-made, pass-none}
 use Rattle.swaps.proofs.Runs.{Ran, run-keeps, run-ends, run-again}
 use Rattle.merges.specs.Merges.{Slot, out, slot, live, liveLabels, order, renumber, nonePoint, gathered}
@@ -39,6 +38,7 @@ use Rattle.closed.proofs.Finer.{all-at}
 use Rattle.closed.proofs.Numbers.{finer-rings, finer-below, finer-used, finer-squared, finer-more, finer-proper, finer-length, finer-clash}
 use Rattle.closed.proofs.Edges.{edges-closed}
 use Rattle.closed.proofs.Fine.{Fine}
+use Rattle.swaps.proofs.SwapPass
 
 -- an accepted sheet with rings, which is closed
 pub record Good (s : Sheet) : Type 0 where
@@ -257,11 +257,14 @@ module _ (s : Sheet) (ps : List Point) (S : List Slot) (U : ℕ → Type 0) (c :
       Q = s .quads
 
       go : MKept (s .labels) (length (s .points)) c (map slot (s .quads)) S → Keeps s (compact S (s .labels) ps) 0 × (length (order (live S)) + c ≡ length (s .points))
-      go k = (record {
-        good = now;
-        euler = euler s (compact S (s .labels) ps) a now (omega (arith, pts, length-gathered ps S, k .quads, renumber-length (live S), ap length (live-slot (s .quads))));
-        falls = omega (arith, k .squares, ap (λ n. squared n (renumber (live S))) (length-gathered ps S), renumber-squared (live S) (length (s .points)) (k .below), (all-used (length (s .points)) (s .quads) (a .fine .in-use)) .0, ap (squaredUsed (length (s .points))) (live-slot (s .quads)));
-      }, pts)
+      go k = (
+        record {
+          good = now;
+          euler = euler s (compact S (s .labels) ps) a now (omega (arith, pts, length-gathered ps S, k .quads, renumber-length (live S), ap length (live-slot (s .quads))));
+          falls = omega (arith, k .squares, ap (λ n. squared n (renumber (live S))) (length-gathered ps S), renumber-squared (live S) (length (s .points)) (k .below), (all-used (length (s .points)) (s .quads) (a .fine .in-use)) .0, ap (squaredUsed (length (s .points))) (live-slot (s .quads)));
+        },
+        pts,
+      )
         where
           pts : length (order (live S)) + c ≡ length (s .points)
           pts = omega (arith, k .points, renumber-points (live S) (length (s .points)) (k .below), (all-used (length (s .points)) (s .quads) (a .fine .in-use)) .1, ap (inUse (length (s .points))) (live-slot (s .quads)))

@@ -1,24 +1,21 @@
 -- Demand 3, proved; and that no pass of `coarsen` after the first can refuse. Assumes nothing.
-use mathlib.Core.Path.{_≡_, refl, sym, _∙_}
-use Prim.Native.Nat.{ℕ, _+_, _*_, _≤_, _<_}
-use native.Mathlib.Nat.{mul-one, mul-zero}
+use mathlib.Core.Path.{_≡_, refl}
+use Prim.Native.Nat.{ℕ, _*_}
+use native.Mathlib.Nat.{mul-one}
 use mathlib.Core.Bool.{Bool, true, false, cond, _&&_}
 use mathlib.Core.List.{List, [], _∷_}
 use native.Mathlib.Omega.{arith}
 use lib.Dec.{leb}
 use lib.ListN.{length}
 use borrow.Author.Tests.{leb-true}
-use Rattle.lists.proofs.Every.{and-left, and-right}
-use Rattle.points.specs.declared.Point.{Point}
 use Rattle.points.specs.Points.{finiteP}
 use Rattle.sheet.specs.Quads.{all}
 use Rattle.sheet.specs.Sheet.{Sheet, limit}
 use Rattle.refine.specs.Finer.{finerCount}
-use Rattle.swaps.specs.Swaps.{Fits}
 use Rattle.swaps.proofs.Weigh.{rings-closed}
 use Rattle.merges.specs.Coarse.{MergeFits, Position, coarseRun}
-use Rattle.closed.specs.Clean.{Accepted, Sound, SameEuler, squaredOf, withQuads, refined, Kept}
-use Rattle.closed.specs.Demand3.{FinitePosition, Command, regularizeCall, improveCall, coarsenCall, subdivideCall, swapsOf, subdivided, leaves, counts, leavesAll, countsAll, NoneLeft, Demand3}
+use Rattle.closed.specs.Clean.{Accepted, Sound, refined}
+use Rattle.closed.specs.Demand3.{FinitePosition, Command, regularizeCall, improveCall, coarsenCall, subdivideCall, swapsOf, leaves, counts, leavesAll, countsAll, Demand3}
 use Rattle.closed.proofs.Fine.{fine-of, accepted-of}
 use Rattle.closed.proofs.Demand.{Good, Keeps, keeps-same, keeps-trans, Swapped, swaps-kept, swapped-euler, regularize-done, regularize-again, coarse-fine, coarse-kept, finer-kept}
 

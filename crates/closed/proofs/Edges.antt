@@ -2,7 +2,7 @@
 use mathlib.Core.Path.{_≡_, refl, ap, sym, _∙_}
 use mathlib.Core.Logic.{_⊎_, inl, inr}
 use Prim.Native.Nat.{ℕ, zero, suc, _+_, _*_, _≤_, _<_}
-use mathlib.Core.List.{List, [], _∷_, _++_}
+use mathlib.Core.List.{List, [], _∷_}
 use mathlib.Core.Bool.{Bool, true, false, cond, _&&_}
 use native.Mathlib.Omega.{arith}
 use lib.Dec.{eqb, leb, ltb}
@@ -11,7 +11,7 @@ use borrow.Author.Tests.{lt-ltb, le-leb, lt-leb}
 use Rattle.lists.specs.Sort.{consIf}
 use Rattle.lists.proofs.Laws.{lt-or-le}
 use Rattle.sheet.specs.Quads.{Quad, quad, num, is, corners, at, valence, side, isEdge}
-use Rattle.sheet.specs.Edges.{Pair, pair, joinTo, edgeIf, edgesFrom, edgesOf}
+use Rattle.sheet.specs.Edges.{pair, joinTo, edgeIf, edgesFrom, edgesOf}
 use Rattle.sheet.specs.Closed.{Closed}
 use Rattle.sheet.proofs.Flat.{upto, upto-ext}
 use Rattle.sheet.proofs.FirstUse.{is-same, is-other}

@@ -8,11 +8,10 @@ use native.Mathlib.Omega.{arith}
 use native.Mathlib.Decide.{decLt}
 use lib.Dec.{eqb, leb, ltb}
 use lib.ListN.{length}
-use borrow.Author.Tests.{eqb-true, eqb-false, eq-eqb, ne-eqb, ltb-true, ltb-false, lt-ltb, le-ltb, leb-true, le-leb}
-use Rattle.lists.specs.Every.{every}
+use borrow.Author.Tests.{eqb-true, eqb-false, eq-eqb, ne-eqb, ltb-true, lt-ltb, le-ltb, leb-true, le-leb}
 use Rattle.lists.proofs.Every.{and-left, and-right, every-at, every-on, every-zero}
 use Rattle.points.specs.Points.{finiteP}
-use Rattle.sheet.specs.Quads.{Quad, quad, num, sum, all, at, uses, valence, touches, labelSum, packTo, pack, hasLabel, maskOf}
+use Rattle.sheet.specs.Quads.{Quad, quad, num, all, at, uses, valence, touches, packTo, pack, hasLabel, maskOf}
 use Rattle.sheet.specs.Tests.{inRange, distinct, proper, lowLabel, goodCorners, goodMask, goodPoint, goodMasks}
 use Rattle.sheet.specs.Sheet.{Sheet, limit, isLarge, isBare}
 use Rattle.sheet.proofs.Masks.{below8, bit-pack, clash-0, clash-1, clash-2, clash-3}
@@ -86,8 +85,14 @@ in-range-of n S e v h = go (decLt v n)
     none (quad a b c d ∷ S) e l =
         let r = and-left (inRange n (quad a b c d)) (distinct (quad a b c d)) (and-left (proper n (quad a b c d)) (all (proper n) S) e) in
         let t = four (ltb a n) (ltb b n) (ltb c n) (ltb d n) r in
-        omega (arith, off d a b (ltb-true a n (t .0)) l, off a b c (ltb-true b n (t .1)) l, off b c d (ltb-true c n (t .2)) l, off c d a (ltb-true d n (t .3)) l,
-        none S (and-right (proper n (quad a b c d)) (all (proper n) S) e) l)
+        omega (
+          arith,
+          off d a b (ltb-true a n (t .0)) l,
+          off a b c (ltb-true b n (t .1)) l,
+          off b c d (ltb-true c n (t .2)) l,
+          off c d a (ltb-true d n (t .3)) l,
+          none S (and-right (proper n (quad a b c d)) (all (proper n) S) e) l,
+        )
 
     go : Dec (v < n) → v < n
     go (yes l) = l
@@ -106,11 +111,17 @@ differ-of n (quad a b c d ∷ S) e =
     let q = and-right (inRange n (quad a b c d)) (distinct (quad a b c d)) (and-left (proper n (quad a b c d)) (all (proper n) S) e) in
     let x5 = and-left (not (eqb a b) && not (eqb a c) && not (eqb a d) && not (eqb b c) && not (eqb b d)) (not (eqb c d)) q in
     let x4 = and-left (not (eqb a b) && not (eqb a c) && not (eqb a d) && not (eqb b c)) (not (eqb b d)) x5 in
-    let t = four (not (eqb a b)) (not (eqb a c)) (not (eqb a d)) (not (eqb b c)) x4 in
-    ((apart a b (t .0), apart a c (t .1), apart a d (t .2), apart b c (t .3),
-    apart b d (and-right (not (eqb a b) && not (eqb a c) && not (eqb a d) && not (eqb b c)) (not (eqb b d)) x5),
-    apart c d (and-right (not (eqb a b) && not (eqb a c) && not (eqb a d) && not (eqb b c) && not (eqb b d)) (not (eqb c d)) q)),
-    differ-of n S (and-right (proper n (quad a b c d)) (all (proper n) S) e))
+    let t = four (not (eqb a b)) (not (eqb a c)) (not (eqb a d)) (not (eqb b c)) x4 in (
+      (
+        apart a b (t .0),
+        apart a c (t .1),
+        apart a d (t .2),
+        apart b c (t .3),
+        apart b d (and-right (not (eqb a b) && not (eqb a c) && not (eqb a d) && not (eqb b c)) (not (eqb b d)) x5),
+        apart c d (and-right (not (eqb a b) && not (eqb a c) && not (eqb a d) && not (eqb b c) && not (eqb b d)) (not (eqb c d)) q),
+      ),
+      differ-of n S (and-right (proper n (quad a b c d)) (all (proper n) S) e),
+    )
 
 proper-all : (n : ℕ) (S : List Quad) → Below n S → All Differ S → all (proper n) S ≡ true
 unfolding Below All inRange distinct

@@ -6,7 +6,7 @@ use mathlib.Core.Bool.{Bool, true, false, true≢false}
 use native.Mathlib.Omega.{arith}
 use lib.Dec.{eqb}
 use borrow.Author.Tests.{eqb-true, eq-eqb}
-use Rattle.swaps.specs.Runs.{Answer, run}
+use Rattle.swaps.specs.Runs.{Answer, run, largest, capped}
 
 module _ {A : Type 0} (count : A → ℕ) (next : A → A) where
   -- a pass that counts 0 stays the last
@@ -82,3 +82,12 @@ module _ {A : Type 0} (count : A → ℕ) (next : A → A) where
     -- and the same passes once more count 0 and change nothing
     pub run-again : (k j : ℕ) (x : A) → Good x → φ x < 2 * k → run count next j ((run count next k x 0) .left) 0 ≡ record { left = (run count next k x 0) .left; count = 0 }
     run-again k j x g h = idle j ((run count next k x 0) .left) 0 (eq-eqb (count ((run count next k x 0) .left)) 0 (run-ends k x 0 g h))
+
+-- ---- capped counts
+
+-- a count may be capped after each pass
+pub capped-add : (c d : ℕ) → capped (capped c + d) ≡ capped (c + d)
+capped-add c d = omega arith
+
+pub capped-small : (c : ℕ) → c ≤ largest → capped c ≡ c
+capped-small c h = omega arith
