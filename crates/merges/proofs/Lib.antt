@@ -1,0 +1,8 @@
+-- `Joins` has the merges as a relation, `Merge` one merge, `MergePass` a pass of merges, `Renumber` the numbers by first use, `Visits` the rule's own
+-- pass, `Points` the points of a pass.
+pub mod Joins
+pub mod Merge
+pub mod MergePass
+pub mod Renumber
+pub mod Visits
+pub mod Points
