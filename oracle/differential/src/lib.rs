@@ -1,3 +1,2 @@
 //! The proved library, asked as the original is.
-pub mod arguments;
 pub mod library;

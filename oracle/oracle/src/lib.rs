@@ -2,8 +2,10 @@
 include!(concat!(env!("OUT_DIR"), "/original.rs"));
 pub use error::MeshingError;
 
+pub mod arguments;
 pub mod bands;
 pub mod call;
+pub mod driver;
 pub mod field;
 pub mod floats;
 pub mod inner;

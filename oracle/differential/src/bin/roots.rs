@@ -1,5 +1,6 @@
 //! roots [ROOTS] [SEED]: the library's square root against the host's, bit by bit.
-use differential::{arguments, library};
+use differential::library;
+use oracle::arguments;
 use oracle::floats;
 use oracle::random::Random;
 use std::process::ExitCode;
