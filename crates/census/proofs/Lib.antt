@@ -8,3 +8,5 @@ pub mod Sides
 pub mod Walk
 pub mod Arcs
 pub mod Links
+pub mod Lexical
+pub mod Duplicates
