@@ -10,3 +10,5 @@ pub mod Arcs
 pub mod Links
 pub mod Lexical
 pub mod Duplicates
+pub mod Ranks
+pub mod Passes
