@@ -1,6 +1,6 @@
 -- The counts of `quality` that need no coordinates, as 000 takes them, over the quads S of a sheet with n points; and tight.
-use Prim.Native.Nat.{ℕ, zero, suc, _+_, min, max}
-use mathlib.Core.Bool.{Bool, not, _&&_, _||_}
+use Prim.Native.Nat.{ℕ, zero, suc, _+_}
+use mathlib.Core.Bool.{Bool, cond, not, _&&_, _||_}
 use mathlib.Core.List.{List}
 use lib.Dec.{eqb, ltb}
 use lib.ListN.{length, getD}
@@ -110,21 +110,26 @@ badLinks n S = countTo (λ v. not (goodLink n S v)) n
 
 -- ---- quads
 
--- the corners of a quad in ascending order
-unfoldable pub ascending : Quad → Quad
-ascending (quad a b c d) =
-    quad
-    (min (min a b) (min c d))
-    (min (max (min a b) (min c d)) (min (max a b) (max c d)))
-    (max (max (min a b) (min c d)) (min (max a b) (max c d)))
-    (max (max a b) (max c d))
+-- how many corners of a quad are smaller than x
+abbrev pub smallerThan : ℕ → Quad → ℕ
+smallerThan x (quad a b c d) = num (ltb a x) + num (ltb b x) + num (ltb c x) + num (ltb d x)
 
-abbrev pub sameQuad : Quad → Quad → Bool
-sameQuad (quad a b c d) (quad e f g h) = eqb a e && eqb b f && eqb c g && eqb d h
+-- w, x, y or z, for the first, second, third or last corner of a quad, whichever has r smaller corners
+unfoldable pub byRank : {A : Type 0} → ℕ → Quad → A → A → A → A → A
+byRank r (quad a b c d) w x y z =
+    cond (eqb (smallerThan a (quad a b c d)) r) w (cond (eqb (smallerThan b (quad a b c d)) r) x (cond (eqb (smallerThan c (quad a b c d)) r) y z))
+
+-- the corner with r smaller corners
+abbrev pub ranked : ℕ → Quad → ℕ
+ranked r (quad a b c d) = byRank r (quad a b c d) a b c d
+
+-- two quads of four different corners have the same corners: in ascending order, they agree at each place
+abbrev pub sameCorners : Quad → Quad → Bool
+sameCorners p q = eqb (ranked 0 p) (ranked 0 q) && eqb (ranked 1 p) (ranked 1 q) && eqb (ranked 2 p) (ranked 2 q) && eqb (ranked 3 p) (ranked 3 q)
 
 -- the quads i and j of a list have the same corners
 abbrev pub alike : List Quad → ℕ → ℕ → Bool
-alike S i j = sameQuad (ascending (getD S i (quad 0 0 0 0))) (ascending (getD S j (quad 0 0 0 0)))
+alike S i j = sameCorners (getD S i (quad 0 0 0 0)) (getD S j (quad 0 0 0 0))
 
 -- duplicate_faces: the quads whose corners an earlier quad has
 unfoldable pub duplicateFaces : List Quad → ℕ
