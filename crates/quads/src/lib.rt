@@ -62,7 +62,15 @@ pub extern "C" fn quads_refine(
         return sheet::SHORT;
     }
     let r = refine::refine(
-        c, points, quads, labels, new_points, new_quads, new_labels, work, floats,
+        c,
+        points,
+        quads,
+        labels,
+        new_points,
+        new_quads,
+        new_labels,
+        work,
+        floats,
     );
     put_answer(answer, 0, results::shown_counts(r));
     made_number(r)

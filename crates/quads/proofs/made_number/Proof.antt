@@ -1,5 +1,5 @@
+-- `quads::made_number` meets its contract. Assumes nothing.
 use Rattle.quads.specs.Exports.{madeNumber}
-use native.Mathlib.Omega.{arith}
 use borrow.Author.Needs.{needs}
 use Rattle.quads.proofs.made_number.Statement.{statement}
 use Rattle.quads.proofs.made_number.Tie as tie

@@ -1,3 +1,4 @@
+-- `quads::put_answer` meets its contract. Assumes nothing.
 use Rattle.quads.specs.Exports.{answered}
 use native.Mathlib.Omega.{arith}
 use borrow.Author.Needs.{needs}
