@@ -27,6 +27,7 @@ pub record Place : Type 0 where
   pub quadNo : ℕ
   pub sideNo : ℕ
 
+-- two pairs are equal
 abbrev pub samePair : Pair → Pair → Bool
 samePair p q = eqb (p .low) (q .low) && eqb (p .high) (q .high)
 
@@ -48,6 +49,7 @@ pub record Hex : Type 0 where
   pub h4 : ℕ
   pub h5 : ℕ
 
+-- the six corners, by name
 abbrev pub hex : ℕ → ℕ → ℕ → ℕ → ℕ → ℕ → Hex
 hex a b c d e f = record { h0 = a; h1 = b; h2 = c; h3 = d; h4 = e; h5 = f }
 
