@@ -5,7 +5,7 @@ use mathlib.Core.Bool.{cond}
 use mathlib.Core.List.{List}
 use lib.Dec.{ltb}
 use lib.Ieee.{Float}
-use lib.ListN.{set}
+use lib.ListN.{length, set}
 use Rattle.sheet.specs.Numbers.{short}
 use Rattle.sheet.specs.declared.Counts.{Counts}
 use Rattle.results.specs.declared.Made.{Made}
@@ -30,6 +30,6 @@ pub record Exports (o : Outcome) (p q l r : ℕ) (P : List Float) (Q labels : Li
   pub number : r ≡ madeNumber (answerOf o)
   pub leaves : Leaves o p q l (answerOf o) P Q labels
 
--- the answer slice l of n elements after an export that makes a sheet
-unfoldable pub answerLeft : ℕ → Outcome → List ℕ → List ℕ
-answerLeft n o l = cond (ltb n 4) l (answered 0 (shownCounts (answerOf o)) l)
+-- the answer slice l after an export that makes a sheet: untouched if it is too short
+unfoldable pub answerLeft : Outcome → List ℕ → List ℕ
+answerLeft o l = cond (ltb (length l) 4) l (answered 0 (shownCounts (answerOf o)) l)

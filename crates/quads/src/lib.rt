@@ -45,7 +45,12 @@ pub extern "C" fn quads_refine(
     work: &mut [u32],
     floats: &mut [f64],
     answer: &mut [u64],
-) -> u32 {
+) -> u32
+    ensures { λ r. ⌜ Exports (roomFor (length (now (answer .entry))) (refineRule (record { points = np; quads = nq; labels = nl }) (now (points .entry)) (now (quads .entry)) (now (labels .entry)) (length (now (work .entry))) (length (now (floats .entry))) (length (now («new_points» .entry))) (length (now («new_quads» .entry))) (length (now («new_labels» .entry))))) (length (now («new_points» .entry))) (length (now («new_quads» .entry))) (length (now («new_labels» .entry))) r (now («new_points» .exit)) (now («new_quads» .exit)) (now («new_labels» .exit)) ⌝ }
+    ensures { λ _. ⌜ now (answer .exit) ≡ answerLeft (refineRule (record { points = np; quads = nq; labels = nl }) (now (points .entry)) (now (quads .entry)) (now (labels .entry)) (length (now (work .entry))) (length (now (floats .entry))) (length (now («new_points» .entry))) (length (now («new_quads» .entry))) (length (now («new_labels» .entry)))) (now (answer .entry)) ⌝ }
+    ensures { λ _. ⌜ now (work .exit) ≡ replicate (length (now (work .entry))) 0 ⌝ }
+    ensures { λ _. ⌜ now (floats .exit) ≡ replicate (length (now (floats .entry))) zeroF ⌝ }
+{
     let c = Counts {
         points: np,
         quads: nq,

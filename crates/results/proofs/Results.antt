@@ -14,6 +14,7 @@ use Rattle.sheet.specs.Quads.{Quad, quad}
 use Rattle.sheet.specs.Flat.{flatQuads}
 use Rattle.sheet.specs.Sheet.{flatPoints}
 use Rattle.results.specs.declared.Made.{Made}
+use Rattle.results.specs.declared.Made.the-variants.{Refused}
 use Rattle.results.specs.Results.{cleared, shownCounts, Room, Outcome, refuses, makes, answerOf, shown, padded, Leaves, Front, Fills}
 
 -- `clear(&mut s[n..])`
@@ -61,3 +62,13 @@ fills-leaves {o} {r} {P} {Q} {labels} F =
       quads = pad 0 _ _ Q (F .quads) (rw e (sym (length-flat-quads (shown o .quads))));
       labelled = pad 0 _ _ labels (F .labelled) (rw e);
     }
+
+-- a refusal shows nothing, whatever the slices hold
+pub refused-fills : (n : ℕ) (P : List Float) (Q labels : List ℕ) → Fills (refuses n) (Refused n) P Q labels
+unfolding flatPoints flatQuads
+refused-fills n P Q labels = record {
+  answer = refl;
+  points = record { fits = omega arith; is = refl };
+  quads = record { fits = omega arith; is = refl };
+  labelled = record { fits = omega arith; is = refl };
+}

@@ -1,0 +1,2 @@
+-- `Exports` has the laws of `specs/Exports.antt`.
+pub mod Exports
