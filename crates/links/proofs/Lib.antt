@@ -1,0 +1,4 @@
+-- `Rounds`: in a link whose points have two joins each, a walk comes round, and the link is connected exactly if it has passed every corner. `Joining`: the loops over the corners of
+-- a point, which register their joins and clear them.
+pub mod Rounds
+pub mod Joining
