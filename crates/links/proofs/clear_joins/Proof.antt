@@ -42,7 +42,7 @@ add-w : tie.Need-add-w Inv-loop μ-loop
 add-w c = let r = read-at (c .before .before) in omega (arith, c .before .point-before .ensures, r .before<, r .in-deg)
 
 mul-w : tie.Need-mul-w Inv-loop μ-loop
-mul-w c = search needs
+mul-w c = let r = read-at (c .before .before) in omega (arith, c .before .point-before .ensures, r .before<, r .in-deg)
 
 slice-write-w : tie.Need-slice-write-w Inv-loop μ-loop
 slice-write-w c = let r = read-at (c .before .before) in omega (arith, c .before .point-before .ensures, r .before<, r .in-deg)
@@ -51,7 +51,7 @@ add-w-2 : tie.Need-add-w-2 Inv-loop μ-loop
 add-w-2 c = let r = read-at (c .before .before) in omega (arith, c .point-after .ensures, r .after<, r .in-deg)
 
 mul-w-2 : tie.Need-mul-w-2 Inv-loop μ-loop
-mul-w-2 c = search needs
+mul-w-2 c = let r = read-at (c .before .before) in omega (arith, c .point-after .ensures, r .after<, r .in-deg)
 
 slice-write-w-2 : tie.Need-slice-write-w-2 Inv-loop μ-loop
 slice-write-w-2 c = let r = read-at (c .before .before) in simp length-set (omega (arith, c .point-after .ensures, r .after<, r .in-deg))
