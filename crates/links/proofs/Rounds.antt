@@ -1,17 +1,18 @@
 -- In a link whose points have two joins each, a walk comes round, and the link is connected exactly if it has passed every corner. Assumes nothing.
-use Prim.Native.Nat.{ℕ, zero, suc, _+_, _≤_, _<_}
+use Prim.Native.Nat.{ℕ, zero, suc, _+_, _-_, _≤_, _<_}
 use mathlib.Core.Path.{_≡_, refl, sym, ap, _∙_}
 use mathlib.Core.Bool.{Bool, true, false, cond, _&&_, _||_, or-true, false≢true}
 use mathlib.Core.Logic.{_⊎_, inl, inr, ⊎-elim}
 use mathlib.Core.List.{List, [], _∷_, _++_}
 use native.Mathlib.Omega.{arith}
 use lib.Dec.{eqb}
-use lib.ListN.{length, length-append}
+use lib.ListN.{length, getD, length-append}
 use borrow.Author.Tests.{ltb-true, eqb-true, eq-eqb, ne-eqb, lt-ltb}
 use Rattle.lists.specs.Every.{every, some}
 use Rattle.lists.proofs.Laws.{eq-or-ne, lt-or-le}
 use Rattle.lists.proofs.Every.{and-left, and-right, or-split, bool-iff, every-at, some-find}
 use Rattle.sheet.specs.Quads.{Quad, num, is, sum, all, at, valence}
+use Rattle.sheet.specs.Flat.{quadsOf}
 use Rattle.sheet.specs.Closed.{ind, arc, atPoint}
 use Rattle.sheet.specs.Tests.{proper}
 use Rattle.census.specs.Census.{degree, joined, reached, reaches, connected, noneOrTwo}
@@ -20,7 +21,7 @@ use Rattle.census.proofs.Tight.{every-of}
 use Rattle.census.proofs.Sides.{length-sum}
 use Rattle.census.proofs.Arcs.{ind-positive, ind-same, ind-first, ind-second, arc-more, arc-from, arc-to, arc-le, arc-plus, Ends, pairSum, cornersOf, corners-sum, pair-le, pair-plus}
 use Rattle.census.proofs.Links.{reached-more, along}
-use Rattle.links.specs.Links.{otherEnd}
+use Rattle.links.specs.Links.{otherEnd, Twos, Walkable}
 
 -- a weight that does not tell the two ends of a join apart
 abbrev pub Even : (ℕ → ℕ → ℕ) → Type 0
@@ -96,10 +97,6 @@ arc-touch : (x u : ℕ) (ys : List ℕ) (z : ℕ) → arc (touch x) u ys z ≡ i
 arc-touch x u ys z = arc-plus (λ p m. is x p) (λ p m. is x m) u ys z ∙ omega (arith, arc-from (is x) u ys z, arc-to (is x) u ys z)
 
 -- ---- the walk
-
--- a point with a join has two
-abbrev pub Twos : List Quad → ℕ → Type 0
-Twos S v = (x : ℕ) → 0 < degree S v x → degree S v x ≡ 2
 
 -- a walk from u that has passed `count` corners at v, and is at z with `last` before
 pub record Walk (S : List Quad) (v u last z count : ℕ) : Type 0 where
@@ -321,3 +318,28 @@ module _ (n : ℕ) (S : List Quad) (good : all (proper n) S ≡ true) (v : ℕ) 
       (λ c.
       let r = nothing-left two u (K .inner) (K .rest) same c in
       eq-eqb count (valence S v) (omega (arith, K .left)))
+
+-- ---- the loop
+
+pub record RoundTurn (np nq : ℕ) (Q : List ℕ) (v acc u : ℕ) (w : List ℕ) (last x count : ℕ) : Type 0 where
+  pub in-acc : acc + x < length w
+  pub le : last ≤ getD w (acc + x) 0
+  pub again : Walk (quadsOf nq Q) v u x (getD w (acc + x) 0 - last) (count + 1)
+  pub more : count < valence (quadsOf nq Q) v
+  pub few : count < 4194304
+
+pub round-turn : {np nq : ℕ} {Q : List ℕ} {v acc u first : ℕ} {w : List ℕ} {last x count : ℕ} → Walkable np nq Q v acc u first w → Walk (quadsOf nq Q) v u last x count → (x ≡ u → ⊥)
+    → RoundTurn np nq Q v acc u w last x count
+round-turn {np} {nq} {Q} {v} {acc} {u} {first} {w} {last} {x} {count} B K ne =
+    let S = quadsOf nq Q in
+    let T = walk-step (B .twos) K ne in
+    let d : 0 < degree S v x = omega (arith, K .is (touch x) (touch-even x), arc-touch x u (K .inner) x, is-same x) in
+    let e : getD w (acc + x) 0 ≡ last + T .after = B .sums x d ∙ T .others in
+    let g : getD w (acc + x) 0 - last ≡ T .after = omega arith in
+    record {
+      in-acc = omega (arith, joined-below np S (B .good) v x d, B .fits);
+      le = omega arith;
+      again = rw g (T .again);
+      more = T .more;
+      few = omega (arith, T .more, B .few);
+    }

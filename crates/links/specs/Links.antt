@@ -1,14 +1,20 @@
 -- The link of a point by the corners at it: what is kept for each neighbour, and the tests of a link.
 use Prim.Native.Nat.{ℕ, zero, suc, _+_, _≤_, _<_, _^_, _*_}
 use mathlib.Core.Path.{_≡_}
-use mathlib.Core.Bool.{Bool, cond, _&&_}
+use mathlib.Core.Bool.{Bool, true, cond, _&&_}
 use mathlib.Core.List.{List}
 use lib.Dec.{eqb}
 use lib.ListN.{length, getD, set}
+use Rattle.lists.specs.Every.{every}
+use Rattle.lists.specs.Sort.{tabulate}
 use Rattle.lists.specs.Regions.{Part, Apart}
-use Rattle.sheet.specs.Quads.{is}
-use Rattle.sheet.specs.Flat.{before, to}
-use Rattle.incidence.specs.Corners.{Known}
+use Rattle.sheet.specs.Quads.{Quad, is, all, valence}
+use Rattle.sheet.specs.Flat.{before, to, quadsOf}
+use Rattle.sheet.specs.Closed.{ind, atPoint}
+use Rattle.sheet.specs.Edges.{pointCorners}
+use Rattle.sheet.specs.Tests.{proper}
+use Rattle.incidence.specs.Corners.{Known, Cornered, cornersAt, firstAt}
+use Rattle.census.specs.Census.{degree, connected, noneOrTwo}
 
 -- ---- joins
 
@@ -79,3 +85,45 @@ bothTwo Q deg w c = eqb (getD w (deg + before Q c) 0) 2 && eqb (getD w (deg + to
 -- both ends of corner i of cs have two joins
 abbrev pub twoAt : List ℕ → ℕ → List ℕ → List ℕ → ℕ → Bool
 twoAt Q deg w cs i = bothTwo Q deg w (getD cs i 0)
+
+-- ---- the walk
+
+-- a point with a join has two
+abbrev pub Twos : List Quad → ℕ → Type 0
+Twos S v = (x : ℕ) → 0 < degree S v x → degree S v x ≡ 2
+
+-- each point of the link of v has two joins and their sum at `acc`, and a corner joins u to `first`
+pub record Walkable (np nq : ℕ) (Q : List ℕ) (v acc u first : ℕ) (w : List ℕ) : Type 0 where
+  pub good : all (proper np) (quadsOf nq Q) ≡ true
+  pub few : valence (quadsOf nq Q) v ≤ 4194304
+  pub fits : acc + np ≤ length w
+  pub twos : Twos (quadsOf nq Q) v
+  pub starts : 0 < atPoint (quadsOf nq Q) v (ind u first)
+  pub sums : (x : ℕ) → 0 < degree (quadsOf nq Q) v x → getD w (acc + x) 0 ≡ atPoint (quadsOf nq Q) v (otherEnd x)
+
+-- the m corners of v stand at `from`, and their joins are registered at `deg` and `acc`
+pub record OneLink (np nq : ℕ) (Q : List ℕ) (v from m deg acc : ℕ) (w : List ℕ) : Type 0 where
+  pub good : all (proper np) (quadsOf nq Q) ≡ true
+  pub used : 0 < m
+  pub count : m ≡ length (pointCorners Q nq v)
+  pub joining : Joining np Q (pointCorners Q nq v) from m deg acc w
+  pub joins : Joins np (degreeTo Q (pointCorners Q nq v) m) (othersTo Q (pointCorners Q nq v) m) deg acc w
+
+-- the link of v is connected, and each node is joined twice
+abbrev pub oneRound : ℕ → List Quad → ℕ → Bool
+oneRound n S v = connected n S v && every (noneOrTwo S v) n
+
+-- w has the corners of good quads by point at `order`, where they begin at `starts`, and room for np counts at `deg` and np sums at `acc`
+pub record LinkRoom (np nq : ℕ) (Q : List ℕ) (starts order deg acc : ℕ) (w : List ℕ) : Type 0 where
+  pub sheet : Cornered np nq Q
+  pub good : all (proper np) (quadsOf nq Q) ≡ true
+  pub points : np ≤ 1048576
+  pub begin : Part starts (np + 1) (tabulate (firstAt nq Q) (np + 1)) w
+  pub at : Part order (4 * nq) (cornersAt np nq Q) w
+  pub in-deg : deg + np ≤ length w
+  pub in-acc : acc + np ≤ length w
+  pub starts-deg : Apart starts (np + 1) deg np
+  pub starts-acc : Apart starts (np + 1) acc np
+  pub order-deg : Apart order (4 * nq) deg np
+  pub order-acc : Apart order (4 * nq) acc np
+  pub deg-acc : Apart deg np acc np

@@ -1,13 +1,16 @@
 // The links of the points: the graph of a point's neighbours, in which each corner at the point joins the point before it to the point after it.
 
 ghost use mathlib.Core.Path.{_≡_};
-ghost use mathlib.Core.Bool.{Bool, true};
+ghost use mathlib.Core.Bool.{Bool, true, not};
 ghost use Prim.Native.Nat.{ℕ, _+_, _*_, _/_, _%_, _<_, _≤_};
+ghost use lib.Dec.{eqb};
 ghost use lib.ListN.{length, getD};
 ghost use Rattle.lists.specs.Every.{every};
 ghost use Rattle.lists.specs.Regions.{part, Part, Out, Out2, Kept};
-ghost use Rattle.sheet.specs.Flat.{before, to};
+ghost use Rattle.sheet.specs.Quads.{num, valence};
+ghost use Rattle.sheet.specs.Flat.{before, to, quadsOf};
 ghost use Rattle.incidence.specs.Corners.{Known};
+ghost use Rattle.census.specs.Census.{connected, goodLink, badLinks};
 ghost use Rattle.links.specs.Links.{
   degreeTo,
   othersTo,
@@ -19,6 +22,10 @@ ghost use Rattle.links.specs.Links.{
   Unjoined,
   bothTwo,
   twoAt,
+  Walkable,
+  OneLink,
+  oneRound,
+  LinkRoom,
 };
 
 // The sum of the first two joins of a point that has d joins of the sum s, with a join to y.
@@ -149,4 +156,116 @@ fn clear_joins(
         w[deg + n] = 0;
         j += 1;
     }
+}
+
+// How many corners at v a walk from u by way of first passes until it is at u again.
+fn round_length(
+    np: usize,
+    nq: usize,
+    quads: &[u32],
+    v: usize,
+    acc: usize,
+    u: usize,
+    first: usize,
+    w: &[u32],
+) -> usize
+    requires { ⌜ Walkable np nq (now quads) v acc u first (now w) ⌝ }
+    ensures { λ r. ⌜ eqb r (valence (quadsOf nq (now (quads .entry))) v) ≡ connected np (quadsOf nq (now (quads .entry))) v ⌝ }
+{
+    let mut last = u;
+    let mut x = first;
+    let mut count = 1;
+    while x != u {
+        let next = lists::at(w, acc + x) - last;
+        last = x;
+        x = next;
+        count += 1;
+    }
+    count
+}
+
+// The link of v, of the m corners at from, is one round.
+fn is_round(
+    np: usize,
+    nq: usize,
+    quads: &[u32],
+    v: usize,
+    from: usize,
+    m: usize,
+    deg: usize,
+    acc: usize,
+    w: &[u32],
+) -> bool
+    requires { ⌜ OneLink np nq (now quads) v from m deg acc (now w) ⌝ }
+    ensures { λ r. ⌜ r ≡ oneRound np (quadsOf nq (now (quads .entry))) v ⌝ }
+{
+    if !all_two(np, quads, from, m, deg, acc, w) {
+        return false;
+    }
+    let c = lists::at(w, from);
+    let p = point_before(quads, c);
+    let n = point_after(quads, c);
+    round_length(np, nq, quads, v, acc, p, n, w) == m
+}
+
+// The link of v is good. The counts at deg are 0 before and after; the sums at acc are work.
+fn is_good_link(
+    np: usize,
+    nq: usize,
+    quads: &[u32],
+    v: usize,
+    starts: usize,
+    order: usize,
+    deg: usize,
+    acc: usize,
+    w: &mut [u32],
+) -> bool
+    requires { ⌜ LinkRoom np nq (now quads) starts order deg acc (now w) ⌝ }
+    requires { ⌜ (Unjoined np deg (now w)) ⌝ }
+    requires { ⌜ v < np ⌝ }
+    ensures { λ r. ⌜ r ≡ goodLink np (quadsOf nq (now (quads .entry))) v ⌝ }
+    ensures { λ _. ⌜ (Unjoined np deg (now (w .exit))) ⌝ }
+    ensures { λ _. ⌜ Kept (Out2 deg np acc np) (now (w .entry)) (now (w .exit)) ⌝ }
+{
+    let s = lists::at(w, starts + v);
+    let m = lists::at(w, starts + v + 1) - s;
+    if m == 0 {
+        return false;
+    }
+    join_all(np, quads, order + s, m, deg, acc, w);
+    let r = is_round(np, nq, quads, v, order + s, m, deg, acc, w);
+    clear_joins(np, quads, order + s, m, deg, acc, w);
+    r
+}
+
+// 1 where a test fails, else 0.
+fn one_unless(test: bool) -> usize
+    ensures { λ r. ⌜ r ≡ num (not test) ⌝ }
+{
+    if test { 0 } else { 1 }
+}
+
+// Counts the points whose link is empty, not connected, or has a node of another degree than 2, from the corners by point, at order. The regions at deg and acc are work.
+pub fn bad_links(
+    np: usize,
+    nq: usize,
+    quads: &[u32],
+    starts: usize,
+    order: usize,
+    deg: usize,
+    acc: usize,
+    w: &mut [u32],
+) -> usize
+    requires { ⌜ LinkRoom np nq (now quads) starts order deg acc (now w) ⌝ }
+    ensures { λ r. ⌜ r ≡ badLinks np (quadsOf nq (now (quads .entry))) ⌝ }
+    ensures { λ _. ⌜ Kept (Out2 deg np acc np) (now (w .entry)) (now (w .exit)) ⌝ }
+{
+    lists::clear(&mut w[deg..deg + np]);
+    let mut count = 0;
+    let mut v = 0;
+    while v < np {
+        count += one_unless(is_good_link(np, nq, quads, v, starts, order, deg, acc, w));
+        v += 1;
+    }
+    count
 }
