@@ -169,6 +169,10 @@ joining-kept I K =
       deg-acc = I .deg-acc;
     }
 
+-- the corners by the slice itself
+pub joining-own : {np : ℕ} {Q cs : List ℕ} {from m deg acc : ℕ} {w : List ℕ} → Joining np Q cs from m deg acc w → Joining np Q (part from m w) from m deg acc w
+joining-own I = rw (I .at .is) I
+
 -- after j corners
 pub record Registered (np : ℕ) (Q cs : List ℕ) (from m deg acc : ℕ) (v w : List ℕ) (j : ℕ) : Type 0 where
   pub j≤ : j ≤ m

@@ -5,7 +5,7 @@ use mathlib.Core.Bool.{Bool, true, false, not, _&&_}
 use mathlib.Core.List.{List}
 use native.Mathlib.Omega.{arith}
 use lib.Dec.{eqb}
-use lib.ListN.{length, getD, replicate}
+use lib.ListN.{length, getD, replicate, getD-replicate}
 use borrow.Author.Tests.{eq-eqb, ne-eqb, eqb-false, not-true}
 use borrow.Rule.Slice.PartMut.{midOf, putMid}
 use Rattle.lists.specs.Every.{every, countTo}
@@ -27,7 +27,7 @@ use Rattle.census.proofs.Counting.{Counted, counted-start, counted-turn, counte
 use Rattle.census.proofs.Arcs.{ind-same}
 use Rattle.links.specs.Links.{otherEnd, joinsTo, degreeTo, othersTo, Joining, Joins, Unjoined, twoAt, Twos, Walkable, OneLink, oneRound, LinkRoom}
 use Rattle.links.proofs.Rounds.{touch, twos, joined-below}
-use Rattle.links.proofs.Joining.{joining-kept, Read, read-corner}
+use Rattle.links.proofs.Joining.{joining-kept, joining-own, Read, read-corner}
 use Rattle.links.proofs.Flat.{joins-link, joins-at, Counts, two-test}
 
 -- ---- one link whose joins are registered
@@ -62,7 +62,7 @@ module _ {np nq : ℕ} {Q : List ℕ} {v from m deg acc : ℕ} {w : List ℕ} (L
       none false = refl
 
   pub joining-part : Joining np Q (part from m w) from m deg acc w
-  joining-part = rw (L .joining .at .is) (L .joining)
+  joining-part = joining-own (L .joining)
 
   pub degrees-part : (x : ℕ) → x < np → getD w (deg + x) 0 ≡ degreeTo Q (part from m w) m x
   degrees-part = rw (L .joining .at .is) (L .joins .degrees)
@@ -112,16 +112,20 @@ pub record AtLink (np nq : ℕ) (Q : List ℕ) (v order deg acc : ℕ) (w : List
   pub count : e - s ≡ length (pointCorners Q nq v)
   pub joining : Joining np Q (pointCorners Q nq v) (order + s) (e - s) deg acc w
 
+corners-fit : (np nq : ℕ) (Q : List ℕ) {order : ℕ} {w : List ℕ} (v : ℕ) → Part order (4 * nq) (cornersAt np nq Q) w → v < np → firstAt nq Q v + valence (quadsOf nq Q) v ≤ 4 * nq
+unfolding firstAt cornersAt
+corners-fit np nq Q v P h = omega (arith, valence-flat nq Q v, start-mono (from Q) (allCorners nq) v np h, part-len P)
+
 pub at-link : {np nq : ℕ} {Q : List ℕ} {v starts order deg acc : ℕ} {w : List ℕ} (s e : ℕ) → LinkRoom np nq Q starts order deg acc w → v < np
     → s ≡ getD w (starts + v) 0 → e ≡ getD w (starts + v + 1) 0 → AtLink np nq Q v order deg acc w s e
 at-link {np} {nq} {Q} {v} {starts} {order} {deg} {acc} {w} s e R h es ee =
-    let V = valence-turn v (R .begin) h in
+    let N = valence-turn v (R .begin) h in
     let b : v < np + 1 = omega arith in
     let f : s ≡ firstAt nq Q v = es ∙ part-get 0 v (R .begin) b ∙ getD-tab (firstAt nq Q) (np + 1) v 0 b in
-    let m : e - s ≡ valence (quadsOf nq Q) v = ap (λ (x : ℕ). x - s) ee ∙ ap (λ (x : ℕ). getD w (starts + v + 1) 0 - x) es ∙ V .is in
-    let t : firstAt nq Q v + valence (quadsOf nq Q) v ≤ 4 * nq = total in
-    let l = V .le in
-    let P : Part (order + s) (e - s) (pointCorners Q nq v) w = rw (f, m) (part-as (part-sub (firstAt nq Q v) (valence (quadsOf nq Q) v) (R .at) t) (corners-part np nq Q v h)) in
+    let m : e - s ≡ valence (quadsOf nq Q) v = ap (λ (x : ℕ). x - s) ee ∙ ap (λ (x : ℕ). getD w (starts + v + 1) 0 - x) es ∙ N .is in
+    let t : firstAt nq Q v + valence (quadsOf nq Q) v ≤ 4 * nq = corners-fit np nq Q v (R .at) h in
+    let l = N .le in
+    let P : Part (order + s) (e - s) (pointCorners Q nq v) w = rw (m, f) (part-as (part-sub (firstAt nq Q v) (valence (quadsOf nq Q) v) (R .at) t) (corners-part np nq Q v h)) in
     let n : length (pointCorners Q nq v) ≡ e - s = part-len P in
     let each : (i : ℕ) → i < length (pointCorners Q nq v) → getD (pointCorners Q nq v) i 0 < 4 * nq = each-bucket 0 (λ x. x < 4 * nq) (from Q) v (allCorners nq) (below-tab (4 * nq) .each) in
     let few = R .sheet .few in
@@ -144,7 +148,91 @@ at-link {np} {nq} {Q} {v} {starts} {order} {deg} {acc} {w} s e R h es ee =
         deg-acc = R .deg-acc;
       };
     }
-  where
-    total : firstAt nq Q v + valence (quadsOf nq Q) v ≤ 4 * nq
-    unfolding firstAt cornersAt
-    total = omega (arith, valence-flat nq Q v, start-mono (from Q) (allCorners nq) v np h, part-len (R .at))
+
+-- ---- a link from beginning to end
+
+pub one-link : {np nq : ℕ} {Q : List ℕ} {v starts order deg acc : ℕ} {u w : List ℕ} {s e : ℕ} → LinkRoom np nq Q starts order deg acc u → AtLink np nq Q v order deg acc u s e → (e - s ≡ 0 → ⊥)
+    → Joins np (degreeTo Q (part (order + s) (e - s) u) (e - s)) (othersTo Q (part (order + s) (e - s) u) (e - s)) deg acc w → Kept (Out2 deg np acc np) u w
+    → OneLink np nq Q v (order + s) (e - s) deg acc w
+one-link {np} {nq} {Q} {v} {starts} {order} {deg} {acc} {u} {w} {s} {e} R A n J K = record {
+  good = R .good;
+  used = omega arith;
+  count = A .count;
+  joining = joining-kept (A .joining) K;
+  joins = rw (A .joining .at .is) at J;
+}
+
+pub link-empty : {np nq : ℕ} {Q : List ℕ} {v order deg acc : ℕ} {w : List ℕ} {s e : ℕ} → AtLink np nq Q v order deg acc w s e → e - s ≡ 0 → false ≡ goodLink np (quadsOf nq Q) v
+unfolding goodLink
+link-empty {np} {nq} {Q} {v} A z =
+    let e : valence (quadsOf nq Q) v ≡ 0 = valence-flat nq Q v ∙ sym (A .count) ∙ z in
+    rw (eq-eqb (valence (quadsOf nq Q) v) 0 e)
+
+pub link-good : {np nq : ℕ} {Q : List ℕ} {v from m deg acc : ℕ} {w : List ℕ} {r : Bool} → OneLink np nq Q v from m deg acc w → r ≡ oneRound np (quadsOf nq Q) v → r ≡ goodLink np (quadsOf nq Q) v
+unfolding goodLink
+link-good {np} {nq} {Q} {v} {from} {m} {deg} {acc} {w} {r} L e =
+    let u = L .used in
+    rw (ne-eqb (valence (quadsOf nq Q) v) 0 (λ z. omega (arith, valence-link L))) e
+
+-- ---- all points
+
+-- what a link asks stands where only counts and sums were written
+pub room-kept : {np nq : ℕ} {Q : List ℕ} {starts order deg acc : ℕ} {u w : List ℕ} → LinkRoom np nq Q starts order deg acc u → Kept (Out2 deg np acc np) u w
+    → LinkRoom np nq Q starts order deg acc w
+room-kept R K =
+    let l = K .len in
+    record {
+      sheet = R .sheet;
+      good = R .good;
+      points = R .points;
+      begin = part-kept (R .begin) K (λ i p q. (R .starts-deg i p q, R .starts-acc i p q));
+      at = part-kept (R .at) K (λ i p q. (R .order-deg i p q, R .order-acc i p q));
+      in-deg = omega (arith, R .in-deg);
+      in-acc = omega (arith, R .in-acc);
+      starts-deg = R .starts-deg;
+      starts-acc = R .starts-acc;
+      order-deg = R .order-deg;
+      order-acc = R .order-acc;
+      deg-acc = R .deg-acc;
+    }
+
+-- the link of point v is bad
+abbrev pub isBad : ℕ → ℕ → List ℕ → ℕ → Bool
+isBad np nq Q v = not (goodLink np (quadsOf nq Q) v)
+
+-- after v points
+pub record LinksTo (np nq : ℕ) (Q : List ℕ) (starts order deg acc : ℕ) (u w : List ℕ) (count v : ℕ) : Type 0 where
+  pub room : LinkRoom np nq Q starts order deg acc w
+  pub none : Unjoined np deg w
+  pub counted : Counted (isBad np nq Q) np count v
+  pub kept : Kept (Out2 deg np acc np) u w
+
+pub links-start : {np nq : ℕ} {Q : List ℕ} {starts order deg acc : ℕ} {u : List ℕ} (y : List ℕ) → LinkRoom np nq Q starts order deg acc u
+    → y ≡ replicate (length (midOf deg (deg + np - deg) u)) 0 → LinksTo np nq Q starts order deg acc u (putMid deg (deg + np - deg) u y) 0 0
+links-start {np} {nq} {Q} {starts} {order} {deg} {acc} {u} y R e =
+    let L = lent-all 0 deg np u y (R .in-deg) e in
+    let K : Kept (Out2 deg np acc np) u (putMid deg (deg + np - deg) u y) = kept-less (L .kept) (λ i o. o .0) in
+    record {
+      room = room-kept R K;
+      none = λ x h. part-get 0 x (L .part) h ∙ getD-replicate np x 0 0 h;
+      counted = counted-start (isBad np nq Q) np;
+      kept = K;
+    }
+
+-- the same seen from where it stands
+pub links-here : {np nq : ℕ} {Q : List ℕ} {starts order deg acc : ℕ} {u w : List ℕ} {count v : ℕ} → LinksTo np nq Q starts order deg acc u w count v → LinksTo np nq Q starts order deg acc w w count v
+links-here {np} {nq} {Q} {starts} {order} {deg} {acc} {u} {w} G = record { room = G .room; none = G .none; counted = G .counted; kept = kept-refl (Out2 deg np acc np) w }
+
+pub links-turn : {np nq : ℕ} {Q : List ℕ} {starts order deg acc : ℕ} {u w : List ℕ} {count v : ℕ} (x : List ℕ) (r : Bool) (k : ℕ) → LinksTo np nq Q starts order deg acc u w count v → v < np
+    → (r ≡ goodLink np (quadsOf nq Q) v) × (Unjoined np deg x × Kept (Out2 deg np acc np) w x) → k ≡ num (not r) → LinksTo np nq Q starts order deg acc u x (count + k) (v + 1)
+links-turn x r k G h E e = record {
+  room = room-kept (G .room) (E .1 .1);
+  none = E .1 .0;
+  counted = counted-turn k (G .counted) h (e ∙ ap (λ (b : Bool). num (not b)) (E .0));
+  kept = kept-then (G .kept) (E .1 .1) (λ i o. (o, o));
+}
+
+pub links-end : {np nq : ℕ} {Q : List ℕ} {starts order deg acc : ℕ} {u w : List ℕ} {count v : ℕ} → LinksTo np nq Q starts order deg acc u w count v → np ≤ v
+    → (count ≡ badLinks np (quadsOf nq Q)) × Kept (Out2 deg np acc np) u w
+unfolding badLinks
+links-end G h = (counted-end (G .counted) h, G .kept)
