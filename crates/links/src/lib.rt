@@ -1,13 +1,13 @@
 // The links of the points: the graph of a point's neighbours, in which each corner at the point joins the point before it to the point after it.
 
 ghost use mathlib.Core.Path.{_≡_};
-ghost use mathlib.Core.Bool.{Bool, true, not};
+ghost use mathlib.Core.Bool.{true};
 ghost use Prim.Native.Nat.{ℕ, _+_, _*_, _/_, _%_, _<_, _≤_};
 ghost use lib.Dec.{eqb};
 ghost use lib.ListN.{length, getD};
 ghost use Rattle.lists.specs.Every.{every};
 ghost use Rattle.lists.specs.Regions.{part, Part, Out, Out2, Kept};
-ghost use Rattle.sheet.specs.Quads.{num, valence};
+ghost use Rattle.sheet.specs.Quads.{valence};
 ghost use Rattle.sheet.specs.Flat.{before, to, quadsOf};
 ghost use Rattle.incidence.specs.Corners.{Known};
 ghost use Rattle.census.specs.Census.{connected, goodLink, badLinks};
@@ -51,14 +51,6 @@ fn point_before(quads: &[u32], c: usize) -> usize
     lists::at(quads, c / 4 * 4 + (c + 3) % 4)
 }
 
-// The point after corner c in its quad.
-fn point_after(quads: &[u32], c: usize) -> usize
-    requires { ⌜ Known (now quads) c ⌝ }
-    ensures { λ r. ⌜ r ≡ to (now (quads .entry)) c ⌝ }
-{
-    lists::at(quads, c / 4 * 4 + (c + 1) % 4)
-}
-
 // One more join of x, to y: its count at deg, and at acc the sum of the points of its first two joins.
 fn register(deg: usize, acc: usize, x: usize, y: usize, w: &mut [u32])
     requires { ⌜ Registering deg acc x y (now w) ⌝ }
@@ -89,7 +81,7 @@ fn join_all(
     while j < m {
         let c = lists::at(w, from + j);
         let p = point_before(quads, c);
-        let n = point_after(quads, c);
+        let n = census::point_after(quads, c);
         register(deg, acc, p, n, w);
         register(deg, acc, n, p, w);
         j += 1;
@@ -104,7 +96,7 @@ fn both_two(quads: &[u32], c: usize, deg: usize, w: &[u32]) -> bool
     ensures { λ r. ⌜ r ≡ bothTwo (now (quads .entry)) deg (now (w .entry)) c ⌝ }
 {
     let a = lists::at(w, deg + point_before(quads, c));
-    let b = lists::at(w, deg + point_after(quads, c));
+    let b = lists::at(w, deg + census::point_after(quads, c));
     (a == 2) & (b == 2)
 }
 
@@ -151,7 +143,7 @@ fn clear_joins(
     while j < m {
         let c = lists::at(w, from + j);
         let p = point_before(quads, c);
-        let n = point_after(quads, c);
+        let n = census::point_after(quads, c);
         w[deg + p] = 0;
         w[deg + n] = 0;
         j += 1;
@@ -204,7 +196,7 @@ fn is_round(
     }
     let c = lists::at(w, from);
     let p = point_before(quads, c);
-    let n = point_after(quads, c);
+    let n = census::point_after(quads, c);
     round_length(np, nq, quads, v, acc, p, n, w) == m
 }
 
@@ -238,13 +230,6 @@ fn is_good_link(
     r
 }
 
-// 1 where a test fails, else 0.
-fn one_unless(test: bool) -> usize
-    ensures { λ r. ⌜ r ≡ num (not test) ⌝ }
-{
-    if test { 0 } else { 1 }
-}
-
 // Counts the points whose link is empty, not connected, or has a node of another degree than 2, from the corners by point, at order. The regions at deg and acc are work.
 pub fn bad_links(
     np: usize,
@@ -264,7 +249,7 @@ pub fn bad_links(
     let mut count = 0;
     let mut v = 0;
     while v < np {
-        count += one_unless(is_good_link(np, nq, quads, v, starts, order, deg, acc, w));
+        count += census::one_if(!is_good_link(np, nq, quads, v, starts, order, deg, acc, w));
         v += 1;
     }
     count

@@ -12,7 +12,7 @@ use Rattle.links.proofs.bad_links.Tie as tie
 use Rattle.links.proofs.bad_links.Reads as reads
 use Rattle.links.proofs.bad_links.Lts as lts
 use Rattle.links.proofs.is_good_link.Reads as is-good-link-reads
-use Rattle.links.proofs.one_unless.Reads as one-unless-reads
+use Rattle.census.proofs.one_if.Reads as one-if-reads
 use Rattle.lists.proofs.clear.Reads as clear-reads
 
 abbrev Inv-loop : tie.InvT-loop
@@ -48,11 +48,11 @@ loop-holds c = links-here (start-at c)
 is-good-link-requires : tie.Need-is-good-link-requires Inv-loop μ-loop
 is-good-link-requires c κs = let l = c .before .before .loop .inv in (l .room, (l .none, c .before .loop-test .taken))
 
-one-unless-requires : tie.Need-one-unless-requires Inv-loop μ-loop
-one-unless-requires c κs = search needs
+one-if-requires : tie.Need-one-if-requires Inv-loop μ-loop
+one-if-requires c κs = search needs
 
 add-count : tie.Need-add-count Inv-loop μ-loop
-add-count c = let n = c .before .before .before .before .before .before .loop .inv .counted .le in let p = c .before .before .before .before .before .before .before .before .before .before .before .before .before .pre .points in let k = num-le (not (c .before .before .before .is-good-link .result)) in omega (arith, c .one-unless .ensures)
+add-count c = let n = c .before .before .before .before .before .before .loop .inv .counted .le in let p = c .before .before .before .before .before .before .before .before .before .before .before .before .before .pre .points in let k = num-le (not (c .before .before .before .is-good-link .result)) in omega (arith, c .one-if .ensures)
 
 add-v : tie.Need-add-v Inv-loop μ-loop
 add-v c = omega arith
@@ -61,7 +61,7 @@ loop-less : tie.Need-loop-less Inv-loop μ-loop
 loop-less c = omega arith
 
 loop-again : tie.Need-loop-again Inv-loop μ-loop
-loop-again c = links-turn _ _ _ (c .before .before .before .before .before .before .loop .inv) (c .before .before .before .before .before .loop-test .taken) (c .before .before .before .is-good-link .ensures) (c .one-unless .ensures)
+loop-again c = links-turn _ _ _ (c .before .before .before .before .before .before .loop .inv) (c .before .before .before .before .before .loop-test .taken) (c .before .before .before .is-good-link .ensures) (c .one-if .ensures)
 
 same-length : tie.Need-same-length Inv-loop μ-loop
 same-length c = c .before .loop .inv .kept .len ∙ start-at (c .before .before) .kept .len
@@ -83,7 +83,7 @@ bad-links-spec =
     clear-requires
     loop-holds
     is-good-link-requires
-    one-unless-requires
+    one-if-requires
     add-count
     add-v
     loop-less

@@ -4,7 +4,7 @@ use Rattle.links.proofs.both_two.Statement.{statement}
 use Rattle.links.proofs.both_two.Tie as tie
 use Rattle.links.proofs.both_two.Reads as reads
 use Rattle.links.proofs.both_two.Lts as lts
-use Rattle.links.proofs.point_after.Reads as point-after-reads
+use Rattle.census.proofs.point_after.Reads as point-after-reads
 use Rattle.links.proofs.point_before.Reads as point-before-reads
 use Rattle.lists.proofs.at.Reads as at-reads
 

@@ -10,7 +10,7 @@ use Rattle.links.proofs.clear_joins.Statement.{statement}
 use Rattle.links.proofs.clear_joins.Tie as tie
 use Rattle.links.proofs.clear_joins.Reads as reads
 use Rattle.links.proofs.clear_joins.Lts as lts
-use Rattle.links.proofs.point_after.Reads as point-after-reads
+use Rattle.census.proofs.point_after.Reads as point-after-reads
 use Rattle.links.proofs.point_before.Reads as point-before-reads
 use Rattle.lists.proofs.at.Reads as at-reads
 

@@ -13,7 +13,7 @@ use Rattle.links.proofs.is_round.Tie as tie
 use Rattle.links.proofs.is_round.Reads as reads
 use Rattle.links.proofs.is_round.Lts as lts
 use Rattle.links.proofs.all_two.Reads as all-two-reads
-use Rattle.links.proofs.point_after.Reads as point-after-reads
+use Rattle.census.proofs.point_after.Reads as point-after-reads
 use Rattle.links.proofs.point_before.Reads as point-before-reads
 use Rattle.links.proofs.round_length.Reads as round-length-reads
 use Rattle.lists.proofs.at.Reads as at-reads

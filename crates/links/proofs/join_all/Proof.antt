@@ -9,7 +9,7 @@ use Rattle.links.proofs.join_all.Statement.{statement}
 use Rattle.links.proofs.join_all.Tie as tie
 use Rattle.links.proofs.join_all.Reads as reads
 use Rattle.links.proofs.join_all.Lts as lts
-use Rattle.links.proofs.point_after.Reads as point-after-reads
+use Rattle.census.proofs.point_after.Reads as point-after-reads
 use Rattle.links.proofs.point_before.Reads as point-before-reads
 use Rattle.links.proofs.register.Reads as register-reads
 use Rattle.lists.proofs.at.Reads as at-reads
