@@ -1,29 +1,29 @@
 -- The sums over the corners of a point in a flat list are those of its link, and the test of their ends is that of its points. Assumes nothing.
 use Prim.Native.Nat.{ℕ, zero, suc, _+_, _*_, _≤_, _<_}
 use mathlib.Core.Path.{_≡_, refl, sym, ap, _∙_}
-use mathlib.Core.Bool.{Bool, true, false, cond, _&&_, _||_, or-true}
+use mathlib.Core.Bool.{true, cond, _&&_, or-true}
 use mathlib.Core.Logic.{_⊎_, ⊎-elim}
 use mathlib.Core.List.{List}
 use native.Mathlib.Omega.{arith}
 use lib.Dec.{eqb}
 use lib.ListN.{length, getD}
-use borrow.Author.Tests.{eq-eqb, ne-eqb, eqb-true}
+use borrow.Author.Tests.{eq-eqb, eqb-true}
 use Rattle.lists.specs.Every.{every}
 use Rattle.lists.specs.Sort.{itself}
 use Rattle.lists.proofs.Laws.{eq-or-ne, lt-or-le}
 use Rattle.lists.proofs.Every.{and-left, and-right, bool-iff, every-at}
 use Rattle.lists.proofs.Regions.{elementOf, tab-own}
 use Rattle.sheet.specs.Quads.{is, sum, all, at}
-use Rattle.sheet.specs.Closed.{ind, atPoint}
+use Rattle.sheet.specs.Closed.{atPoint}
 use Rattle.sheet.specs.Flat.{from, before, to, quadsOf}
 use Rattle.sheet.specs.Edges.{allCorners, pointCorners}
 use Rattle.sheet.specs.Tests.{proper}
-use Rattle.sheet.proofs.Flat.{upto, sum-tab, upto-ext, total-flat}
+use Rattle.sheet.proofs.Flat.{upto, sum-tab, total-flat}
 use Rattle.census.specs.Census.{degree, noneOrTwo}
 use Rattle.census.proofs.Corners.{is-same, is-positive, pos-split}
 use Rattle.census.proofs.Sides.{bucket-sum}
 use Rattle.census.proofs.Tight.{every-of}
-use Rattle.links.specs.Links.{joinsTo, degreeTo, twoAt}
+use Rattle.links.specs.Links.{joinsTo, twoAt}
 use Rattle.links.proofs.Rounds.{touch, twos}
 
 -- ---- sums

@@ -1,7 +1,7 @@
 -- The loops over the corners of a point register their joins and clear them. Assumes nothing.
 use Prim.Native.Nat.{ℕ, zero, suc, _+_, _*_, _≤_, _<_, zero-le}
 use mathlib.Core.Path.{_≡_, refl, sym, ap, _∙_}
-use mathlib.Core.Bool.{Bool, true, false, cond}
+use mathlib.Core.Bool.{Bool, cond}
 use mathlib.Core.Logic.{_⊎_, ⊎-elim}
 use mathlib.Core.List.{List}
 use native.Mathlib.Omega.{arith}
@@ -10,13 +10,13 @@ use lib.Dec.{eqb}
 use lib.ListN.{length, getD, set, length-set}
 use lib.Seq.{getD-set-same, getD-set-other}
 use borrow.Author.Tests.{eq-eqb, ne-eqb}
-use Rattle.lists.specs.Regions.{part, Part, Out, Out2, Apart, Kept}
+use Rattle.lists.specs.Regions.{part, Out, Out2, Apart, Kept}
 use Rattle.lists.proofs.Laws.{eq-or-ne, lt-or-le}
-use Rattle.lists.proofs.Regions.{part-get, part-kept, part-set-out, kept-refl, kept-set, kept-then, kept-less}
-use Rattle.sheet.specs.Quads.{num, is}
+use Rattle.lists.proofs.Regions.{part-get, part-kept, kept-refl, kept-set, kept-then, kept-less}
+use Rattle.sheet.specs.Quads.{is}
 use Rattle.sheet.specs.Flat.{before, to}
 use Rattle.incidence.specs.Corners.{Known}
-use Rattle.census.proofs.Corners.{is-same, is-other, is-positive, pos-split}
+use Rattle.census.proofs.Corners.{is-same, is-other}
 use Rattle.census.proofs.Counting.{num-le}
 use Rattle.links.proofs.Rounds.{is-none}
 use Rattle.links.specs.Links.{otherEnd, joinsTo, degreeTo, othersTo, otherSum, registered, Registering, Joining, Joins, Unjoined}
@@ -299,8 +299,7 @@ clear-turn {np} {Q} {cs} {from} {m} {deg} {acc} {v} {w} {j} p n G h ep en =
           (λ (g : x ≡ p → ⊥).
           let z : getD w₂ (deg + x) 0 ≡ getD w (deg + x) 0 =
           getD-set-other w₁ (deg + n) (deg + x) 0 0 (λ q. f (omega arith)) ∙ getD-set-other w (deg + p) (deg + x) 0 0 (λ q. g (omega arith)) in
-          let L = G .live x hx (omega arith) in
-          (
+          let L = G .live x hx (omega arith) in (
             joins-next Q cs (λ p m. is x p + is x m) j ∙ rw (← ep, ← en) (omega (arith, L .0, is-other x p g, is-other x n f)),
             L .1,
           ))
@@ -312,11 +311,10 @@ clear-turn {np} {Q} {cs} {from} {m} {deg} {acc} {v} {w} {j} p n G h ep en =
 pub cleared-end : {np : ℕ} {Q cs : List ℕ} {from m deg acc : ℕ} {v w : List ℕ} {j : ℕ} → Cleared np Q cs from m deg acc v w j → m ≤ j → Unjoined np deg w × Kept (Out deg np) v w
 cleared-end {np} {Q} {cs} {from} {m} {deg} {acc} {v} {w} {j} G h =
     let e : j ≡ m = omega (arith, G .j≤) in
-    let live : (x : ℕ) → x < np → 0 < getD w (deg + x) 0 → (degreeTo Q cs m x ≡ 0) × (0 < degreeTo Q cs m x) = rw e at (G .live) in
-    (
+    let live : (x : ℕ) → x < np → 0 < getD w (deg + x) 0 → (degreeTo Q cs m x ≡ 0) × (0 < degreeTo Q cs m x) = rw e at (G .live) in (
       (λ x hx. ⊎-elim
-      (λ (k : 0 < getD w (deg + x) 0). let L = live x hx k in absurd (omega (arith, L .0, L .1)))
-      (λ (k : getD w (deg + x) 0 ≤ 0). omega arith)
-      (lt-or-le 0 (getD w (deg + x) 0))),
+          (λ (k : 0 < getD w (deg + x) 0). let L = live x hx k in absurd (omega (arith, L .0, L .1)))
+          (λ (k : getD w (deg + x) 0 ≤ 0). omega arith)
+          (lt-or-le 0 (getD w (deg + x) 0))),
       G .kept,
     )

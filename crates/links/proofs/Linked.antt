@@ -1,17 +1,16 @@
 -- One link after the other: its corners, their joins, the walk, and the count of the bad ones. Assumes nothing.
-use Prim.Native.Nat.{ℕ, _+_, _-_, _*_, _/_, _%_, _≤_, _<_}
+use Prim.Native.Nat.{ℕ, _+_, _-_, _*_, _≤_, _<_}
 use mathlib.Core.Path.{_≡_, refl, sym, ap, _∙_}
 use mathlib.Core.Bool.{Bool, true, false, not, _&&_}
 use mathlib.Core.List.{List}
 use native.Mathlib.Omega.{arith}
 use lib.Dec.{eqb}
 use lib.ListN.{length, getD, replicate, getD-replicate}
-use borrow.Author.Tests.{eq-eqb, ne-eqb, eqb-false, not-true}
+use borrow.Author.Tests.{eq-eqb, ne-eqb, not-true}
 use borrow.Rule.Slice.PartMut.{midOf, putMid}
-use Rattle.lists.specs.Every.{every, countTo}
-use Rattle.lists.specs.Sort.{tabulate}
-use Rattle.lists.specs.Regions.{part, Part, Out, Out2, Kept}
-use Rattle.lists.proofs.Laws.{getD-tab, always, tab-same, start-mono}
+use Rattle.lists.specs.Every.{every}
+use Rattle.lists.specs.Regions.{part, Part, Out2, Kept}
+use Rattle.lists.proofs.Laws.{getD-tab, start-mono}
 use Rattle.lists.proofs.Order.{each-bucket, below-tab}
 use Rattle.lists.proofs.Regions.{part-as, part-sub, part-len, part-get, part-kept, kept-refl, kept-then, kept-less, lent-all}
 use Rattle.sheet.specs.Quads.{num, valence}
@@ -19,10 +18,10 @@ use Rattle.sheet.specs.Closed.{ind, atPoint}
 use Rattle.sheet.specs.Flat.{from, before, to, quadsOf}
 use Rattle.sheet.specs.Edges.{allCorners, pointCorners}
 use Rattle.sheet.proofs.Flat.{valence-flat}
-use Rattle.incidence.specs.Corners.{Known, Cornered, cornersAt, firstAt}
+use Rattle.incidence.specs.Corners.{cornersAt, firstAt}
 use Rattle.incidence.proofs.Corners.{valence-turn}
 use Rattle.incidence.proofs.Marks.{corners-part}
-use Rattle.census.specs.Census.{degree, connected, noneOrTwo, goodLink, badLinks}
+use Rattle.census.specs.Census.{connected, noneOrTwo, goodLink, badLinks}
 use Rattle.census.proofs.Counting.{Counted, counted-start, counted-turn, counted-end}
 use Rattle.census.proofs.Arcs.{ind-same}
 use Rattle.links.specs.Links.{otherEnd, joinsTo, degreeTo, othersTo, Joining, Joins, Unjoined, twoAt, Twos, Walkable, OneLink, oneRound, LinkRoom}

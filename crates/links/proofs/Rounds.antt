@@ -2,14 +2,14 @@
 use Prim.Native.Nat.{ℕ, zero, suc, _+_, _-_, _≤_, _<_}
 use mathlib.Core.Path.{_≡_, refl, sym, ap, _∙_}
 use mathlib.Core.Bool.{Bool, true, false, cond, _&&_, _||_, or-true, false≢true}
-use mathlib.Core.Logic.{_⊎_, inl, inr, ⊎-elim}
+use mathlib.Core.Logic.{_⊎_, ⊎-elim}
 use mathlib.Core.List.{List, [], _∷_, _++_}
 use native.Mathlib.Omega.{arith}
 use lib.Dec.{eqb}
 use lib.ListN.{length, getD, length-append}
 use borrow.Author.Tests.{ltb-true, eqb-true, eq-eqb, ne-eqb, lt-ltb}
 use Rattle.lists.specs.Every.{every, some}
-use Rattle.lists.proofs.Laws.{eq-or-ne, lt-or-le}
+use Rattle.lists.proofs.Laws.{lt-or-le}
 use Rattle.lists.proofs.Every.{and-left, and-right, or-split, bool-iff, every-at, some-find}
 use Rattle.sheet.specs.Quads.{Quad, num, is, sum, all, at, valence}
 use Rattle.sheet.specs.Flat.{quadsOf}
@@ -19,7 +19,7 @@ use Rattle.census.specs.Census.{degree, joined, reached, reaches, connected, no
 use Rattle.census.proofs.Corners.{weighty, at-positive, is-same, is-other, is-positive, pos-split}
 use Rattle.census.proofs.Tight.{every-of}
 use Rattle.census.proofs.Sides.{length-sum}
-use Rattle.census.proofs.Arcs.{ind-positive, ind-same, ind-first, ind-second, arc-more, arc-from, arc-to, arc-le, arc-plus, Ends, pairSum, cornersOf, corners-sum, pair-le, pair-plus}
+use Rattle.census.proofs.Arcs.{ind-positive, ind-first, ind-second, arc-more, arc-from, arc-to, arc-le, arc-plus, Ends, pairSum, cornersOf, corners-sum, pair-le}
 use Rattle.census.proofs.Links.{reached-more, along}
 use Rattle.links.specs.Links.{otherEnd, Twos, Walkable}
 
@@ -147,7 +147,7 @@ pub record Step (S : List Quad) (v u last z count : ℕ) : Type 0 where
 pub walk-step : {S : List Quad} {v u last z count : ℕ} → Twos S v → Walk S v u last z count → (z ≡ u → ⊥) → Step S v u last z count
 walk-step {S} {v} {u} {last} {z} {count} two K ne =
     let d : degree S v z ≡ is z u + (sum (is z) (K .inner) + sum (is z) (K .inner)) + is z z + pairSum (touch z) (K .rest) =
-        K .is (touch z) (touch-even z) ∙ ap (λ (t : ℕ). t + pairSum (touch z) (K .rest)) (arc-touch z u (K .inner) z) in
+    K .is (touch z) (touch-even z) ∙ ap (λ (t : ℕ). t + pairSum (touch z) (K .rest)) (arc-touch z u (K .inner) z) in
     let s = is-same z in
     let o = is-other z u ne in
     let e : degree S v z ≡ 2 = two z (omega arith) in

@@ -1,5 +1,5 @@
 -- The link of a point by the corners at it: what is kept for each neighbour, and the tests of a link.
-use Prim.Native.Nat.{ℕ, zero, suc, _+_, _≤_, _<_, _^_, _*_}
+use Prim.Native.Nat.{ℕ, zero, suc, _+_, _≤_, _<_, _*_}
 use mathlib.Core.Path.{_≡_}
 use mathlib.Core.Bool.{Bool, true, cond, _&&_}
 use mathlib.Core.List.{List}

@@ -1,12 +1,11 @@
 // The links of the points: the graph of a point's neighbours, in which each corner at the point joins the point before it to the point after it.
 
 ghost use mathlib.Core.Path.{_≡_};
-ghost use mathlib.Core.Bool.{true};
-ghost use Prim.Native.Nat.{ℕ, _+_, _*_, _/_, _%_, _<_, _≤_};
+ghost use Prim.Native.Nat.{ℕ, _+_, _<_};
 ghost use lib.Dec.{eqb};
 ghost use lib.ListN.{length, getD};
 ghost use Rattle.lists.specs.Every.{every};
-ghost use Rattle.lists.specs.Regions.{part, Part, Out, Out2, Kept};
+ghost use Rattle.lists.specs.Regions.{part, Out, Out2, Kept};
 ghost use Rattle.sheet.specs.Quads.{valence};
 ghost use Rattle.sheet.specs.Flat.{before, to, quadsOf};
 ghost use Rattle.incidence.specs.Corners.{Known};
@@ -63,15 +62,7 @@ fn register(deg: usize, acc: usize, x: usize, y: usize, w: &mut [u32])
 }
 
 // Registers the joins of the m corners at from.
-fn join_all(
-    np: usize,
-    quads: &[u32],
-    from: usize,
-    m: usize,
-    deg: usize,
-    acc: usize,
-    w: &mut [u32],
-)
+fn join_all(np: usize, quads: &[u32], from: usize, m: usize, deg: usize, acc: usize, w: &mut [u32])
     requires { ⌜ Joining np (now quads) (part from m (now w)) from m deg acc (now w) ⌝ }
     requires { ⌜ (Unjoined np deg (now w)) ⌝ }
     ensures { λ _. ⌜ Joins np (degreeTo (now (quads .entry)) (part from m (now (w .entry))) m) (othersTo (now (quads .entry)) (part from m (now (w .entry))) m) deg acc (now (w .exit)) ⌝ }

@@ -1,8 +1,8 @@
+-- `links::all_two` meets its contract. Assumes nothing.
 use native.Mathlib.Omega.{arith}
-use borrow.Author.Needs.{needs}
 use mathlib.Core.Path.{_≡_, sym, ap, _∙_}
-use mathlib.Core.Bool.{Bool, true}
-use Prim.Native.Nat.{ℕ, _-_, _≤_}
+use mathlib.Core.Bool.{true}
+use Prim.Native.Nat.{_-_, _≤_}
 use Rattle.lists.specs.Every.{every}
 use Rattle.lists.specs.Regions.{part}
 use Rattle.lists.proofs.Every.{every-zero, every-suc, every-fails}
@@ -10,10 +10,6 @@ use Rattle.links.specs.Links.{bothTwo, twoAt}
 use Rattle.links.proofs.Joining.{Read, read-corner}
 use Rattle.links.proofs.all_two.Statement.{statement}
 use Rattle.links.proofs.all_two.Tie as tie
-use Rattle.links.proofs.all_two.Reads as reads
-use Rattle.links.proofs.all_two.Lts as lts
-use Rattle.links.proofs.both_two.Reads as both-two-reads
-use Rattle.lists.proofs.at.Reads as at-reads
 
 abbrev Inv-loop : tie.InvT-loop
 Inv-loop np quads from m deg acc w j₀ j = (j ≤ m) × (every (twoAt quads deg w (part from m w)) j ≡ true)

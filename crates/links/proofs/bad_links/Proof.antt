@@ -1,6 +1,7 @@
+-- `links::bad_links` meets its contract. Assumes nothing.
 use native.Mathlib.Omega.{arith}
 use borrow.Author.Needs.{needs}
-use Prim.Native.Nat.{ℕ, _+_, _-_}
+use Prim.Native.Nat.{_+_, _-_}
 use mathlib.Core.Path.{_∙_}
 use mathlib.Core.Bool.{not}
 use borrow.Rule.Slice.PartMut.{putMid}
@@ -9,11 +10,6 @@ use Rattle.census.proofs.Counting.{num-le}
 use Rattle.links.proofs.Linked.{LinksTo, links-start, links-here, links-turn, links-end}
 use Rattle.links.proofs.bad_links.Statement.{statement}
 use Rattle.links.proofs.bad_links.Tie as tie
-use Rattle.links.proofs.bad_links.Reads as reads
-use Rattle.links.proofs.bad_links.Lts as lts
-use Rattle.links.proofs.is_good_link.Reads as is-good-link-reads
-use Rattle.census.proofs.one_if.Reads as one-if-reads
-use Rattle.lists.proofs.clear.Reads as clear-reads
 
 abbrev Inv-loop : tie.InvT-loop
 Inv-loop np nq quads starts order deg acc w₀ count₀ v₀ w count v = LinksTo np nq quads starts order deg acc w₀ w count v

@@ -1,12 +1,7 @@
-use native.Mathlib.Omega.{arith}
+-- `links::both_two` meets its contract. Assumes nothing.
 use borrow.Author.Needs.{needs}
 use Rattle.links.proofs.both_two.Statement.{statement}
 use Rattle.links.proofs.both_two.Tie as tie
-use Rattle.links.proofs.both_two.Reads as reads
-use Rattle.links.proofs.both_two.Lts as lts
-use Rattle.census.proofs.point_after.Reads as point-after-reads
-use Rattle.links.proofs.point_before.Reads as point-before-reads
-use Rattle.lists.proofs.at.Reads as at-reads
 
 point-before-requires : tie.Need-point-before-requires
 point-before-requires c κs = search needs

@@ -1,18 +1,13 @@
+-- `links::clear_joins` meets its contract. Assumes nothing.
 use native.Mathlib.Omega.{arith}
-use borrow.Author.Needs.{needs}
 use mathlib.Core.Path.{ap, _∙_}
-use Prim.Native.Nat.{ℕ, _-_}
+use Prim.Native.Nat.{_-_}
 use lib.ListN.{length-set}
 use Rattle.sheet.specs.Flat.{before, to}
 use Rattle.lists.specs.Regions.{part}
 use Rattle.links.proofs.Joining.{Cleared, cleared-start, clear-turn, cleared-end, Read, read-corner}
 use Rattle.links.proofs.clear_joins.Statement.{statement}
 use Rattle.links.proofs.clear_joins.Tie as tie
-use Rattle.links.proofs.clear_joins.Reads as reads
-use Rattle.links.proofs.clear_joins.Lts as lts
-use Rattle.census.proofs.point_after.Reads as point-after-reads
-use Rattle.links.proofs.point_before.Reads as point-before-reads
-use Rattle.lists.proofs.at.Reads as at-reads
 
 abbrev Inv-loop : tie.InvT-loop
 Inv-loop np quads from m deg acc w₀ j₀ w j = Cleared np quads (part from m w₀) from m deg acc w₀ w j

@@ -1,5 +1,5 @@
+-- `links::is_good_link` meets its contract. Assumes nothing.
 use native.Mathlib.Omega.{arith}
-use borrow.Author.Needs.{needs}
 use Prim.Native.Nat.{_+_, _-_}
 use mathlib.Core.Path.{refl, _∙_}
 use Rattle.lists.proofs.Regions.{kept-refl, kept-then}
@@ -8,12 +8,6 @@ use Rattle.links.proofs.Joining.{joining-own}
 use Rattle.links.proofs.Linked.{AtLink, at-link, one-link, joining-part, degrees-part, link-empty, link-good}
 use Rattle.links.proofs.is_good_link.Statement.{statement}
 use Rattle.links.proofs.is_good_link.Tie as tie
-use Rattle.links.proofs.is_good_link.Reads as reads
-use Rattle.links.proofs.is_good_link.Lts as lts
-use Rattle.links.proofs.clear_joins.Reads as clear-joins-reads
-use Rattle.links.proofs.is_round.Reads as is-round-reads
-use Rattle.links.proofs.join_all.Reads as join-all-reads
-use Rattle.lists.proofs.at.Reads as at-reads
 
 at-at : (c : tie.After-at2) → let a = c .before .before .before .before .before .before .args in AtLink (a .np) (a .nq) (a .quads .now) (a .v) (a .order) (a .deg) (a .acc) (a .w .now) (c .before .before .at .result) (c .at2 .result)
 at-at c = let p = c .before .before .before .before .before .before .pre in at-link _ _ (p .0) (p .1 .1) (c .before .before .at .ensures) (c .at2 .ensures)

@@ -1,5 +1,5 @@
+-- `links::is_round` meets its contract. Assumes nothing.
 use native.Mathlib.Omega.{arith}
-use borrow.Author.Needs.{needs}
 use mathlib.Core.Path.{_≡_, sym, ap, _∙_}
 use mathlib.Core.Bool.{true}
 use Rattle.lists.specs.Every.{every}
@@ -10,13 +10,6 @@ use Rattle.links.proofs.Joining.{Read}
 use Rattle.links.proofs.Linked.{test-link, link-failed, joining-part, first-read, walkable, link-round, from-not}
 use Rattle.links.proofs.is_round.Statement.{statement}
 use Rattle.links.proofs.is_round.Tie as tie
-use Rattle.links.proofs.is_round.Reads as reads
-use Rattle.links.proofs.is_round.Lts as lts
-use Rattle.links.proofs.all_two.Reads as all-two-reads
-use Rattle.census.proofs.point_after.Reads as point-after-reads
-use Rattle.links.proofs.point_before.Reads as point-before-reads
-use Rattle.links.proofs.round_length.Reads as round-length-reads
-use Rattle.lists.proofs.at.Reads as at-reads
 
 two-at : (c : tie.Else1) → let a = c .before .before .before .before .args in every (noneOrTwo (quadsOf (a .nq) (a .quads .now)) (a .v)) (a .np) ≡ true
 two-at c = sym (test-link (c .before .before .before .before .pre) (c .before .all-two .ensures)) ∙ from-not _ (c .if1 .left)

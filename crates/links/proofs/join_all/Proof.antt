@@ -1,18 +1,12 @@
+-- `links::join_all` meets its contract. Assumes nothing.
 use native.Mathlib.Omega.{arith}
-use borrow.Author.Needs.{needs}
 use mathlib.Core.Path.{ap, _∙_}
-use Prim.Native.Nat.{ℕ, _-_}
+use Prim.Native.Nat.{_-_}
 use Rattle.sheet.specs.Flat.{before, to}
 use Rattle.lists.specs.Regions.{part}
 use Rattle.links.proofs.Joining.{Registered, registered-start, registered-end, RegisterTurn, register-turn, register-second, register-again, Read, read-corner}
 use Rattle.links.proofs.join_all.Statement.{statement}
 use Rattle.links.proofs.join_all.Tie as tie
-use Rattle.links.proofs.join_all.Reads as reads
-use Rattle.links.proofs.join_all.Lts as lts
-use Rattle.census.proofs.point_after.Reads as point-after-reads
-use Rattle.links.proofs.point_before.Reads as point-before-reads
-use Rattle.links.proofs.register.Reads as register-reads
-use Rattle.lists.proofs.at.Reads as at-reads
 
 abbrev Inv-loop : tie.InvT-loop
 Inv-loop np quads from m deg acc w₀ j₀ w j = Registered np quads (part from m w₀) from m deg acc w₀ w j

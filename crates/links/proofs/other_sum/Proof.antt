@@ -1,10 +1,8 @@
+-- `links::other_sum` meets its contract. Assumes nothing.
 use native.Mathlib.Omega.{arith}
-use borrow.Author.Needs.{needs}
 use Rattle.lists.proofs.Every.{tests}
 use Rattle.links.proofs.other_sum.Statement.{statement}
 use Rattle.links.proofs.other_sum.Tie as tie
-use Rattle.links.proofs.other_sum.Reads as reads
-use Rattle.links.proofs.other_sum.Lts as lts
 
 returns : tie.Need-returns
 returns c = search tests

