@@ -104,7 +104,7 @@ module _ (n : ℕ) (S : List Quad) (good : all (proper n) S ≡ true) (v : ℕ) 
   }
 
   -- a neighbour is a point
-  neighbour-below : (x : ℕ) → 0 < atPoint S v (λ p m. is x p) → x < n
+  pub neighbour-below : (x : ℕ) → 0 < atPoint S v (λ p m. is x p) → x < n
   neighbour-below x h =
       let W = weighty n (at v (λ p m. is x p)) S good h in
       let P = at-positive v (λ p m. is x p) (W .before) (W .point) (W .after) (W .more) in
@@ -195,7 +195,7 @@ module _ (n : ℕ) (S : List Quad) (good : all (proper n) S ≡ true) (v : ℕ) 
 -- ---- from a ring to a good link
 
 module _ (S : List Quad) (v n : ℕ) where
-  reached-more : (x k y : ℕ) → reached S v n x k y ≡ true → reached S v n x (suc k) y ≡ true
+  pub reached-more : (x k y : ℕ) → reached S v n x k y ≡ true → reached S v n x (suc k) y ≡ true
   unfolding reached
   reached-more x k y e = rw e
 
@@ -222,7 +222,7 @@ module _ (S : List Quad) (v n : ℕ) where
       (or-split (reached S v n z k y) (some (λ t. reached S v n z k t && joined S v t y) n) e)
 
   -- along an arc each point is reached from each
-  along : (u : ℕ) (us : List ℕ) (z : ℕ)
+  pub along : (u : ℕ) (us : List ℕ) (z : ℕ)
       → ((p m : ℕ) → 0 < arc (ind p m) u us z → (joined S v p m ≡ true) × (joined S v m p ≡ true))
       → ((x : ℕ) → 0 < is x u + sum (is x) us → x < n)
       → (x y : ℕ) → 0 < is x u + sum (is x) us → 0 < is y u + sum (is y) us → reached S v n x (length us) y ≡ true
@@ -257,7 +257,7 @@ module _ (S : List Quad) (v n : ℕ) where
       go (inr a) (inr d) ih = reached-more x (length us) y (ih x y a d)
 
 module _ (n : ℕ) (S : List Quad) (good : all (proper n) S ≡ true) (v : ℕ) where
-  join-of : (p m : ℕ) → 0 < atPoint S v (ind p m) → (joined S v p m ≡ true) × (joined S v m p ≡ true)
+  pub join-of : (p m : ℕ) → 0 < atPoint S v (ind p m) → (joined S v p m ≡ true) × (joined S v m p ≡ true)
   join-of p m h =
       let a = corners-sum (ind p m) v S in
       let b = corners-sum (λ x y. ind p m x y + ind m p x y) v S in
