@@ -254,7 +254,7 @@ made-suc : (F : List ℕ) (at : ℕ → Point) (Q : List ℕ) (t : ℕ) → made
 unfolding madeTo
 made-suc F at Q t = rw (add-one t)
 
-length-with : (s : List Float) (k : ℕ) (p : Point) → length (withPoint s k p) ≡ length s
+pub length-with : (s : List Float) (k : ℕ) (p : Point) → length (withPoint s k p) ≡ length s
 unfolding withPoint
 length-with s k p = simp length-set
 

@@ -12,10 +12,10 @@ use borrow.Rule.Slice.PartMut.{midOf, putMid}
 use Rattle.points.specs.Points.{pointAt}
 use Rattle.lists.specs.Sort.{tabulate, itself}
 use Rattle.lists.specs.Every.{every, countTo}
-use Rattle.lists.specs.Regions.{part, Part, Out, Kept}
+use Rattle.lists.specs.Regions.{part, Part, Out, Out3, Kept}
 use Rattle.lists.proofs.Laws.{getD-tab, tab-ext}
 use Rattle.lists.proofs.Every.{every-at, every-zero, every-on, bool-iff, and-left, and-right, count-zero, count-yes, count-mono}
-use Rattle.lists.proofs.Regions.{part-as, part-kept, lent-tab}
+use Rattle.lists.proofs.Regions.{part-as, part-kept, kept-then, lent-tab}
 use Rattle.sheet.specs.declared.Counts.{Counts}
 use Rattle.sheet.specs.declared.Verdict.the-variants.{Accepted, Refused}
 use Rattle.sheet.specs.Quads.{all}
@@ -31,7 +31,7 @@ use Rattle.results.proofs.Results.{fills-room, fills-leaves}
 use Rattle.incidence.specs.Corners.{Cornered, edgeOrder}
 use Rattle.refine.specs.Finer.{finerSheet, madeOrShort, refined, refineRule}
 use Rattle.refine.specs.Requests.{firstsOf, own, numberOf, childAt, labelAt}
-use Rattle.refine.specs.Loops.{lowAt, nth, Linking, Numbering, Numbered, Writing, madeTo, firstsAt, numbersAt, pointsAfter, Worked, Finished, Refinable}
+use Rattle.refine.specs.Loops.{lowAt, nth, Linking, Numbering, Numbered, Writing, madeTo, orderAt, firstsAt, numbersAt, pointsAfter, Behind, Worked, Finished, Refinable}
 use Rattle.refine.proofs.Edges.{linked-start}
 use Rattle.refine.proofs.Loops.{front-none}
 use Rattle.refine.proofs.Sheet.{firsts-known, finer-points, finer-quads, finer-labels, finer-counts}
@@ -41,10 +41,12 @@ use Rattle.results.specs.declared.Made.the-variants as made
 
 -- the corners are in order and the requests numbered
 pub record Started (np nq : ℕ) (Q v w : List ℕ) : Type 0 where
-  pub linking : Linking np nq Q (5 * (np + nq)) (firstsAt np nq) 0 w
+  pub linking : Linking np nq Q (orderAt np nq) (firstsAt np nq) 0 w
   pub len : length w ≡ length v
+  pub kept : Kept (Behind np nq) v w
 
-pub started : {np nq : ℕ} {Q u v : List ℕ} {K : ℕ → Type 0} (y : List ℕ) → Cornered np nq Q → 64 * (np + nq) ≤ length v → Part (5 * (np + nq)) (4 * nq) (edgeOrder np nq Q) u × Kept K v u
+pub started : {np nq : ℕ} {Q u v : List ℕ} (y : List ℕ) → Cornered np nq Q → 64 * (np + nq) ≤ length v
+    → Part (orderAt np nq) (4 * nq) (edgeOrder np nq Q) u × Kept (Out3 (np + nq) (4 * nq) 0 np (orderAt np nq) (4 * nq)) v u
     → y ≡ tabulate itself (length (midOf (firstsAt np nq) (firstsAt np nq + 5 * nq - firstsAt np nq) u)) → Started np nq Q v (putMid (firstsAt np nq) (firstsAt np nq + 5 * nq - firstsAt np nq) u y)
 started {np} {nq} {Q} {u} {v} y C h E e =
     let len = E .1 .len in
@@ -57,6 +59,7 @@ started {np} {nq} {Q} {u} {v} y C h E e =
         apart = λ i p q r s. omega arith;
       };
       len = L .kept .len ∙ E .1 .len;
+      kept = kept-then (E .1) (L .kept) (λ i b. ((λ r s. omega arith, (λ r s. omega arith, λ r s. omega arith)), λ r s. omega arith));
     }
 
 pub numbering-start : {np nq : ℕ} {Q v u w : List ℕ} {K : ℕ → Type 0} → Cornered np nq Q → np ≤ 1048576 → 64 * (np + nq) ≤ length v → Started np nq Q v u → Part (firstsAt np nq) (5 * nq) (firstsOf np nq Q) w × Kept K u w
@@ -74,13 +77,22 @@ numbering-start {np} {nq} {Q} {v} {u} {w} C h room S E =
       next-is = rw (count-zero (own (firstsOf np nq Q))) (omega arith);
     })
 
-pub worked : {np nq : ℕ} {Q u w : List ℕ} {K : ℕ → Type 0} {v : List ℕ} (r : ℕ) → Part (firstsAt np nq) (5 * nq) (firstsOf np nq Q) u × Kept K v u
+pub worked : {np nq : ℕ} {Q v t u w : List ℕ} (r : ℕ) → Started np nq Q v t → Part (firstsAt np nq) (5 * nq) (firstsOf np nq Q) u × Kept (Out (firstsAt np nq) (5 * nq)) t u
     → (r ≡ np + countTo (own (part (firstsAt np nq) (5 * nq) u)) (5 * nq))
     × (Part (numbersAt np nq) (5 * nq) (tabulate (numberOf np (part (firstsAt np nq) (5 * nq) u)) (5 * nq)) w × Kept (Out (numbersAt np nq) (5 * nq)) u w)
-    → (r ≡ pointsAfter np nq Q) × Worked np nq Q w
-worked {np} {nq} {Q} {u} {w} r E N =
-    let e = E .0 .is in
-    (rw e at (N .0), record { firsts = part-kept (E .0) (N .1 .1) (λ i p q a b. omega arith); numbers = rw e at (N .1 .0) })
+    → (r ≡ pointsAfter np nq Q) × (Worked np nq Q w × Kept (Behind np nq) v w)
+worked {np} {nq} {Q} {v} {t} {u} {w} r S E N =
+    let e = E .0 .is in (
+      rw e at (N .0),
+      (
+        record {
+          order = part-kept (part-kept (S .linking .at) (E .1) (λ i p q a b. omega arith)) (N .1 .1) (λ i p q a b. omega arith);
+          firsts = part-kept (E .0) (N .1 .1) (λ i p q a b. omega arith);
+          numbers = rw e at (N .1 .0);
+        },
+        kept-then (kept-then (S .kept) (E .1) (λ i b. (b, λ r s. omega arith))) (N .1 .1) (λ i b. (b, λ r s. omega arith)),
+      ),
+    )
 
 -- ---- the result slices
 

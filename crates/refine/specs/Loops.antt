@@ -72,6 +72,10 @@ pub record Numbered (n m : ℕ) (F N : List ℕ) : Type 0 where
   pub firsts : Firsts m F
   pub is : N ≡ tabulate (numberOf n F) m
 
+-- where the corners in the order of their edges stand in the work slice
+abbrev pub orderAt : ℕ → ℕ → ℕ
+orderAt np nq = 5 * (np + nq)
+
 -- where the first requests stand in the work slice
 abbrev pub firstsAt : ℕ → ℕ → ℕ
 firstsAt np nq = 9 * (np + nq)
@@ -84,8 +88,13 @@ numbersAt np nq = 14 * (np + nq)
 abbrev pub pointsAfter : ℕ → ℕ → List ℕ → ℕ
 pointsAfter np nq Q = np + countTo (own (firstsOf np nq Q)) (5 * nq)
 
--- the work slice w with the first requests and the numbers of all requests
+-- an index of the work slice behind these regions
+abbrev pub Behind : ℕ → ℕ → ℕ → Type 0
+Behind np nq i = 19 * (np + nq) ≤ i
+
+-- the work slice w with the corners in the order of their edges, and the first requests and the numbers of all requests
 pub record Worked (np nq : ℕ) (Q w : List ℕ) : Type 0 where
+  pub order : Part (orderAt np nq) (4 * nq) (edgeOrder np nq Q) w
   pub firsts : Part (firstsAt np nq) (5 * nq) (firstsOf np nq Q) w
   pub numbers : Part (numbersAt np nq) (5 * nq) (tabulate (numberOf np (firstsOf np nq Q)) (5 * nq)) w
 

@@ -22,7 +22,7 @@ ghost use Rattle.results.specs.Results.{Leaves, Fills, Front};
 ghost use Rattle.incidence.specs.Corners.{Cornered};
 ghost use Rattle.refine.specs.Finer.{centreP, finerSheet, madeOrShort, refineRule};
 ghost use Rattle.refine.specs.Requests.{requestOf, sameEdge, positionIn, firstOf, linkedTo, own, numberOf, childAt, withQuad, labelAt, firstsOf};
-ghost use Rattle.refine.specs.Loops.{lowAt, nth, Linking, Numbering, Held, putRequest, madeTo, Writing, Numbered, Worked, Finished, Refinable, pointsAfter};
+ghost use Rattle.refine.specs.Loops.{lowAt, nth, Linking, Numbering, Held, putRequest, madeTo, Writing, Numbered, Behind, Worked, Finished, Refinable, pointsAfter};
 
 // Regions of the work slice, in units of points and quads together: behind the counters of the sort and its first order stand the corners in the
 // order of their edges, the first request of each request's key, and the numbers of the requests' points.
@@ -62,7 +62,7 @@ fn in_range(np: usize, n: usize, quads: &[u32]) -> bool
 }
 
 // The request for the edge of corner c.
-fn request_of(c: usize) -> usize
+pub fn request_of(c: usize) -> usize
     requires { ⌜ c < 2 ^ 32 ⌝ }
     ensures { λ r. ⌜ r ≡ requestOf c ⌝ }
 {
@@ -157,7 +157,14 @@ fn number_points(n: usize, m: usize, first: usize, num: usize, w: &mut [u32]) ->
 }
 
 // The point at corner j of quad q.
-fn corner_point(points: &[f64], quads: &[u32], np: usize, nq: usize, q: usize, j: usize) -> Point
+pub fn corner_point(
+    points: &[f64],
+    quads: &[u32],
+    np: usize,
+    nq: usize,
+    q: usize,
+    j: usize,
+) -> Point
     requires { ⌜ Held np nq (now points) (now quads) ⌝ }
     requires { ⌜ q < nq ⌝ }
     requires { ⌜ j < 4 ⌝ }
@@ -273,7 +280,7 @@ fn put_child(nq: usize, quads: &[u32], num: usize, c: usize, w: &[u32], out: &mu
 }
 
 // Puts the four children of every quad.
-fn put_quads(nq: usize, quads: &[u32], num: usize, w: &[u32], out: &mut [u32])
+pub fn put_quads(nq: usize, quads: &[u32], num: usize, w: &[u32], out: &mut [u32])
     requires { ⌜ 4 * nq ≤ length (now quads) ⌝ }
     requires { ⌜ num + 5 * nq ≤ length (now w) ⌝ }
     requires { ⌜ 16 * nq ≤ length (now out) ⌝ }
@@ -287,7 +294,7 @@ fn put_quads(nq: usize, quads: &[u32], num: usize, w: &[u32], out: &mut [u32])
 }
 
 // Puts each quad's label four times.
-fn put_labels(nq: usize, labels: &[u8], out: &mut [u8])
+pub fn put_labels(nq: usize, labels: &[u8], out: &mut [u8])
     requires { ⌜ nq ≤ length (now labels) ⌝ }
     requires { ⌜ 4 * nq ≤ length (now out) ⌝ }
     ensures { λ _. ⌜ Front (tabulate (labelAt (now (labels .entry))) (4 * nq)) (now (out .exit)) ⌝ }
@@ -300,12 +307,13 @@ fn put_labels(nq: usize, labels: &[u8], out: &mut [u8])
 }
 
 // Finds the first request of each key and numbers the new points, in regions of the work slice; how many points there are then.
-fn number_sheet(np: usize, nq: usize, quads: &[u32], w: &mut [u32]) -> usize
+pub fn number_sheet(np: usize, nq: usize, quads: &[u32], w: &mut [u32]) -> usize
     requires { ⌜ Cornered np nq (now quads) ⌝ }
     requires { ⌜ np ≤ 1048576 ⌝ }
     requires { ⌜ 64 * (np + nq) ≤ length (now w) ⌝ }
     ensures { λ r. ⌜ r ≡ pointsAfter np nq (now (quads .entry)) ⌝ }
     ensures { λ _. ⌜ Worked np nq (now (quads .entry)) (now (w .exit)) ⌝ }
+    ensures { λ _. ⌜ Kept (Behind np nq) (now (w .entry)) (now (w .exit)) ⌝ }
 {
     let n = np + nq;
     let order = ORDER * n;

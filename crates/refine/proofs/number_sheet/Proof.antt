@@ -63,7 +63,7 @@ same-length : tie.Need-same-length
 same-length c = search needs
 
 returns : tie.Need-returns
-returns c = worked _ (c .before .before .before .before .before .before .link-edges .ensures) (c .before .before .number-points .ensures)
+returns c = worked _ (started-at (c .before .before .before .before .before .before .before)) (c .before .before .before .before .before .before .link-edges .ensures) (c .before .before .number-points .ensures)
 
 pub number-sheet-spec : {M : Type 1} → statement M
 number-sheet-spec =

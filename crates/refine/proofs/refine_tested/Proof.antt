@@ -50,7 +50,7 @@ put-sheet-requires : tie.Need-put-sheet-requires
 put-sheet-requires c κs = let k = numbered c in
     let s = begin k in
     let e = k .before .before .number-sheet .ensures in
-    tested-finished (s .args .c) (s .args .points .now) (s .args .quads .now) (s .args .labels .now) _ (s .pre) _ (e .0) _ _ _ _ (e .1) (sym (c .before .before .before .before .before .is-short .ensures) ∙ c .before .before .before .before .if2 .left)
+    tested-finished (s .args .c) (s .args .points .now) (s .args .quads .now) (s .args .labels .now) _ (s .pre) _ (e .0) _ _ _ _ (e .1 .0) (sym (c .before .before .before .before .before .is-short .ensures) ∙ c .before .before .before .before .if2 .left)
 
 same-length-3 : tie.Need-same-length-3
 same-length-3 c = search needs

@@ -1,0 +1,2 @@
+pub mod Subdivide
+pub mod Steps
