@@ -1,9 +1,11 @@
 // Replays the stored answers of the Rust original through the proved functions, and writes for each operation and number
 // how many agree. Standard input holds the records; docs/ORACLE.md has their layout.
 mod numbers;
+mod operations;
 mod records;
 mod sheets;
 mod table;
+mod words;
 
 // The first words of a file of records, and the version of its layout.
 const MAGIC: u64 = 0x3156_5351;

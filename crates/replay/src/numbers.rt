@@ -16,7 +16,7 @@ pub fn byte_at(bytes: &[u8], at: usize) -> u64
 
 // The number of two bytes.
 fn quarter_at(bytes: &[u8], at: usize) -> u64
-    requires { ⌜ at ≤ 5000 ⌝ }
+    requires { ⌜ at ≤ 30006 ⌝ }
     ensures { λ r. ⌜ r < 2 ^ 16 ⌝ }
 {
     byte_at(bytes, at) + 0x100 * byte_at(bytes, at + 1)
@@ -24,7 +24,7 @@ fn quarter_at(bytes: &[u8], at: usize) -> u64
 
 // The number of four bytes.
 pub fn half_at(bytes: &[u8], at: usize) -> u64
-    requires { ⌜ at ≤ 4998 ⌝ }
+    requires { ⌜ at ≤ 30004 ⌝ }
     ensures { λ r. ⌜ r < 2 ^ 32 ⌝ }
 {
     quarter_at(bytes, at) + 0x1_0000 * quarter_at(bytes, at + 2)
@@ -32,7 +32,7 @@ pub fn half_at(bytes: &[u8], at: usize) -> u64
 
 // The number of eight bytes.
 pub fn word_at(bytes: &[u8], at: usize) -> u64
-    requires { ⌜ at ≤ 4990 ⌝ }
+    requires { ⌜ at ≤ 30000 ⌝ }
 {
     half_at(bytes, at) + 0x1_0000_0000 * half_at(bytes, at + 4)
 }

@@ -1,5 +1,6 @@
 // One record: reading it, asking the proved function, comparing.
 use crate::numbers;
+use crate::operations;
 use crate::sheets;
 ghost use Prim.Native.Nat.{_≤_};
 
@@ -108,8 +109,11 @@ fn same_point(bytes: &[u8], x: f64, y: f64, z: f64) -> bool {
     same(bytes, RESULT, x) & same(bytes, RESULT + 8, y) & same(bytes, RESULT + 16, z)
 }
 
-// Whether the proved function answers as the record says.
+// Whether the proved function answers as the record says: an operation on a sheet up to number 8, else a function at a point.
 fn agrees(bytes: &[u8], operation: u64, number: u64) -> bool {
+    if operation <= 8 {
+        return operations::agrees(bytes, operation, number);
+    }
     let mut floats = [0.0; 21];
     numbers::load_floats(bytes, FLOATS, &mut floats);
     let mut out = [0.0; 3];
@@ -126,7 +130,7 @@ fn count(tally: &mut [u64; 256], at: usize) {
 
 // Reads and replays one record; false if there is none.
 pub fn replay(seen: &mut [u64; 256], agreed: &mut [u64; 256]) -> bool {
-    let mut bytes = [0u8; 4096];
+    let mut bytes = [0u8; 8192];
     if !read(&mut bytes) {
         return false;
     }

@@ -3,6 +3,7 @@
 // Writes the name of an operation.
 fn print_name(operation: usize) {
     match operation {
+        1 => io::write_all(1, b"refine "),
         9 => io::write_all(1, b"project "),
         10 => io::write_all(1, b"value "),
         11 => io::write_all(1, b"gradient "),

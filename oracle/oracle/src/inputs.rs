@@ -1,7 +1,7 @@
 //! Random calls of an operation.
 use crate::call::{Call, Operation, lone};
 use crate::random::Random;
-use crate::{bands, floats, sheets};
+use crate::{bands, drawn, floats, sheets};
 
 /// A number to take the root of: hostile, or a square or nearly.
 pub fn radicand(r: &mut Random) -> f64 {
@@ -37,6 +37,16 @@ fn on_sheet(r: &mut Random, operation: Operation) -> Call {
     Call { operation, argument: r.below(4) as u64, band, sheet: sheets::any(r) }
 }
 
+/// A call on a sheet, one time in four a drawn one.
+fn on_any_sheet(r: &mut Random, operation: Operation) -> Call {
+    let call = on_sheet(r, operation);
+    if !r.one_in(4) {
+        return call;
+    }
+    let (band, sheet) = drawn::sheet(r);
+    Call { band, sheet, ..call }
+}
+
 /// A call of the operation.
 pub fn call(r: &mut Random, operation: Operation) -> Call {
     match operation {
@@ -54,7 +64,8 @@ pub fn call(r: &mut Random, operation: Operation) -> Call {
             Call { operation, argument, band: bands::any_band(r), sheet: sheets::empty() }
         }
         Operation::Constraints => Call { argument: 0, ..on_sheet(r, operation) },
-        _ => on_sheet(r, operation),
+        Operation::Refine => on_sheet(r, operation),
+        _ => on_any_sheet(r, operation),
     }
 }
 
@@ -73,6 +84,23 @@ mod tests {
     #[test]
     fn the_tests_of_a_sheet_are_all_met() {
         assert_eq!(numbers(Operation::Constraints), BTreeSet::from([0, 1, 5, 6, 7]));
+    }
+
+    #[test]
+    fn operations_meet_their_refusals() {
+        assert_eq!(numbers(Operation::Subdivide), BTreeSet::from([0, 1, 5, 6, 7, 8, 9]));
+        assert_eq!(numbers(Operation::Quality), BTreeSet::from([0, 1, 5, 6, 7, 11]));
+        assert_eq!(numbers(Operation::Coarsen), BTreeSet::from([0, 1, 5, 6, 7]));
+    }
+
+    #[test]
+    fn swaps_and_merges_are_made() {
+        for operation in [Operation::Regularize, Operation::ImproveLayout, Operation::Coarsen] {
+            let mut r = Random::new(4);
+            let counts: Vec<_> = (0..2000).map(|_| original(&call(&mut r, operation)).count).collect();
+            assert!(counts.iter().filter(|&&count| count > 0).count() > 100);
+            assert!(counts.iter().any(|&count| count > 9));
+        }
     }
 
     #[test]

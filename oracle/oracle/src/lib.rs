@@ -5,6 +5,7 @@ pub use error::MeshingError;
 pub mod arguments;
 pub mod bands;
 pub mod call;
+pub mod drawn;
 pub mod driver;
 pub mod field;
 pub mod floats;

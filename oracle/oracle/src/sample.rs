@@ -23,6 +23,9 @@ const LEAVES: [(Operation, usize); 6] = [
 /// How many random sheets are tested.
 const SHEETS: usize = 60;
 
+/// How many random calls of each operation on a sheet the sample holds.
+const OPERATIONS: [(Operation, usize); 1] = [(Operation::Refine, 40)];
+
 /// The roots of document 01, of zeros, of limits and of what has no root.
 const ROOTS: [f64; 20] = [
     4.0,
@@ -145,10 +148,29 @@ fn constraints(seed: u64) -> Vec<Record> {
     calls.into_iter().map(record).collect()
 }
 
+/// Whether the replay takes a sheet: at most 64 points, quads and labels.
+fn is_small(sheet: &QuadMesh) -> bool {
+    [sheet.points.len(), sheet.quads.len(), sheet.labels.len()].iter().all(|&n| n <= 64)
+}
+
+/// The operations on the changed cubes and on random small sheets.
+fn operations(seed: u64) -> Vec<Record> {
+    let mut r = Random::new(seed);
+    let mut calls = vec![];
+    for (operation, count) in OPERATIONS {
+        let on = |sheet| Call { operation, argument: 2, band: UNIT, sheet };
+        calls.extend(changed_cubes().into_iter().map(on));
+        let random = std::iter::repeat_with(|| inputs::call(&mut r, operation));
+        calls.extend(random.filter(|call| is_small(&call.sheet)).take(count));
+    }
+    calls.into_iter().map(record).collect()
+}
+
 /// The sample of a seed.
 pub fn records(seed: u64) -> Vec<Record> {
     let mut records = leaves(seed);
     records.extend(constraints(seed));
+    records.extend(operations(seed));
     records
 }
 
@@ -169,7 +191,8 @@ mod tests {
         let leaf = [(Sqrt, 0), (Value, 0), (Gradient, 0), (Normal, 0), (Project, 0), (Project, 9)];
         let tests = [(Validate, 0), (Validate, 1)];
         let sheet = [0, 1, 5, 6, 7].map(|number| (Constraints, number));
-        let expected = leaf.into_iter().chain(tests).chain(sheet).collect();
+        let refine = [0, 5, 6].map(|number| (Refine, number));
+        let expected = leaf.into_iter().chain(tests).chain(sheet).chain(refine).collect();
         assert_eq!(seen(&records(SEED)), expected);
     }
 
@@ -181,6 +204,6 @@ mod tests {
 
     #[test]
     fn the_sample_is_small() {
-        assert!(record::file(&records(SEED)).len() < 400_000);
+        assert!(record::file(&records(SEED)).len() < 1_000_000);
     }
 }

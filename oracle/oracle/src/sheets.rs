@@ -92,7 +92,7 @@ pub fn closed(r: &mut Random) -> QuadMesh {
 }
 
 /// One damage to a sheet; a list that is empty stays so.
-fn damage(r: &mut Random, sheet: &mut QuadMesh) {
+pub fn damage(r: &mut Random, sheet: &mut QuadMesh) {
     let points = sheet.points.len();
     let hostile: Point = std::array::from_fn(|_| floats::hostile(r));
     let corner = r.below(4);

@@ -1,0 +1,27 @@
+-- `replay::operations::agrees` is safe. Assumes nothing.
+use borrow.Author.Needs.{needs}
+use Rattle.replay.proofs.operations.agrees.Statement.{statement}
+use Rattle.replay.proofs.operations.agrees.Tie as tie
+
+sizes-of-requires : tie.Need-sizes-of-requires
+sizes-of-requires c κs = search needs
+
+is-small-requires : tie.Need-is-small-requires
+is-small-requires c κs = search needs
+
+refine-requires : tie.Need-refine-requires
+refine-requires c κs = c .before .is-small .ensures (c .if1 .taken)
+
+returns : tie.Need-returns
+returns c = search needs
+
+returns-2 : tie.Need-returns-2
+returns-2 c = search needs
+
+returns-3 : tie.Need-returns-3
+returns-3 c = search needs
+
+pub agrees-spec : {M : Type 1} → statement M
+agrees-spec =
+    tie.close
+    (tie.spec sizes-of-requires is-small-requires refine-requires returns returns-2 returns-3)

@@ -1,0 +1,105 @@
+// The operations on the lent sheet of a record, and whether they leave the result that it stores.
+use crate::numbers;
+use crate::sheets;
+use crate::sheets::Sizes;
+use crate::words;
+ghost use Prim.Native.Nat.{_≤_};
+ghost use Rattle.replay.specs.Sizes.{Small};
+
+// The most points and quads of a finer sheet that are compared.
+const MOST_POINTS: u64 = 384;
+
+const MOST_QUADS: u64 = 256;
+
+// Where the result of a record with a sheet of these sizes begins.
+fn result_at(n: Sizes) -> usize
+    requires { ⌜ Small n ⌝ }
+    ensures { λ r. ⌜ r ≤ 4000 ⌝ }
+{
+    208 + 24 * n.points + 16 * n.quads + (n.labels + 7) / 8 * 8
+}
+
+// Whether the counts of an answer are those of the stored result.
+fn same_counts(bytes: &[u8], points: u64, quads: u64, labels: u64) -> bool {
+    points == numbers::half_at(bytes, 40)
+        && quads == numbers::half_at(bytes, 44)
+        && labels == numbers::half_at(bytes, 48)
+}
+
+// Whether a made sheet of these counts is the stored result.
+fn same_made(
+    bytes: &[u8],
+    n: Sizes,
+    np: u64,
+    nq: u64,
+    nl: u64,
+    points: &[f64],
+    quads: &[u32],
+    labels: &[u8],
+) -> bool
+    requires { ⌜ Small n ⌝ }
+{
+    if MOST_POINTS < np || MOST_QUADS < nq || MOST_QUADS < nl {
+        return false;
+    }
+    let made = Sizes {
+        points: np as usize,
+        quads: nq as usize,
+        labels: nl as usize,
+    };
+    same_counts(bytes, np, nq, nl)
+        && words::same_sheet(bytes, result_at(n), made, points, quads, labels)
+}
+
+// Whether `refine` answers as the record says.
+fn refine(bytes: &[u8], n: Sizes, number: u64) -> bool
+    requires { ⌜ Small n ⌝ }
+{
+    let mut points = [0.0; 192];
+    let mut quads = [0u32; 256];
+    let mut labels = [0u8; 64];
+    sheets::load(bytes, n, &mut points, &mut quads, &mut labels);
+    let mut new_points = [0.0; 1152];
+    let mut new_quads = [0u32; 1024];
+    let mut new_labels = [0u8; 256];
+    let mut work = [0u32; 8192];
+    let mut floats = [0.0; 2048];
+    let mut answer = [0u64; 4];
+    let got = quads::quads_refine(
+        &points,
+        &quads,
+        &labels,
+        n.points,
+        n.quads,
+        n.labels,
+        &mut new_points,
+        &mut new_quads,
+        &mut new_labels,
+        &mut work,
+        &mut floats,
+        &mut answer,
+    );
+    if got != 0 {
+        return got as u64 == number;
+    }
+    number == 0
+        && same_made(
+            bytes,
+            n,
+            answer[1],
+            answer[2],
+            answer[3],
+            &new_points,
+            &new_quads,
+            &new_labels,
+        )
+}
+
+// Whether the operation on a record's sheet answers as the record says; a larger sheet is not taken.
+pub fn agrees(bytes: &[u8], operation: u64, number: u64) -> bool {
+    let n = sheets::sizes_of(bytes);
+    if sheets::is_small(n) {
+        return refine(bytes, n, number) && operation == 1;
+    }
+    false
+}
