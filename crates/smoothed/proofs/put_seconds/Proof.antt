@@ -1,11 +1,11 @@
--- `subdivide::put_seconds` meets its contract. Assumes nothing.
+-- `smoothed::put_seconds` meets its contract. Assumes nothing.
 use native.Mathlib.Omega.{arith}
 use borrow.Author.Needs.{needs}
 use Prim.Native.Nat.{_-_, _*_}
 use Rattle.lists.specs.Regions.{part}
-use Rattle.subdivide.proofs.Pairs.{SecondLoop, seconds-start, seconds-turn, seconds-end, first-low}
-use Rattle.subdivide.proofs.put_seconds.Statement.{statement}
-use Rattle.subdivide.proofs.put_seconds.Tie as tie
+use Rattle.smoothed.proofs.Pairs.{SecondLoop, seconds-start, seconds-turn, seconds-end, first-low}
+use Rattle.smoothed.proofs.put_seconds.Statement.{statement}
+use Rattle.smoothed.proofs.put_seconds.Tie as tie
 
 abbrev Inv-loop : tie.InvT-loop
 Inv-loop nq order second w₀ k₀ w k = SecondLoop nq order second (part order (4 * nq) w₀) w₀ w k

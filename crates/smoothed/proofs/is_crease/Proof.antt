@@ -1,10 +1,10 @@
--- `subdivide::is_crease` meets its contract. Assumes nothing.
+-- `smoothed::is_crease` meets its contract. Assumes nothing.
 use native.Mathlib.Omega.{arith}
 use borrow.Author.Needs.{needs}
-use Rattle.subdivide.proofs.Sums.{below-at}
-use Rattle.subdivide.proofs.CreaseLoop.{crease-is}
-use Rattle.subdivide.proofs.is_crease.Statement.{statement}
-use Rattle.subdivide.proofs.is_crease.Tie as tie
+use Rattle.smoothed.proofs.Sums.{below-at}
+use Rattle.smoothed.proofs.CreaseLoop.{crease-is}
+use Rattle.smoothed.proofs.is_crease.Statement.{statement}
+use Rattle.smoothed.proofs.is_crease.Tie as tie
 
 mul-at : tie.Need-mul-at
 mul-at c = search needs

@@ -1,8 +1,8 @@
--- `subdivide::other_end` meets its contract. Assumes nothing.
+-- `smoothed::other_end` meets its contract. Assumes nothing.
 use borrow.Author.Needs.{needs}
-use Rattle.subdivide.specs.Steps.{otherEnd}
-use Rattle.subdivide.proofs.other_end.Statement.{statement}
-use Rattle.subdivide.proofs.other_end.Tie as tie
+use Rattle.smoothed.specs.Steps.{otherEnd}
+use Rattle.smoothed.proofs.other_end.Statement.{statement}
+use Rattle.smoothed.proofs.other_end.Tie as tie
 
 mul-at : tie.Need-mul-at
 mul-at c = search needs

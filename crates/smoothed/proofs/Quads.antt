@@ -12,9 +12,9 @@ use Rattle.sheet.specs.Quads.{Quad, num, is, uses}
 use Rattle.sheet.specs.Flat.{quadAt, quadsOf, from}
 use Rattle.sheet.specs.Edges.{pair, smaller, larger, allCorners, pointCorners, edgeCorners}
 use Rattle.refine.proofs.Requests.{map-append, tab-add}
-use Rattle.subdivide.specs.Subdivide.{timed, sides, edgeQuads, pointQuads}
-use Rattle.subdivide.specs.Steps.{keep}
-use Rattle.subdivide.proofs.CreaseLoop.{keep-append}
+use Rattle.smoothed.specs.Smoothed.{timed, sides, edgeQuads, pointQuads}
+use Rattle.smoothed.specs.Steps.{keep}
+use Rattle.smoothed.proofs.CreaseLoop.{keep-append}
 use borrow.Author.Tests.{eq-eqb, ne-eqb}
 use mathlib.Core.Logic.{⊎-elim}
 

@@ -1,10 +1,10 @@
--- `subdivide::end_at` meets its contract. Assumes nothing.
+-- `smoothed::end_at` meets its contract. Assumes nothing.
 use native.Mathlib.Omega.{arith}
 use borrow.Author.Needs.{needs}
-use Rattle.subdivide.proofs.Sums.{below-at}
-use Rattle.subdivide.proofs.Pairs.{smaller-from, smaller-to, larger-from, larger-to, end-even, end-odd}
-use Rattle.subdivide.proofs.end_at.Statement.{statement}
-use Rattle.subdivide.proofs.end_at.Tie as tie
+use Rattle.smoothed.proofs.Sums.{below-at}
+use Rattle.smoothed.proofs.Pairs.{smaller-from, smaller-to, larger-from, larger-to, end-even, end-odd}
+use Rattle.smoothed.proofs.end_at.Statement.{statement}
+use Rattle.smoothed.proofs.end_at.Tie as tie
 
 add-at : tie.Need-add-at
 add-at c = search needs

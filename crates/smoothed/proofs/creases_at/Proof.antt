@@ -1,11 +1,11 @@
--- `subdivide::creases_at` meets its contract. Assumes nothing.
+-- `smoothed::creases_at` meets its contract. Assumes nothing.
 use native.Mathlib.Omega.{arith}
 use Prim.Native.Nat.{_-_, _*_}
 use Rattle.lists.specs.Regions.{part}
-use Rattle.subdivide.proofs.Sums.{below-at}
-use Rattle.subdivide.proofs.CreaseLoop.{CreaseLoop, creases-start, creases-few, creases-turn, creases-end}
-use Rattle.subdivide.proofs.creases_at.Statement.{statement}
-use Rattle.subdivide.proofs.creases_at.Tie as tie
+use Rattle.smoothed.proofs.Sums.{below-at}
+use Rattle.smoothed.proofs.CreaseLoop.{CreaseLoop, creases-start, creases-few, creases-turn, creases-end}
+use Rattle.smoothed.proofs.creases_at.Statement.{statement}
+use Rattle.smoothed.proofs.creases_at.Tie as tie
 
 abbrev Inv-loop : tie.InvT-loop
 Inv-loop labels ends nq order from m w c₀ j₀ c j = CreaseLoop labels (part order (4 * nq) w) ends from m w c j

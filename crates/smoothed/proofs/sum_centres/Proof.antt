@@ -1,11 +1,11 @@
--- `subdivide::sum_centres` meets its contract. Assumes nothing.
+-- `smoothed::sum_centres` meets its contract. Assumes nothing.
 use native.Mathlib.Omega.{arith}
 use borrow.Author.Needs.{needs}
 use Prim.Native.Nat.{_-_}
-use Rattle.subdivide.specs.Steps.{cornerCentre}
-use Rattle.subdivide.proofs.Sums.{below-at, Sum, sum-start, sum-turn, sum-end}
-use Rattle.subdivide.proofs.sum_centres.Statement.{statement}
-use Rattle.subdivide.proofs.sum_centres.Tie as tie
+use Rattle.smoothed.specs.Steps.{cornerCentre}
+use Rattle.smoothed.proofs.Sums.{below-at, Sum, sum-start, sum-turn, sum-end}
+use Rattle.smoothed.proofs.sum_centres.Statement.{statement}
+use Rattle.smoothed.proofs.sum_centres.Tie as tie
 
 abbrev Inv-loop : tie.InvT-loop
 Inv-loop points quads np nq from m w sum₀ j₀ sum j = Sum (cornerCentre points quads) from m w sum j

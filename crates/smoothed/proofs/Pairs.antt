@@ -12,7 +12,7 @@ use Rattle.lists.proofs.Laws.{eq-or-ne}
 use Rattle.lists.proofs.Regions.{part-of, part-get, part-kept, kept-refl, kept-set}
 use Rattle.sheet.specs.Flat.{from, to}
 use Rattle.sheet.specs.Edges.{smaller, larger}
-use Rattle.subdivide.specs.Steps.{Below, endAt, Pairing, Seconds}
+use Rattle.smoothed.specs.Steps.{Below, endAt, Pairing, Seconds}
 
 -- the smaller and the larger point of a corner's edge
 pub smaller-from : (Q : List ℕ) (c : ℕ) → from Q c ≤ to Q c → from Q c ≡ smaller Q c

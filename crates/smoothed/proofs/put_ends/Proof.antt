@@ -1,13 +1,13 @@
--- `subdivide::put_ends` meets its contract. Assumes nothing.
+-- `smoothed::put_ends` meets its contract. Assumes nothing.
 use native.Mathlib.Omega.{arith}
 use borrow.Author.Needs.{needs}
 use Prim.Native.Nat.{_-_, _*_}
 use Rattle.lists.specs.Regions.{part}
 use Rattle.lists.proofs.Laws.{Filled, filled-start, filled-turn}
 use Rattle.refine.proofs.Loops.{front-filled}
-use Rattle.subdivide.specs.Steps.{endAt}
-use Rattle.subdivide.proofs.put_ends.Statement.{statement}
-use Rattle.subdivide.proofs.put_ends.Tie as tie
+use Rattle.smoothed.specs.Steps.{endAt}
+use Rattle.smoothed.proofs.put_ends.Statement.{statement}
+use Rattle.smoothed.proofs.put_ends.Tie as tie
 
 abbrev Inv-loop : tie.InvT-loop
 Inv-loop quads nq order w ends₀ i₀ ends i = Filled (endAt quads (part order (4 * nq) w)) ends₀ (4 * nq) ends i

@@ -15,7 +15,7 @@ use Rattle.refine.specs.Loops.{Held}
 use Rattle.refine.proofs.Requests.{map-append}
 use Rattle.smoothing.proofs.Coordinates.{halfway-by}
 use Rattle.points.specs.Points.{addP, halfwayP, pointAt}
-use Rattle.subdivide.specs.Steps.{Below, otherEnd, halfwayTo}
+use Rattle.smoothed.specs.Steps.{Below, otherEnd, halfwayTo}
 
 -- a part with one element more
 pub part-suc : {A : Type 0} (d : A) (from j : ℕ) (w : List A) → from + j < length w → part from (j + 1) w ≡ part from j w ++ (getD w (from + j) d ∷ [])

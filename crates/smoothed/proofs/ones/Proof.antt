@@ -1,9 +1,9 @@
--- `subdivide::ones` meets its contract. Assumes nothing.
+-- `smoothed::ones` meets its contract. Assumes nothing.
 use borrow.Author.Needs.{needs}
 use mathlib.Core.Path.{refl}
-use Rattle.subdivide.specs.Steps.{onesOf}
-use Rattle.subdivide.proofs.ones.Statement.{statement}
-use Rattle.subdivide.proofs.ones.Tie as tie
+use Rattle.smoothed.specs.Steps.{onesOf}
+use Rattle.smoothed.proofs.ones.Statement.{statement}
+use Rattle.smoothed.proofs.ones.Tie as tie
 
 add-result : tie.Need-add-result
 add-result c = search needs

@@ -12,9 +12,9 @@ use Rattle.lists.specs.Sort.{consIf}
 use Rattle.lists.specs.Regions.{part}
 use Rattle.lists.proofs.Regions.{part-of, part-get}
 use Rattle.refine.proofs.Requests.{map-append}
-use Rattle.subdivide.specs.declared.Creases.{Creases}
-use Rattle.subdivide.specs.Steps.{Below, otherEnd, creaseAt, creasesOf, withCrease, keep, creaseEnds}
-use Rattle.subdivide.proofs.Sums.{part-suc}
+use Rattle.smoothed.specs.declared.Creases.{Creases}
+use Rattle.smoothed.specs.Steps.{Below, otherEnd, creaseAt, creasesOf, withCrease, keep, creaseEnds}
+use Rattle.smoothed.proofs.Sums.{part-suc}
 
 pub keep-append : (p : ℕ → Bool) (l m : List ℕ) → keep p (l ++ m) ≡ keep p l ++ keep p m
 keep-append p [] m = refl

@@ -1,7 +1,7 @@
--- `subdivide::centre_at` meets its contract. Assumes nothing.
+-- `smoothed::centre_at` meets its contract. Assumes nothing.
 use borrow.Author.Needs.{needs}
-use Rattle.subdivide.proofs.centre_at.Statement.{statement}
-use Rattle.subdivide.proofs.centre_at.Tie as tie
+use Rattle.smoothed.proofs.centre_at.Statement.{statement}
+use Rattle.smoothed.proofs.centre_at.Tie as tie
 
 corner-point-requires : tie.Need-corner-point-requires
 corner-point-requires c κs = search needs

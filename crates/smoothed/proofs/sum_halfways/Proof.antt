@@ -1,11 +1,11 @@
--- `subdivide::sum_halfways` meets its contract. Assumes nothing.
+-- `smoothed::sum_halfways` meets its contract. Assumes nothing.
 use native.Mathlib.Omega.{arith}
 use borrow.Author.Needs.{needs}
 use Prim.Native.Nat.{_-_}
-use Rattle.subdivide.specs.Steps.{halfwayTo}
-use Rattle.subdivide.proofs.Sums.{below-at, other-low, halfway-is, Sum, sum-start, sum-turn, sum-end}
-use Rattle.subdivide.proofs.sum_halfways.Statement.{statement}
-use Rattle.subdivide.proofs.sum_halfways.Tie as tie
+use Rattle.smoothed.specs.Steps.{halfwayTo}
+use Rattle.smoothed.proofs.Sums.{below-at, other-low, halfway-is, Sum, sum-start, sum-turn, sum-end}
+use Rattle.smoothed.proofs.sum_halfways.Statement.{statement}
+use Rattle.smoothed.proofs.sum_halfways.Tie as tie
 
 abbrev Inv-loop : tie.InvT-loop
 Inv-loop p points ends np nq from m w sum₀ j₀ sum j = Sum (halfwayTo p points ends) from m w sum j

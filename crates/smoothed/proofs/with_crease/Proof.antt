@@ -1,8 +1,8 @@
--- `subdivide::with_crease` meets its contract. Assumes nothing.
+-- `smoothed::with_crease` meets its contract. Assumes nothing.
 use borrow.Author.Needs.{needs}
-use Rattle.subdivide.proofs.CreaseLoop.{crease-not, crease-more}
-use Rattle.subdivide.proofs.with_crease.Statement.{statement}
-use Rattle.subdivide.proofs.with_crease.Tie as tie
+use Rattle.smoothed.proofs.CreaseLoop.{crease-not, crease-more}
+use Rattle.smoothed.proofs.with_crease.Statement.{statement}
+use Rattle.smoothed.proofs.with_crease.Tie as tie
 
 returns : tie.Need-returns
 returns c = crease-not (c .before .args .test) _ (c .before .args .u) (c .if1 .taken)
