@@ -4,3 +4,7 @@ pub mod Sums
 pub mod CreaseLoop
 pub mod Quads
 pub mod Pairs
+pub mod Joins
+pub mod EdgeList
+pub mod Moved
+pub mod Places

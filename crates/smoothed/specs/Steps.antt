@@ -11,8 +11,8 @@ use Rattle.lists.specs.Regions.{Part, Apart}
 use Rattle.points.specs.declared.Point.{Point}
 use Rattle.points.specs.Points.{pointAt}
 use Rattle.sheet.specs.Flat.{quadAt}
-use Rattle.sheet.specs.Edges.{smaller, larger}
-use Rattle.smoothing.specs.Smooth.{halfway}
+use Rattle.sheet.specs.Edges.{smaller, larger, pointCorners}
+use Rattle.smoothing.specs.Smooth.{halfway, edgePoint, smooth}
 use Rattle.smoothing.specs.Rounded.{pointwise}
 use Rattle.smoothed.specs.declared.Creases.{Creases}
 use Rattle.smoothed.specs.Smoothed.{centreOf}
@@ -31,6 +31,10 @@ pub record Below (bound from n : ℕ) (w : List ℕ) : Type 0 where
 -- the end of an edge at place i: the corners E in the order of their edges, two to an edge, give its smaller and its larger point
 unfoldable pub endAt : List ℕ → List ℕ → ℕ → ℕ
 endAt Q E i = cond (eqb (i % 2) 0) (smaller Q (getD E i 0)) (larger Q (getD E i 0))
+
+-- H begins with the ends of the edges, in their order
+abbrev pub Ends : ℕ → List ℕ → List ℕ → List ℕ → Type 0
+Ends nq Q E H = (i : ℕ) → i < 4 * nq → getD H i 0 ≡ endAt Q E i
 
 -- E has the corners of nq quads, each once
 pub record Corners (nq : ℕ) (E : List ℕ) : Type 0 where
@@ -87,3 +91,26 @@ keep p (x ∷ l) = consIf (p x) x (keep p l)
 -- where the creases among the edges at the places lead, in their order
 abbrev pub creaseEnds : List ℕ → List ℕ → List ℕ → List ℕ → List ℕ
 creaseEnds labels E H l = map (otherEnd H) (keep (creaseAt labels E) l)
+
+-- ---- the smoothed points
+
+-- where point v comes to, by its mask m, the corners E in the order of their edges, and the ends H of the edges
+unfoldable pub movedPoint : ℕ → List Float → List ℕ → List ℕ → List ℕ → List ℕ → ℕ → ℕ → Point
+movedPoint nq P Q labels E H m v =
+    smooth pointwise (onesOf m) (map (pointAt P) (creaseEnds labels E H (pointCorners H nq v))) (pointAt P v)
+    (map (cornerCentre P Q) (pointCorners Q nq v)) (map (pointAt P) (map (otherEnd H) (pointCorners H nq v)))
+
+-- the new point of the edge whose corners are c and d
+unfoldable pub edgeAt : List Float → List ℕ → List ℕ → ℕ → ℕ → Point
+edgeAt P Q labels c d =
+    cond (not (eqb (getD labels (c / 4) 0) (getD labels (d / 4) 0))) (halfway pointwise (pointAt P (smaller Q c)) (pointAt P (larger Q c)))
+    (edgePoint pointwise (pointAt P (smaller Q c)) (pointAt P (larger Q c)) (cornerCentre P Q c) (cornerCentre P Q d))
+
+-- the corner of request t
+abbrev pub cornerOf : ℕ → ℕ
+cornerOf t = t / 5 * 4 + t % 5
+
+-- where the new point of request t comes to, D having the second corner of each edge by its first one
+unfoldable pub placeAt : List Float → List ℕ → List ℕ → List ℕ → ℕ → Point
+placeAt P Q labels D t =
+    cond (eqb (t % 5) 4) (centreOf (pointAt P) (quadAt Q (t / 5))) (edgeAt P Q labels (cornerOf t) (getD D (cornerOf t) 0))
