@@ -19,8 +19,7 @@ use Rattle.lists.proofs.Every.{count-le, count-zero}
 use Rattle.lists.proofs.Regions.{part-of, part-get, part-set, part-as, part-kept, kept-refl, kept-set, RegionFilled, region-start, region-turn, region-part, region-end, region-other}
 use Rattle.sheet.specs.Quads.{Quad, quad}
 use Rattle.sheet.specs.Flat.{corner, flatQuads}
-use Rattle.sheet.specs.Sheet.{pointsOf, flatPoints}
-use Rattle.sheet.proofs.Tests.{length-points}
+use Rattle.sheet.specs.Sheet.{flatPoints}
 use Rattle.results.specs.Results.{Front}
 use Rattle.results.proofs.Results.{length-flat-points, length-flat-quads}
 use Rattle.incidence.specs.Corners.{edgeOrder}
@@ -315,25 +314,24 @@ module _ {np nq : ℕ} {P : List Float} {Q : List ℕ} {first num : ℕ} {F N w 
 
 -- ---- the old points
 
-pub record OldLoop (n : ℕ) (P d s : List Float) (v : ℕ) : Type 0 where
+pub record OldLoop (f : ℕ → Point) (n : ℕ) (d s : List Float) (v : ℕ) : Type 0 where
   pub v≤ : v ≤ n
   pub len : length s ≡ length d
-  pub front : Front (flatPoints (pointsOf v P)) s
+  pub front : Front (flatPoints (tabulate f v)) s
 
-pub old-start : (n : ℕ) (P d : List Float) → OldLoop n P d d 0
-unfolding pointsOf tabulate flatPoints
-old-start n P d = record { v≤ = zero-le; len = refl; front = front-none d }
+pub old-start : (f : ℕ → Point) (n : ℕ) (d : List Float) → OldLoop f n d d 0
+unfolding tabulate flatPoints
+old-start f n d = record { v≤ = zero-le; len = refl; front = front-none d }
 
-pub old-turn : {n : ℕ} {P d s : List Float} {v : ℕ} (p : Point) (r : List Float) → OldLoop n P d s v → v < n → 3 * n ≤ length d → p ≡ pointAt P v → r ≡ withPoint s v p → OldLoop n P d r (v + 1)
-unfolding pointsOf
-old-turn {n} {P} {d} {s} {v} p r I h b ep er = record {
+pub old-turn : {f : ℕ → Point} {n : ℕ} {d s : List Float} {v : ℕ} (p : Point) (r : List Float) → OldLoop f n d s v → v < n → 3 * n ≤ length d → p ≡ f v → r ≡ withPoint s v p → OldLoop f n d r (v + 1)
+old-turn {f} {n} {d} {s} {v} p r I h b ep er = record {
   v≤ = omega arith;
   len = rw er (length-with s v p ∙ I .len);
-  front = rw (add-one v, tab-suc (pointAt P) v, ← ep, er) (front-point (tabulate (pointAt P) v) v p (I .front) (sym (length-tab (pointAt P) v)) (omega (arith, I .len)));
+  front = rw (add-one v, tab-suc f v, ← ep, er) (front-point (tabulate f v) v p (I .front) (sym (length-tab f v)) (omega (arith, I .len)));
 }
 
-pub old-end : {n : ℕ} {P d s : List Float} {v : ℕ} → OldLoop n P d s v → n ≤ v → Front (flatPoints (pointsOf n P)) s
-old-end {n} {P} {d} {s} {v} I h = let e : v ≡ n = omega (arith, I .v≤) in rw e at (I .front)
+pub old-end : {f : ℕ → Point} {n : ℕ} {d s : List Float} {v : ℕ} → OldLoop f n d s v → n ≤ v → Front (flatPoints (tabulate f n)) s
+old-end {f} {n} {d} {s} {v} I h = let e : v ≡ n = omega (arith, I .v≤) in rw e at (I .front)
 
 -- ---- the quads
 

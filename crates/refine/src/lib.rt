@@ -26,11 +26,11 @@ ghost use Rattle.refine.specs.Loops.{lowAt, nth, Linking, Numbering, Hel
 
 // Regions of the work slice, in units of points and quads together: behind the counters of the sort and its first order stand the corners in the
 // order of their edges, the first request of each request's key, and the numbers of the requests' points.
-const ORDER: usize = 5;
+pub const ORDER: usize = 5;
 
-const FIRST: usize = 9;
+pub const FIRST: usize = 9;
 
-const NUMBERS: usize = 14;
+pub const NUMBERS: usize = 14;
 
 // The centre of a quad.
 fn centre(p: Point, q: Point, r: Point, s: Point) -> Point

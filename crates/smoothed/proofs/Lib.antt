@@ -8,3 +8,7 @@ pub mod Joins
 pub mod EdgeList
 pub mod Moved
 pub mod Places
+pub mod Turns
+pub mod Lists
+pub mod Fronts
+pub mod Sheets

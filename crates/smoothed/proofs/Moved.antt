@@ -19,7 +19,7 @@ use Rattle.lists.proofs.Order.{Each, each-bucket, below-tab}
 use Rattle.sheet.specs.Quads.{Quad, quad, num, all, corners, at, is, isEdge, pack, hasLabel, maskOf}
 use Rattle.sheet.specs.Flat.{corner, from, quadAt, quadsOf}
 use Rattle.sheet.specs.Edges.{Pair, pair, joinTo, pointCorners, edgeCorners}
-use Rattle.sheet.specs.Sheet.{Sheet, pointsOf}
+use Rattle.sheet.specs.Sheet.{pointsOf}
 use Rattle.sheet.specs.Tests.{proper}
 use Rattle.sheet.proofs.Edges.{join-ext}
 use Rattle.sheet.proofs.Masks.{bit-pack}
@@ -28,7 +28,7 @@ use Rattle.incidence.specs.Corners.{Cornered, edgeOrder}
 use Rattle.refine.specs.Finer.{pointIn}
 use Rattle.refine.proofs.Edges.{sorted}
 use Rattle.smoothed.specs.Smoothed.{those, timed, sides, edgeQuads, pointQuads, paired, isCrease, neighbours, creases, labelCount, pointOf, centreOf, centreAt, oldPoint}
-use Rattle.smoothed.specs.Steps.{onesOf, Ends, cornerCentre, otherEnd, creaseAt, keep, creaseEnds, movedPoint}
+use Rattle.smoothed.specs.Steps.{onesOf, Ends, cornerCentre, otherEnd, creaseAt, keep, creaseEnds, movedPoint, flatSheet}
 use Rattle.smoothed.proofs.Quads.{quadOf, point-quads}
 use Rattle.smoothed.proofs.Joins.{meets, others-ascend}
 use Rattle.smoothed.proofs.EdgeList.{edgeNo, edge-of, corner-of, others-flat}
@@ -99,10 +99,6 @@ quads-swap S u v = timed-ext (sides u v) (sides v u) 0 S (λ q. swap (corners (a
     swap m n = omega arith
 
 -- ---- the sheet in slices
-
--- the sheet of np points and nq quads
-abbrev pub flatSheet : ℕ → ℕ → List Float → List ℕ → List ℕ → Sheet
-flatSheet np nq P Q labels = record { points = pointsOf np P; quads = quadsOf nq Q; labels = take nq labels }
 
 module _ {np nq : ℕ} {Q : List ℕ} (C : Cornered np nq Q) (P : List Float) (labels : List ℕ) where
   pub point-is : (v : ℕ) → v < np → pointOf (flatSheet np nq P Q labels) v ≡ pointAt P v

@@ -26,9 +26,9 @@ use Rattle.refine.proofs.Edges.{sorted, before-less, key-corner, key-centre, ed
 use Rattle.refine.proofs.Requests.{map-append}
 use Rattle.refine.proofs.Sheet.{asked-keys}
 use Rattle.smoothed.specs.Smoothed.{paired, isCrease, pointOf, centreOf, centreAt, oldPoint, edgePlace, newPlace, smoothSheet}
-use Rattle.smoothed.specs.Steps.{Ends, cornerCentre, movedPoint, edgeAt, cornerOf, placeAt}
+use Rattle.smoothed.specs.Steps.{Ends, cornerCentre, movedPoint, edgeAt, cornerOf, placeAt, flatSheet}
 use Rattle.smoothed.proofs.EdgeList.{edgeNo, edge-of, corner-low, corner-high}
-use Rattle.smoothed.proofs.Moved.{flatSheet, point-is, centre-is, quad-of, label-of, moved-is}
+use Rattle.smoothed.proofs.Moved.{point-is, centre-is, quad-of, label-of, moved-is}
 
 -- ---- what the first requests make
 
@@ -60,7 +60,7 @@ pub record FirstCorner (np nq : ℕ) (Q : List ℕ) (c : ℕ) : Type 0 where
 
 module _ {np nq : ℕ} {Q : List ℕ} (C : Cornered np nq Q) (good : all (proper np) (quadsOf nq Q) ≡ true) (pr : paired np (quadsOf nq Q) ≡ true) where
   -- the first request of an edge is that of its first corner
-  first-corner : (t : ℕ) → t < 5 * nq → (t % 5 ≡ 4 → ⊥) → own (firstsOf np nq Q) t ≡ true → FirstCorner np nq Q (cornerOf t)
+  pub first-corner : (t : ℕ) → t < 5 * nq → (t % 5 ≡ 4 → ⊥) → own (firstsOf np nq Q) t ≡ true → FirstCorner np nq Q (cornerOf t)
   first-corner t h ne o =
       let I = sorted C .has (cornerOf t) (omega arith) in
       let b : I .t < 4 * nq = omega (arith, I .t<, sorted C .len) in
@@ -142,13 +142,13 @@ module _ {np nq : ℕ} {Q : List ℕ} (C : Cornered np nq Q) (good : all (proper
           (eq-or-ne (t % 5) 4)
 
       -- the points of the smoothed sheet
-      pub points-are : (H M : List ℕ) → Ends nq Q (edgeOrder np nq Q) H → ((v : ℕ) → v < np → getD M v 0 ≡ maskOf (quadsOf nq Q) (flatSheet np nq P Q labels .labels) v)
-          → tabulate (λ v. movedPoint nq P Q labels (edgeOrder np nq Q) H (getD M v 0) v) np ++ madeTo (firstsOf np nq Q) (placeAt P Q labels D) (5 * nq) ≡ smoothSheet (flatSheet np nq P Q labels) .points
+      pub points-are : (H : List ℕ) (m : ℕ → ℕ) → Ends nq Q (edgeOrder np nq Q) H → ((v : ℕ) → v < np → m v ≡ maskOf (quadsOf nq Q) (flatSheet np nq P Q labels .labels) v)
+          → tabulate (λ v. movedPoint nq P Q labels (edgeOrder np nq Q) H (m v) v) np ++ madeTo (firstsOf np nq Q) (placeAt P Q labels D) (5 * nq) ≡ smoothSheet (flatSheet np nq P Q labels) .points
       unfolding smoothSheet
-      points-are H M ends masks =
+      points-are H m ends masks =
           rw (
             length-points np P,
-            tab-ext _ (oldPoint (flatSheet np nq P Q labels)) np (λ v b. moved-is C good pr P labels H ends v b (getD M v 0) (masks v b)),
+            tab-ext _ (oldPoint (flatSheet np nq P Q labels)) np (λ v b. moved-is C good pr P labels H ends v b (m v) (masks v b)),
             made-ext (firstsOf np nq Q) (placeAt P Q labels D) (λ t. newPlace (flatSheet np nq P Q labels) (keyAt np Q t)) (5 * nq) (λ t b o. place-is t b o),
             asked-keys C,
             made-map (firstsOf np nq Q) (newPlace (flatSheet np nq P Q labels)) (keyAt np Q) (5 * nq),
