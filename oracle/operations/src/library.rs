@@ -37,6 +37,7 @@ impl Lent {
         unsafe {
             match operation {
                 Operation::Refine => Some(call!(self.quads_refine [] sheet made work)),
+                Operation::Subdivide => Some(call!(self.quads_subdivide [] sheet band made work)),
                 Operation::Quality => Some(call!(self.quads_quality [] sheet band work measures)),
                 _ => None,
             }

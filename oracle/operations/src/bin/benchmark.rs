@@ -10,7 +10,7 @@ use std::process::ExitCode;
 use std::time::Instant;
 
 /// The operations that are timed, each with its number of passes.
-const OPERATIONS: [(Operation, u64); 2] = [(Operation::Refine, 0), (Operation::Quality, 0)];
+const OPERATIONS: [(Operation, u64); 3] = [(Operation::Refine, 0), (Operation::Subdivide, 0), (Operation::Quality, 0)];
 
 /// A shell, and a shell that the box cuts.
 const BANDS: [(&str, BandNumbers); 2] = [

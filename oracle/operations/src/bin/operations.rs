@@ -6,7 +6,7 @@ use oracle::{arguments, driver};
 use std::process::ExitCode;
 
 /// The operations that are compared, each with its share of 100 calls.
-const SHARES: [(Operation, u64); 2] = [(Operation::Refine, 20), (Operation::Quality, 80)];
+const SHARES: [(Operation, u64); 3] = [(Operation::Refine, 20), (Operation::Subdivide, 40), (Operation::Quality, 40)];
 
 fn main() -> ExitCode {
     match (arguments::number(1, 200_000), arguments::number(2, 1)) {
