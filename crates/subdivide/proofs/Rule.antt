@@ -1,17 +1,17 @@
 -- The stages of `subdivide`, from its tests to the outcome of its rule. Assumes nothing.
 use Prim.Native.Nat.{ℕ, _+_, _-_, _*_, _≤_, _<_}
-use mathlib.Core.Path.{_≡_, refl, sym, ap, _∙_}
-use mathlib.Core.Bool.{Bool, true, false, cond, _||_}
+use mathlib.Core.Path.{_≡_, sym, ap, _∙_}
+use mathlib.Core.Bool.{Bool, true, false, _||_}
 use mathlib.Core.List.{List, _++_, map}
 use native.Mathlib.Omega.{arith}
 use lib.ListN.{length, getD, take, drop, length-append, length-map}
 use lib.Seq.{length-take-le, take-at}
 use lib.Ieee.{Float}
-use borrow.Rule.Slice.PartMut.{midOf, putMid}
+use borrow.Rule.Slice.PartMut.{putMid}
 use Rattle.points.specs.Points.{pointAt}
 use Rattle.lists.specs.Sort.{tabulate}
 use Rattle.lists.specs.Every.{every}
-use Rattle.lists.specs.Regions.{Part, Kept}
+use Rattle.lists.specs.Regions.{Kept}
 use Rattle.lists.proofs.Laws.{length-tab, getD-tab, tab-ext}
 use Rattle.lists.proofs.Every.{every-ext, count-le}
 use Rattle.lists.proofs.Regions.{part-as, part-kept, lent}
@@ -27,14 +27,14 @@ use Rattle.sheet.proofs.Flat.{length-quads}
 use Rattle.sheet.proofs.Masks.{pack-lt}
 use Rattle.sheet.proofs.Tests.{or-left, or-right, holds-of, lent-is, length-points, bare-is, labels-match, found-nothing, some-quad, proper-of}
 use Rattle.results.specs.declared.Made.{Made}
-use Rattle.results.specs.Results.{Outcome, refuses, makes, answerOf, countsOf, Front, Fills}
+use Rattle.results.specs.Results.{Outcome, refuses, answerOf, countsOf, Front, Fills}
 use Rattle.results.proofs.Results.{refused-fills}
 use Rattle.incidence.proofs.Corners.{cornered}
 use Rattle.refine.specs.Finer.{asked, finerSheet, afterLent}
 use Rattle.refine.specs.Requests.{firstsOf, own}
 use Rattle.refine.specs.Loops.{pointsAfter, Behind, Worked, Finished}
 use Rattle.refine.proofs.Rule.{countsAfter, tested-finished}
-use Rattle.refine.proofs.Sheet.{count-is, finer-four, finer-counts}
+use Rattle.refine.proofs.Sheet.{count-is, finer-counts}
 use Rattle.smoothed.specs.Smoothed.{paired, newPlace, oldPoint, smoothSheet}
 use Rattle.smoothed.specs.Steps.{masksAt, flatSheet, Smoothable}
 use Rattle.smoothed.proofs.Fronts.{front-quads, points-front, quads-front}

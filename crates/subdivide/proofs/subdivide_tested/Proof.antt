@@ -1,5 +1,4 @@
 -- `subdivide::subdivide_tested` meets its contract. Assumes nothing.
-use native.Mathlib.Omega.{arith}
 use borrow.Author.Needs.{needs}
 use mathlib.Core.Path.{sym, _∙_}
 use Rattle.subdivide.proofs.Rule.{tested-over, tested-edge, tested-smoothable, tested-room, tested-done}
