@@ -109,12 +109,12 @@ module _ {np nq room : ℕ} {Q u : List ℕ} (G : Gathering np nq Q room u) wher
               },
               (
                 λ i h.
-                let b : getD (edgeOrder np nq Q) (2 * i) 0 < 4 * nq = sorted (G .cornered) .below (2 * i) (omega arith) in
-                B .1 .1 .same 0 (secondsAt np nq + getD (edgeOrder np nq Q) (2 * i) 0) (λ r s. omega arith, (λ r s. omega arith, λ r s. omega arith))
-                ∙ A .1 .1 .same 0 (secondsAt np nq + getD (edgeOrder np nq Q) (2 * i) 0) (λ r s. omega arith, (λ r s. omega arith, λ r s. omega arith))
-                ∙ (rw (G .order .is) at (S .0)) i h,
+                    let b : getD (edgeOrder np nq Q) (2 * i) 0 < 4 * nq = sorted (G .cornered) .below (2 * i) (omega arith) in
+                    B .1 .1 .same 0 (secondsAt np nq + getD (edgeOrder np nq Q) (2 * i) 0) (λ r s. omega arith, (λ r s. omega arith, λ r s. omega arith))
+                    ∙ A .1 .1 .same 0 (secondsAt np nq + getD (edgeOrder np nq Q) (2 * i) 0) (λ r s. omega arith, (λ r s. omega arith, λ r s. omega arith))
+                    ∙ (rw (G .order .is) at (S .0)) i h,
                 kept-then (kept-then (S .1) (A .1 .1) (λ i (h : BeforeScratch np nq i). (λ r s. omega arith, (λ r s. omega arith, (λ r s. omega arith, λ r s. omega arith))))) (B .1 .1)
-                (λ i (h : BeforeScratch np nq i). (h, (λ r s. omega arith, (λ r s. omega arith, λ r s. omega arith)))),
+                    (λ i (h : BeforeScratch np nq i). (h, (λ r s. omega arith, (λ r s. omega arith, λ r s. omega arith)))),
               ),
             ),
           )

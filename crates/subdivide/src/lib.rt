@@ -53,14 +53,7 @@ fn project_points(b: Band, n: usize, masks: &[u32], points: &mut [f64]) -> bool
 }
 
 // Tests the sheet in the result slices and projects its points.
-fn land(
-    b: Band,
-    c: Counts,
-    points: &mut [f64],
-    quads: &[u32],
-    labels: &[u8],
-    w: &mut [u32],
-) -> Made
+fn land(b: Band, c: Counts, points: &mut [f64], quads: &[u32], labels: &[u8], w: &mut [u32]) -> Made
     requires { ⌜ LentSheet c (length (now points)) (length (now quads)) (length (now labels)) ⌝ }
     requires { ⌜ c .points ≤ length (now w) ⌝ }
     ensures { λ r. ⌜ Fills (afterLent (sheetVerdict b (sheetOf c (now (points .entry)) (now (quads .entry)) (now (labels .entry)))) (projected b (sheetOf c (now (points .entry)) (now (quads .entry)) (now (labels .entry))))) r (now (points .exit)) (now (quads .entry)) (now (labels .entry)) ⌝ }

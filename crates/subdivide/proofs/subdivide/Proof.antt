@@ -7,6 +7,7 @@ use Rattle.subdivide.proofs.subdivide.Tie as tie
 
 abbrev called : tie.After-clear-unused-arg3 → tie.After-subdivide-or-refusal
 called c = c .before .before .before .before .before .before .before .before .before .before .before .before
+
 abbrev cleared : tie.After-slice-known14 → tie.After-clear-unused
 cleared c = c .before .before .before .before .before .before .before .before .before .before .before .before .before
 
