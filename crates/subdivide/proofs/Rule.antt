@@ -1,17 +1,17 @@
 -- The stages of `subdivide`, from its tests to the outcome of its rule. Assumes nothing.
 use Prim.Native.Nat.{ℕ, _+_, _-_, _*_, _≤_, _<_}
-use mathlib.Core.Path.{_≡_, refl, sym, ap, _∙_}
-use mathlib.Core.Bool.{Bool, true, false, cond}
+use mathlib.Core.Path.{_≡_, sym, ap, _∙_}
+use mathlib.Core.Bool.{Bool, true, false, _||_}
 use mathlib.Core.List.{List, _++_, map}
 use native.Mathlib.Omega.{arith}
 use lib.ListN.{length, getD, take, drop, length-append, length-map}
 use lib.Seq.{length-take-le, take-at}
 use lib.Ieee.{Float}
-use borrow.Rule.Slice.PartMut.{midOf, putMid}
+use borrow.Rule.Slice.PartMut.{putMid}
 use Rattle.points.specs.Points.{pointAt}
 use Rattle.lists.specs.Sort.{tabulate}
 use Rattle.lists.specs.Every.{every}
-use Rattle.lists.specs.Regions.{Part, Kept}
+use Rattle.lists.specs.Regions.{Kept}
 use Rattle.lists.proofs.Laws.{length-tab, getD-tab, tab-ext}
 use Rattle.lists.proofs.Every.{every-ext, count-le}
 use Rattle.lists.proofs.Regions.{part-as, part-kept, lent}
@@ -25,27 +25,34 @@ use Rattle.sheet.specs.Tests.{goodCorners}
 use Rattle.sheet.specs.Sheet.{Sheet, sheetOf, pointsOf, flatPoints, isLarge, isShort, lentVerdict, sheetVerdict, masksOf, MasksIf, LentSheet}
 use Rattle.sheet.proofs.Flat.{length-quads}
 use Rattle.sheet.proofs.Masks.{pack-lt}
-use Rattle.sheet.proofs.Tests.{few-of, lent-is, length-points, bare-is, labels-match}
+use Rattle.sheet.proofs.Tests.{or-left, or-right, holds-of, lent-is, length-points, bare-is, labels-match, found-nothing, some-quad, proper-of}
 use Rattle.results.specs.declared.Made.{Made}
-use Rattle.results.specs.Results.{Outcome, refuses, makes, answerOf, countsOf, Front, Fills}
+use Rattle.results.specs.Results.{Outcome, refuses, answerOf, countsOf, Front, Fills}
 use Rattle.results.proofs.Results.{refused-fills}
 use Rattle.incidence.proofs.Corners.{cornered}
 use Rattle.refine.specs.Finer.{asked, finerSheet, afterLent}
 use Rattle.refine.specs.Requests.{firstsOf, own}
 use Rattle.refine.specs.Loops.{pointsAfter, Behind, Worked, Finished}
 use Rattle.refine.proofs.Rule.{countsAfter, tested-finished}
-use Rattle.refine.proofs.Sheet.{count-is, finer-four, finer-counts}
+use Rattle.refine.proofs.Sheet.{count-is, finer-counts}
 use Rattle.smoothed.specs.Smoothed.{paired, newPlace, oldPoint, smoothSheet}
 use Rattle.smoothed.specs.Steps.{masksAt, flatSheet, Smoothable}
 use Rattle.smoothed.proofs.Fronts.{front-quads, points-front, quads-front}
 use Rattle.subdivide.specs.Subdivide.{landing, ontoOf, landsAt, projectedSheet, projected, subdivided, subdivideRule}
 use Rattle.subdivide.specs.Steps.{Masked, landAt, landsOf, landedTo, Tested}
-use Rattle.subdivide.proofs.Accepted.{found-nothing, some-quad, proper-of}
 use Rattle.results.specs.declared.Made.the-variants as made
 
 -- the masks of an accepted sheet
 pub masks-told : {v : Verdict} {masks y : List ℕ} → v ≡ Accepted → MasksIf v masks y → y ≡ masks
 masks-told e m = rw e at m
+
+-- ---- the result's 13
+
+pub over-large : (c : Counts) (p q l : ℕ) → isLarge c ≡ true → true ≡ (isLarge c || isShort c p q l)
+over-large c p q l e = rw e
+
+pub over-short : (c : Counts) (p q l : ℕ) (r : Bool) → isLarge c ≡ false → r ≡ isShort c p q l → r ≡ (isLarge c || isShort c p q l)
+over-short c p q l r e s = rw e s
 
 -- ---- the tests and the projection of the smoothed sheet
 
@@ -115,22 +122,22 @@ module _ (b : Band) (c : Counts) (P : List Float) (Q labels v : List ℕ) (T : T
   counts-are : countsOf (finerSheet lentSheet) ≡ countsAfter c n
   counts-are = finer-counts c P Q labels (T .refinable .cornered) (T .refinable .same) (T .refinable .lent .labels) n en
 
-  pub tested-large : (A : List Float) (B D : List ℕ) → isLarge (countsAfter c n) ≡ true → Fills (subdivided b lentSheet p q l) (answerOf (refuses 13)) A B D
-  unfolding subdivided
-  tested-large A B D h = rw (counts-are, h) (refused-fills 13 A B D)
+  -- the finer sheet is more than the slices or the limit hold
+  abbrev over : Bool
+  over = isLarge (countsAfter c n) || isShort (countsAfter c n) p q l
 
-  pub tested-short : (A : List Float) (B D : List ℕ) → isLarge (countsAfter c n) ≡ false → isShort (countsAfter c n) p q l ≡ true → Fills (subdivided b lentSheet p q l) (answerOf (refuses 13)) A B D
+  pub tested-over : (A : List Float) (B D : List ℕ) → over ≡ true → Fills (subdivided b lentSheet p q l) (answerOf (refuses 13)) A B D
   unfolding subdivided
-  tested-short A B D h s = rw (counts-are, h, s) (refused-fills 13 A B D)
+  tested-over A B D o = rw (counts-are, o) (refused-fills 13 A B D)
 
-  module _ (h : isLarge (countsAfter c n) ≡ false) (s : isShort (countsAfter c n) p q l ≡ false) where
+  module _ (o : over ≡ false) where
     pub tested-edge : (A : List Float) (B D : List ℕ) → paired (c .points) (quadsOf (c .quads) Q) ≡ false → Fills (subdivided b lentSheet p q l) (answerOf (refuses 8)) A B D
     unfolding subdivided
-    tested-edge A B D e = rw (counts-are, h, s, length-points (c .points) P, e) (refused-fills 8 A B D)
+    tested-edge A B D e = rw (counts-are, o, length-points (c .points) P, e) (refused-fills 8 A B D)
 
     module _ {w : List ℕ} (W : Worked (c .points) (c .quads) Q w) (K : Kept (Behind (c .points) (c .quads)) v w) where
       finished : Finished (c .points) (c .quads) P Q labels w p q l
-      finished = tested-finished c P Q labels (length v) (T .refinable) n en p q l w W s
+      finished = tested-finished c P Q labels (length v) (T .refinable) n en p q l w W (or-right (isLarge (countsAfter c n)) (isShort (countsAfter c n) p q l) o)
 
       pub tested-smoothable : paired (c .points) (quadsOf (c .quads) Q) ≡ true → Smoothable (c .points) (c .quads) P Q labels w p q l
       tested-smoothable e = record {
@@ -146,12 +153,7 @@ module _ (b : Band) (c : Counts) (P : List Float) (Q labels v : List ℕ) (T : T
       -- the result slices and the work slice have room for the smoothed sheet
       pub tested-room : (p′ q′ l′ w′ : ℕ) → p′ ≡ p → q′ ≡ q → l′ ≡ l → w′ ≡ length w → LentSheet (countsAfter c n) p′ q′ l′ × (n ≤ w′)
       tested-room p′ q′ l′ w′ ep eq el ew = rw (ep, eq, el, ew) (
-        record {
-          few = few-of (countsAfter c n) h;
-          points = rw en (finished .in-points);
-          quads = omega (arith, finished .in-quads);
-          labels = finished .in-labels;
-        },
+        holds-of (countsAfter c n) p q l (or-left (isLarge (countsAfter c n)) (isShort (countsAfter c n) p q l) o) (or-right (isLarge (countsAfter c n)) (isShort (countsAfter c n) p q l) o),
         omega (arith, en, count-le (own (firstsOf (c .points) (c .quads) Q)) (5 * c .quads), T .refinable .work, K .len),
       )
 
@@ -178,7 +180,7 @@ module _ (b : Band) (c : Counts) (P : List Float) (Q labels v : List ℕ) (T : T
         × (Front (flatQuads (smoothSheet (flatSheet (c .points) (c .quads) P Q labels) .quads)) B × Front (smoothSheet (flatSheet (c .points) (c .quads) P Q labels) .labels) D)
         → Fills (afterLent (sheetVerdict b (sheetOf (countsAfter c n) A B D)) (projected b (sheetOf (countsAfter c n) A B D))) r A′ B D → Fills (subdivided b lentSheet p q l) r A′ B D
     unfolding subdivided
-    tested-done {A} {A′} {B} {D} r e F G = rw (counts-are, h, s, length-points (c .points) P, e) (rw (same-sheet F) at G)
+    tested-done {A} {A′} {B} {D} r e F G = rw (counts-are, o, length-points (c .points) P, e) (rw (same-sheet F) at G)
 
 -- ---- the tests before
 

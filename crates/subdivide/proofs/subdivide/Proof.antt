@@ -1,5 +1,4 @@
 -- `subdivide::subdivide` meets its contract. Assumes nothing.
-use native.Mathlib.Omega.{arith}
 use borrow.Author.Needs.{needs}
 use mathlib.Core.Path.{_∙_}
 use Rattle.refine.proofs.Rule.{shown-room, leaves-of}
