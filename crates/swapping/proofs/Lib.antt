@@ -1,3 +1,6 @@
 -- The functions of `swapping` meet their contracts, and the laws behind them. Assumes nothing.
 pub mod Places
 pub mod Fold
+pub mod Bars
+pub mod Moves
+pub mod Hexagons

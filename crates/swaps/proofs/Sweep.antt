@@ -69,7 +69,7 @@ bar-more (q ∷ S) (b ∷ bs) f e zero h = go b (f q) h
     go false false (inr h) = h
 bar-more (q ∷ S) (b ∷ bs) f e (suc k) h = bar-more S bs f (omega arith) k h
 
-bar-length : (S0 : List Quad) (bs : List Bool) (f : Quad → Bool) → length bs ≡ length S0 → length (barList S0 bs f) ≡ length S0
+pub bar-length : (S0 : List Quad) (bs : List Bool) (f : Quad → Bool) → length bs ≡ length S0 → length (barList S0 bs f) ≡ length S0
 bar-length [] bs f e = refl
 bar-length (q ∷ S) [] f e = absurd (omega arith)
 bar-length (q ∷ S) (b ∷ bs) f e = ap suc (bar-length S bs f (omega arith))
