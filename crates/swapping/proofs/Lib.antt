@@ -4,3 +4,6 @@ pub mod Fold
 pub mod Bars
 pub mod Moves
 pub mod Hexagons
+pub mod Made
+pub mod Begun
+pub mod Diagonals

@@ -1,9 +1,10 @@
 -- A pass in slices: the regions of the work slice, and the state that the quads and the work slice hold.
 use Prim.Native.Nat.{ℕ, _+_, _*_, _≤_, _<_}
-use mathlib.Core.Bool.{Bool, not}
+use mathlib.Core.Path.{_≡_}
+use mathlib.Core.Bool.{Bool, false, not}
 use mathlib.Core.List.{List}
 use lib.Dec.{eqb}
-use lib.ListN.{length, getD}
+use lib.ListN.{length, getD, replicate}
 use Rattle.lists.specs.Sort.{tabulate}
 use Rattle.lists.specs.Regions.{part, Part}
 use Rattle.sheet.specs.Quads.{valence}
@@ -57,6 +58,14 @@ barsOf np nq w = tabulate (isBarred np nq w) nq
 abbrev pub stateOf : ℕ → ℕ → List ℕ → List ℕ → ℕ → State
 stateOf np nq Q w k = record { quads = quadsOf nq Q; barred = barsOf np nq w; count = k }
 
+-- the sum of two valences
+abbrev pub sumIn : ℕ → ℕ → List ℕ → ℕ → ℕ → ℕ
+sumIn np nq w u v = getD w (valencesAt np nq + u) 0 + getD w (valencesAt np nq + v) 0
+
+-- the corner at place i in the order of the edges
+abbrev pub edgeCorner : ℕ → ℕ → List ℕ → ℕ → ℕ
+edgeCorner np nq w i = getD (part (edgesAt np nq) (4 * nq) w) i 0
+
 -- the work slice is long enough for a sheet of some points
 pub record Room (np nq : ℕ) (w : List ℕ) : Type 0 where
   pub some : 0 < np
@@ -74,3 +83,9 @@ pub record Passing (np nq : ℕ) (Q w : List ℕ) : Type 0 where
   pub barring : Barring np nq w
   pub map : Mapped np nq (wasAt np nq) (edgeStartsAt np nq) (edgesAt np nq) w
   pub valences : Part (valencesAt np nq) np (tabulate (valence (quadsOf nq Q)) np) w
+
+-- a pass over the quads Q begins: no quad is barred
+pub record Begun (np nq : ℕ) (Q w : List ℕ) : Type 0 where
+  pub passing : Passing np nq Q w
+  pub start : quadsOf nq (startOf np nq w) ≡ quadsOf nq Q
+  pub bars : barsOf np nq w ≡ replicate nq false

@@ -4,12 +4,13 @@ use mathlib.Core.Path.{_≡_}
 use mathlib.Core.Bool.{Bool, cond, not, _&&_}
 use mathlib.Core.Logic.{_≢_}
 use mathlib.Core.List.{List}
-use lib.Dec.{eqb, ltb}
+use lib.Dec.{eqb, leb, ltb}
 use lib.ListN.{length, getD, set}
-use Rattle.sheet.specs.Quads.{Quad, quad, uses}
-use Rattle.sheet.specs.Flat.{quadAt, from, to, before}
+use Rattle.sheet.specs.Quads.{Quad, quad, uses, isEdge}
+use Rattle.sheet.specs.Flat.{quadAt, quadsOf, from, to, before}
 use Rattle.swaps.specs.Swaps.{sixDiffer}
 use Rattle.fits.specs.declared.Six.{Six}
+use Rattle.swapping.specs.Slices.{startOf, sumIn}
 
 -- the corner across the quad of corner c
 abbrev pub across : List ℕ → ℕ → ℕ
@@ -36,6 +37,20 @@ abbrev pub turned : Six → ℕ → Six
 turned h k = cond (eqb k 1)
     (record { h0 = h .h1; h1 = h .h2; h2 = h .h3; h3 = h .h4; h4 = h .h5; h5 = h .h0 })
     (record { h0 = h .h2; h1 = h .h3; h2 = h .h4; h3 = h .h5; h4 = h .h0; h5 = h .h1 })
+
+-- The diagonal k may be put in: it is no edge of the start's quads, and half the gain is at least m. The valences stand in w.
+abbrev pub openIn : ℕ → ℕ → ℕ → Six → ℕ → List ℕ → Bool
+openIn np nq m h k w =
+    not (isEdge (quadsOf nq (startOf np nq w)) (turned h k .h0) (turned h k .h3))
+    && leb (sumIn np nq w (turned h k .h0) (turned h k .h3) + 2 + m) (sumIn np nq w (h .h0) (h .h3))
+
+-- the diagonal k gains more than 0
+abbrev pub gainsIn : ℕ → ℕ → Six → ℕ → List ℕ → Bool
+gainsIn np nq h k w = ltb (sumIn np nq w (turned h k .h0) (turned h k .h3) + 2) (sumIn np nq w (h .h0) (h .h3))
+
+-- the second diagonal gains more than the first
+abbrev pub betterIn : ℕ → ℕ → Six → List ℕ → Bool
+betterIn np nq h w = ltb (sumIn np nq w (h .h2) (h .h5)) (sumIn np nq w (h .h1) (h .h4))
 
 -- the list with the quad at place q
 abbrev pub withQuad : List ℕ → ℕ → ℕ → ℕ → ℕ → ℕ → List ℕ

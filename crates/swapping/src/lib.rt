@@ -3,7 +3,7 @@
 use fits::Six;
 ghost use mathlib.Core.Path.{_≡_};
 ghost use mathlib.Core.Bool.{Bool, not, _&&_};
-ghost use Prim.Native.Nat.{ℕ, _+_, _*_, _/_, _%_, _<_, _≤_};
+ghost use Prim.Native.Nat.{ℕ, _+_, _*_, _/_, _%_, _<_, _≤_, _^_};
 ghost use lib.Dec.{eqb};
 ghost use lib.ListN.{length, getD, take};
 ghost use Rattle.lists.specs.Sort.{tabulate};
@@ -11,10 +11,11 @@ ghost use Rattle.lists.specs.Regions.{part, Part, Out, Out2, Kept};
 ghost use Rattle.incidence.specs.Corners.{Known, Cornered};
 ghost use Rattle.incidence.specs.Marks.{barredBy};
 ghost use Rattle.lookup.specs.Maps.{Mapped};
-ghost use Rattle.fits.specs.Swap.{SixBelow};
+ghost use Rattle.fits.specs.SwapFits.{SixBelow};
 ghost use Rattle.swapping.specs.Steps.{pairAt};
-ghost use Rattle.swapping.specs.Slices.{wasAt, edgeStartsAt, edgesAt, valencesAt, marksAt, startOf, isBarred, Room, Barring, Passing};
-ghost use Rattle.swapping.specs.Swapped.{sixAt, sixApart, isHexagon, turned, withQuad, withPair, moved, Movable, markIf, usesThree, usesSix};
+ghost use Rattle.swapping.specs.Slices.{wasAt, edgeStartsAt, edgesAt, valencesAt, marksAt, startOf, isBarred, sumIn, edgeCorner, Room, Barring, Passing, Begun};
+ghost use Rattle.swapping.specs.Swapped.{sixAt, sixApart, isHexagon, turned, openIn, gainsIn, betterIn, withQuad, withPair, moved, Movable, markIf, usesThree, usesSix};
+ghost use Rattle.swapping.specs.Made.{Swappable, Made};
 
 // Where the regions begin in the work slice, in numbers of points and quads together: the quads of the pass's start, work, the corners by edge and by point with their starts, the valences, the marks of barred quads.
 const WAS: usize = 1;
@@ -34,7 +35,7 @@ const VALENCES: usize = 21;
 const MARKS: usize = 22;
 
 // An edge of exactly two corners begins at place i in the order of the edges.
-fn is_pair(np: usize, nq: usize, i: usize, w: &[u32]) -> bool
+pub fn is_pair(np: usize, nq: usize, i: usize, w: &[u32]) -> bool
     requires { ⌜ Mapped np nq (wasAt np nq) (edgeStartsAt np nq) (edgesAt np nq) (now w) ⌝ }
     requires { ⌜ Room np nq (now w) ⌝ }
     requires { ⌜ i < 4 * nq ⌝ }
@@ -47,7 +48,7 @@ fn is_pair(np: usize, nq: usize, i: usize, w: &[u32]) -> bool
 }
 
 // The quads i and j are not barred, and their labels agree.
-fn is_free(np: usize, nq: usize, labels: &[u8], i: usize, j: usize, w: &[u32]) -> bool
+pub fn is_free(np: usize, nq: usize, labels: &[u8], i: usize, j: usize, w: &[u32]) -> bool
     requires { ⌜ Room np nq (now w) ⌝ }
     requires { ⌜ nq ≤ length (now labels) ⌝ }
     requires { ⌜ i < nq ⌝ }
@@ -70,7 +71,7 @@ fn corner_from(quads: &[u32], c: usize, k: usize) -> usize
 }
 
 // The six corners round the quads of the corners c and d, from their shared edge on.
-fn six_at(quads: &[u32], c: usize, d: usize) -> Six
+pub fn six_at(quads: &[u32], c: usize, d: usize) -> Six
     requires { ⌜ Known (now quads) c ⌝ }
     requires { ⌜ Known (now quads) d ⌝ }
     ensures { λ r. ⌜ r ≡ sixAt (now (quads .entry)) c d ⌝ }
@@ -97,7 +98,7 @@ fn six_differ(h: Six) -> bool
 }
 
 // The quad of corner d goes along the edge the other way, and the six corners differ.
-fn is_hexagon(quads: &[u32], d: usize, h: Six) -> bool
+pub fn is_hexagon(quads: &[u32], d: usize, h: Six) -> bool
     requires { ⌜ Known (now quads) d ⌝ }
     ensures { λ r. ⌜ r ≡ isHexagon (now (quads .entry)) d h ⌝ }
 {
@@ -127,6 +128,67 @@ fn turned_by(h: Six, k: usize) -> Six
         h4: h.h0,
         h5: h.h1,
     }
+}
+
+// The sum of the valences of u and v.
+fn valence_sum(np: usize, nq: usize, u: usize, v: usize, w: &[u32]) -> usize
+    requires { ⌜ Room np nq (now w) ⌝ }
+    requires { ⌜ u < np ⌝ }
+    requires { ⌜ v < np ⌝ }
+    ensures { λ r. ⌜ r ≡ sumIn np nq (now (w .entry)) u v ⌝ }
+    ensures { λ r. ⌜ r < 2 ^ 33 ⌝ }
+{
+    let val = VALENCES * (np + nq);
+    lists::at(w, val + u) + lists::at(w, val + v)
+}
+
+// The diagonal k is no edge of the pass's start, and half its gain is at least `least`.
+pub fn is_open(np: usize, nq: usize, least: usize, h: Six, k: usize, w: &[u32]) -> bool
+    requires { ⌜ Mapped np nq (wasAt np nq) (edgeStartsAt np nq) (edgesAt np nq) (now w) ⌝ }
+    requires { ⌜ Room np nq (now w) ⌝ }
+    requires { ⌜ SixBelow np h ⌝ }
+    requires { ⌜ least ≤ 1 ⌝ }
+    ensures { λ r. ⌜ r ≡ openIn np nq least h k (now (w .entry)) ⌝ }
+{
+    let g = turned_by(h, k);
+    let after = valence_sum(np, nq, g.h0, g.h3, w) + 2 + least;
+    if valence_sum(np, nq, h.h0, h.h3, w) < after {
+        return false;
+    }
+    let n = np + nq;
+    !lookup::is_edge(np, nq, WAS * n, EDGE_STARTS * n, EDGES * n, g.h0, g.h3, w)
+}
+
+// The diagonal k gains more than 0.
+pub fn gains(np: usize, nq: usize, h: Six, k: usize, w: &[u32]) -> bool
+    requires { ⌜ Room np nq (now w) ⌝ }
+    requires { ⌜ SixBelow np h ⌝ }
+    ensures { λ r. ⌜ r ≡ gainsIn np nq h k (now (w .entry)) ⌝ }
+{
+    let g = turned_by(h, k);
+    let after = valence_sum(np, nq, g.h0, g.h3, w) + 2;
+    after < valence_sum(np, nq, h.h0, h.h3, w)
+}
+
+// The second diagonal gains more than the first.
+pub fn is_second_better(np: usize, nq: usize, h: Six, w: &[u32]) -> bool
+    requires { ⌜ Room np nq (now w) ⌝ }
+    requires { ⌜ SixBelow np h ⌝ }
+    ensures { λ r. ⌜ r ≡ betterIn np nq h (now (w .entry)) ⌝ }
+{
+    let second = valence_sum(np, nq, h.h2, h.h5, w);
+    second < valence_sum(np, nq, h.h1, h.h4, w)
+}
+
+// The corner at place i in the order of the edges.
+pub fn edge_corner(np: usize, nq: usize, i: usize, w: &[u32]) -> usize
+    requires { ⌜ Mapped np nq (wasAt np nq) (edgeStartsAt np nq) (edgesAt np nq) (now w) ⌝ }
+    requires { ⌜ Room np nq (now w) ⌝ }
+    requires { ⌜ i < 4 * nq ⌝ }
+    ensures { λ r. ⌜ r ≡ edgeCorner np nq (now (w .entry)) i ⌝ }
+    ensures { λ r. ⌜ r < 4 * nq ⌝ }
+{
+    lists::at(w, EDGES * (np + nq) + i)
 }
 
 // Puts four corners at place q.
@@ -197,4 +259,40 @@ fn bar_six(np: usize, nq: usize, h: Six, w: &mut [u32])
 {
     bar_three(np, nq, h.h0, h.h1, h.h2, w);
     bar_three(np, nq, h.h3, h.h4, h.h5, w);
+}
+
+// Begins a pass: the quads, their edge map, their corners by point, their valences, and no quad barred.
+pub fn begin_pass(np: usize, nq: usize, quads: &[u32], w: &mut [u32])
+    requires { ⌜ Cornered np nq (now quads) ⌝ }
+    requires { ⌜ Room np nq (now w) ⌝ }
+    ensures { λ _. ⌜ Begun np nq (now (quads .entry)) (now (w .exit)) ⌝ }
+{
+    let n = np + nq;
+    let marks = MARKS * n;
+    lookup::copy_quads(nq, quads, WAS * n, w);
+    lookup::edge_map(np, nq, quads, FIRST * n, EDGE_STARTS * n, EDGES * n, w);
+    incidence::quads_at(np, nq, quads, FIRST * n, POINT_STARTS * n, POINTS * n, w);
+    incidence::valences(np, nq, quads, POINT_STARTS * n, VALENCES * n, w);
+    lists::clear(&mut w[marks..marks + nq]);
+}
+
+// Makes the swap of the quads i and j that puts the diagonal k between them, and bars the quads at its six corners.
+pub fn make_swap(
+    np: usize,
+    nq: usize,
+    k: usize,
+    h: Six,
+    i: usize,
+    j: usize,
+    quads: &mut [u32],
+    w: &mut [u32],
+)
+    requires { ⌜ Passing np nq (now quads) (now w) ⌝ }
+    requires { ⌜ Swappable np nq (now quads) h i j ⌝ }
+    ensures { λ _. ⌜ Made np nq k h i j (now (quads .entry)) (now (w .entry)) (now (quads .exit)) (now (w .exit)) ⌝ }
+{
+    let g = turned_by(h, k);
+    put_pair(quads, i, j, g);
+    move_valences(np, VALENCES * (np + nq), h.h0, h.h3, g.h0, g.h3, w);
+    bar_six(np, nq, h, w);
 }
