@@ -1,15 +1,14 @@
--- The walk over the quads at both points is the merges' rule, and a position that the rule takes is finite. Assumes nothing.
-use Prim.Native.Nat.{ℕ, zero, suc, _+_, _-_, _*_, _/_, _%_, _^_, _≤_, _<_, max, zero-le}
-use mathlib.Core.Bool.{Bool, true, false, cond, not, _&&_, _||_, false≢true}
+-- The walks round both points are the merges' rule, the joined mask is the greater of two, and a position that the rule takes is finite. Assumes nothing.
+use Prim.Native.Nat.{ℕ, zero, suc, _+_, _*_, _%_, _^_, _≤_, _<_, max, zero-le}
+use mathlib.Core.Bool.{Bool, true, false, cond, not, _&&_, _||_, false≢true, or-comm}
 use mathlib.Core.Logic.{⊎-elim}
 use mathlib.Core.Path.{_≡_, refl, sym, ap, _∙_}
 use mathlib.Core.List.{List}
 use native.Mathlib.Omega.{arith}
-use lib.ListN.{length, getD, take}
+use lib.ListN.{getD, take}
 use lib.Seq.{getD-take}
 use lib.Dec.{eqb}
 use lib.Ieee.{Float}
-use borrow.Author.Tests.{eq-eqb, eqb-true}
 use Rattle.numeric.specs.Num.{finiteOf}
 use Rattle.points.specs.declared.Point.{Point}
 use Rattle.points.specs.Points.{halfwayP, finiteP, pointAt}
@@ -20,80 +19,23 @@ use Rattle.projection.specs.declared.Projected.{Projected}
 use Rattle.projection.specs.declared.Projected.the-variants.{Onto, Refused}
 use Rattle.projection.specs.Project.{longestMove, lookCount, freePartOf, onFacesOf, targetOf, walkFrom, withinOf, insideOf, closeOf, closeAfter, projectWith, projectOf}
 use Rattle.lists.specs.Every.{every}
-use Rattle.lists.specs.Regions.{part}
 use Rattle.lists.proofs.Laws.{getD-tab}
-use Rattle.lists.proofs.Every.{and-left, and-right, every-zero, every-at, every-on, or-split, bool-iff, some-at, some-find}
-use Rattle.lists.proofs.Order.{each-bucket, below-tab}
+use Rattle.lists.proofs.Every.{and-left, and-right, every-at, or-split, bool-iff}
 use Rattle.sheet.specs.Quads.{Quad, num, all, hasLabel, packTo, pack, maskOf}
-use Rattle.sheet.specs.Flat.{from, quadAt, quadsOf}
-use Rattle.sheet.specs.Edges.{allCorners, pointCorners}
+use Rattle.sheet.specs.Flat.{quadAt, quadsOf}
 use Rattle.sheet.specs.Sheet.{Sheet, pointsOf}
 use Rattle.sheet.proofs.Flat.{length-quads}
 use Rattle.sheet.proofs.Masks.{pack-ext}
 use Rattle.incidence.specs.Corners.{Cornered}
-use Rattle.incidence.specs.Marks.{hits}
-use Rattle.incidence.proofs.Marks.{hits-uses}
-use Rattle.lookup.specs.Maps.{Standing}
-use Rattle.lookup.proofs.Maps.{RunAt}
 use Rattle.swaps.specs.Swaps.{noneQuad}
 use Rattle.merges.specs.Merges.{Slot}
 use Rattle.merges.specs.Coarse.{hasCorner, MergeFits, Position, masksJoin}
 use Rattle.fits.specs.declared.Four.{Four}
 use Rattle.fits.specs.declared.Merge.{Merge}
-use Rattle.fits.specs.Shaped.{pointIn, centreOf, quadIs, fourAt, FourBelow, Positioned}
-use Rattle.fits.specs.MergeFits.{joinedMask, movedTo, movedAt, quadStays, mergeAt, fitsAt, mergeFits, ontoOr, mergePosition, faceStays, cornerStays, staysAt, AllBelow}
+use Rattle.fits.specs.Shaped.{pointIn, centreOf, quadIs, fourAt, FourBelow}
+use Rattle.fits.specs.MergeFits.{joinedMask, movedTo, movedAt, quadStays, mergeAt, fitsAt, mergeFits, ontoOr, mergePosition, staysAt}
+use Rattle.fits.proofs.Walk.{every-each, unless-then}
 use Rattle.fits.proofs.Shaped.{point-there, four-below, Agree, shape-same, centre-same}
-
--- ---- the walk over the corners of a point
-
--- what every number below n has, all have
-every-each : (p : ℕ → Bool) (n : ℕ) → ((i : ℕ) → i < n → p i ≡ true) → every p n ≡ true
-every-each p n h = every-on p 0 n (every-zero p) zero-le (λ i l m. h i m)
-
--- a test that is passed unless it is not asked
-unless : (a b : Bool) → (a ≡ true → b ≡ true) → (not a || b) ≡ true
-unless true b f = f refl
-unless false b f = refl
-
-unless-then : (a b : Bool) → (not a || b) ≡ true → a ≡ true → b ≡ true
-unless-then true b e f = e
-unless-then false b e f = absurd (false≢true f)
-
--- the test of the quads of all corners at v is the test of all quads with the corner v
-walk-quads : (p : ℕ → Bool) (Q : List ℕ) (nq v : ℕ)
-    → every (λ i. p (getD (pointCorners Q nq v) i 0 / 4)) (length (pointCorners Q nq v)) ≡ every (λ j. not (hasCorner (quadAt Q j) v) || p j) nq
-walk-quads p Q nq v =
-    let B = pointCorners Q nq v in
-    let below = each-bucket 0 (λ c. c < 4 * nq) (from Q) v (allCorners nq) (below-tab (4 * nq) .each) in
-    bool-iff (every (λ i. p (getD B i 0 / 4)) (length B)) (every (λ j. not (hasCorner (quadAt Q j) v) || p j) nq)
-    (λ e. every-each _ nq (λ j h. unless (hasCorner (quadAt Q j) v) (p j) (λ u.
-    let H = some-find (hits B j) (length B) (hits-uses Q nq v j h ∙ u) in
-    ap p (sym (eqb-true _ j (H .yes))) ∙ every-at (λ i. p (getD B i 0 / 4)) (length B) (H .i) e (H .i<))))
-    (λ e. every-each _ (length B) (λ i h.
-    let c = getD B i 0 in
-    let l : c < 4 * nq = below i h in
-    let j< : c / 4 < nq = omega arith in
-    unless-then (hasCorner (quadAt Q (c / 4)) v) (p (c / 4)) (every-at (λ j. not (hasCorner (quadAt Q j) v) || p j) nq (c / 4) e j<)
-    (sym (hits-uses Q nq v (c / 4) j<) ∙ some-at (hits B (c / 4)) (length B) i h (eq-eqb (c / 4) (c / 4) refl))))
-
--- the same in the regions of a work slice
-pub walk-stays : {np nq was starts order s e : ℕ} {w : List ℕ} (v : ℕ) (f : Field) (len : Float) (at : ℕ → Point) (labels : List ℕ) (m : Merge) → Standing np nq was starts order w
-    → RunAt order s e (pointCorners (part was (4 * nq) w) nq v) w
-    → {r : Bool}
-    → r ≡ every (cornerStays f len at labels (part was (was + 4 * nq - was) w) m (part (order + s) (order + e - (order + s)) w)) (length (part (order + s) (order + e - (order + s)) w))
-    → r ≡ every (staysAt f len at labels (part was (4 * nq) w) m v) nq
-walk-stays {np} {nq} {was} {starts} {order} {s} {e} {w} v f len at labels m S R h =
-    let g : was + 4 * nq - was ≡ 4 * nq = omega arith in
-    h ∙ rw (g, R .is) (walk-quads (faceStays f len at labels (part was (4 * nq) w) m) (part was (4 * nq) w) nq v)
-
--- what the walk is lent: the quads, and corners of them
-pub quads-lent : {np nq was starts order : ℕ} {w : List ℕ} (P : List Float) → Standing np nq was starts order w → 3 * np ≤ length P → Positioned np nq P (part was (was + 4 * nq - was) w)
-quads-lent {np} {nq} {was} P S h = let g : was + 4 * nq - was ≡ 4 * nq = omega arith in record { sheet = rw g (S .sheet); points = h }
-
-pub corners-below : {order s e : ℕ} {w : List ℕ} (Q : List ℕ) (nq v : ℕ) → RunAt order s e (pointCorners Q nq v) w → AllBelow (4 * nq) (part (order + s) (order + e - (order + s)) w)
-corners-below {order} {s} {e} {w} Q nq v R = record {
-  each = rw (R .is) (each-bucket 0 (λ c. c < 4 * nq) (from Q) v (allCorners nq) (below-tab (4 * nq) .each));
-}
 
 -- ---- the rule
 
@@ -185,9 +127,13 @@ or-first true b f = refl
 or-first false true f = sym (f refl)
 or-first false false f = refl
 
-or-second : (a b : Bool) → (a ≡ true → b ≡ true) → (a || b) ≡ b
-or-second true b f = sym (f refl)
-or-second false b f = refl
+-- the labels of both, where t has those of u, are the greater mask
+pack-wider : (t u : ℕ → Bool) → every (λ l. not (u l) || t l) 8 ≡ true → pack (λ l. t l || u l) ≡ max (pack t) (pack u)
+pack-wider t u h =
+    let sub : (l : ℕ) → l < 8 → u l ≡ true → t l ≡ true = λ l b. unless-then (u l) (t l) (every-at (λ k. not (u k) || t k) 8 l h b) in
+    let le : pack u ≤ pack t = pack-le u t 8 sub in
+    let same : pack (λ l. t l || u l) ≡ pack t = pack-ext t (λ l. t l || u l) 8 (λ l b. or-first (t l) (u l) (sub l b)) in
+    omega arith
 
 -- it "equals one of the two", so it is the greater number
 pub joined-max : (n : ℕ) (S : List Quad) (labels : List ℕ) (fits : MergeFits) (position : Position) (a c : ℕ) → masksJoin n S labels fits position a c ≡ true
@@ -197,16 +143,10 @@ joined-max n S labels fits position a c e =
     let t = hasLabel S labels a in
     let u = hasLabel S labels c in
     ⊎-elim
-    (λ (h : every (λ l. not (u l) || t l) 8 ≡ true).
-    let sub : (l : ℕ) → l < 8 → u l ≡ true → t l ≡ true = λ l b. unless-then (u l) (t l) (every-at (λ k. not (u k) || t k) 8 l h b) in
-    let le : pack u ≤ pack t = pack-le u t 8 sub in
-    let same : pack (λ l. t l || u l) ≡ pack t = pack-ext t (λ l. t l || u l) 8 (λ l b. or-first (t l) (u l) (sub l b)) in
-    omega arith)
+    (λ (h : every (λ l. not (u l) || t l) 8 ≡ true). pack-wider t u h)
     (λ (h : every (λ l. not (t l) || u l) 8 ≡ true).
-    let sub : (l : ℕ) → l < 8 → t l ≡ true → u l ≡ true = λ l b. unless-then (t l) (u l) (every-at (λ k. not (t k) || u k) 8 l h b) in
-    let le : pack t ≤ pack u = pack-le t u 8 sub in
-    let same : pack (λ l. t l || u l) ≡ pack u = pack-ext u (λ l. t l || u l) 8 (λ l b. or-second (t l) (u l) (sub l b)) in
-    omega arith)
+    let turned : pack (λ l. t l || u l) ≡ pack (λ l. u l || t l) = pack-ext (λ l. u l || t l) (λ l. t l || u l) 8 (λ l b. or-comm (t l) (u l)) in
+    omega (arith, pack-wider u t h))
     (or-split _ _ (and-right (every (λ j. not ((t (2 * j) || u (2 * j)) && (t (2 * j + 1) || u (2 * j + 1)))) 4) _ e))
 
 -- ---- a projection that is not refused is finite

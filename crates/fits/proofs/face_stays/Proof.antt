@@ -18,7 +18,9 @@ quad-stays-requires : tie.Need-quad-stays-requires
 quad-stays-requires c κs = search needs
 
 returns-2 : tie.Need-returns-2
-returns-2 c = let a = c .before .before .before .before .before .before .before .before .args in simp (ne-eqb _ _ (c .before .before .before .if1 .left), ← four-quad (a .quads .now) (a .j) _ (c .before .before .four-at .ensures .0)) (c .quad-stays .ensures)
+returns-2 c =
+    let a = c .before .before .before .before .before .before .before .before .args in
+    simp (ne-eqb _ _ (c .before .before .before .if1 .left), ← four-quad (a .quads .now) (a .j) _ (c .before .before .four-at .ensures .0)) (c .quad-stays .ensures)
 
 pub face-stays-spec : {M : Type 1} → statement M
 face-stays-spec =

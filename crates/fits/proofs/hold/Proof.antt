@@ -20,7 +20,9 @@ lesser-shape-requires : tie.Need-lesser-shape-requires
 lesser-shape-requires c κs = search needs
 
 returns : tie.Need-returns
-returns c = let t = c .before .before .before in let a = t .before .before .before .before .args in
+returns c =
+    let t = c .before .before .before in
+    let a = t .before .before .before .before .args in
     held-is _ _ _ _ (a .quads .now) (a .i) (a .j) _ _ _ _ _ _ (t .before .hex-centre .ensures) (t .normal .ensures) (c .before .before .four-at .ensures .0) (c .before .four-at2 .ensures .0) (c .lesser-shape .ensures)
 
 pub hold-spec : {M : Type 1} → statement M

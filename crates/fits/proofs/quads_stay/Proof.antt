@@ -5,11 +5,12 @@ use Prim.Native.Nat.{_*_}
 use Rattle.lists.specs.Regions.{part}
 use Rattle.sheet.specs.Edges.{pointCorners}
 use Rattle.lookup.proofs.Maps.{RunAt, point-run}
-use Rattle.fits.proofs.MergeFits.{walk-stays, quads-lent, corners-below}
+use Rattle.fits.proofs.Walk.{walk-stays, quads-lent, corners-below}
 use Rattle.points.specs.Points.{pointAt}
 use Rattle.fits.proofs.quads_stay.Statement.{statement}
 use Rattle.fits.proofs.quads_stay.Tie as tie
 
+-- the corners at v
 run-here : (c : tie.After-at2) →
     let a = c .before .before .before .before .before .args in
     RunAt (a .order) (c .before .at .result) (c .at2 .result) (pointCorners (part (a .was) (4 * a .nq) (a .w .now)) (a .nq) (a .v)) (a .w .now)
@@ -67,13 +68,16 @@ part-corners-stay-end : tie.Need-part-corners-stay-end
 part-corners-stay-end c = let r = run-here (c .before) in omega arith
 
 corners-stay-requires : tie.Need-corners-stay-requires
-corners-stay-requires c κs = let k = c .before .before in let s = k .before .before .before .before .before in
+corners-stay-requires c κs =
+    let k = c .before .before in
+    let s = k .before .before .before .before .before in
     (quads-lent _ (s .pre .0) (s .pre .1 .0), (s .pre .1 .1 .0, corners-below (part (s .args .was) (4 * s .args .nq) (s .args .w .now)) (s .args .nq) (s .args .v) (run-here k)))
 
 returns : tie.Need-returns
-returns c = let k = c .before .before .before in let s = k .before .before .before .before .before in
-    let a = s .args in
-    walk-stays (a .v) (a .f) (a .len) (pointAt (a .points .now)) (a .labels .now) (a .m) (s .pre .0) (run-here k) (c .corners-stay .ensures)
+returns c =
+    let k = c .before .before .before in
+    let a = k .before .before .before .before .before .args in
+    walk-stays (a .nq) (a .was) (a .v) (a .f) (a .len) (pointAt (a .points .now)) (a .labels .now) (a .m) (run-here k) (c .corners-stay .ensures)
 
 pub quads-stay-spec : {M : Type 1} → statement M
 quads-stay-spec =

@@ -6,6 +6,7 @@ use Prim.Native.Nat.{_+_, _-_, _/_}
 use Rattle.lookup.proofs.halved.Statement.{statement}
 use Rattle.lookup.proofs.halved.Tie as tie
 
+-- the corner in the middle
 seen-at : (c : tie.After-key-at) →
     let a = c .before .before .before .before .before .before .args in
     Seen (a .quads .now) (a .corners .now) (a .s .lo + (a .s .hi - a .s .lo) / 2) (c .before .at .result) (c .key-at .result)
@@ -27,10 +28,14 @@ add-t11 : tie.Need-add-t11
 add-t11 c = search needs
 
 returns : tie.Need-returns
-returns c = let s = c .before .before .before .before .before .before .before in (narrow-up (s .pre .0) (s .pre .1 .0) (seen-at (c .before)) (omega arith) (c .if1 .taken), omega arith)
+returns c =
+    let s = c .before .before .before .before .before .before .before in
+    (narrow-up (s .pre .0) (s .pre .1 .0) (seen-at (c .before)) (omega arith) (c .if1 .taken), omega arith)
 
 returns-2 : tie.Need-returns-2
-returns-2 c = let s = c .before .before .before .before .before .before .before in (narrow-down (s .pre .0) (s .pre .1 .0) (seen-at (c .before)) (omega arith) (omega arith) (omega arith), omega arith)
+returns-2 c =
+    let s = c .before .before .before .before .before .before .before in
+    (narrow-down (s .pre .0) (s .pre .1 .0) (seen-at (c .before)) (omega arith) (omega arith) (omega arith), omega arith)
 
 pub halved-spec : {M : Type 1} → statement M
 halved-spec =

@@ -5,6 +5,7 @@ use Rattle.lookup.proofs.Maps.{Seen, found-at, found-none}
 use Rattle.lookup.proofs.has_larger.Statement.{statement}
 use Rattle.lookup.proofs.has_larger.Tie as tie
 
+-- the corner that was found
 seen-at : (c : tie.After-key-at) →
     let a = c .before .before .before .before .before .before .args in
     Seen (a .quads .now) (a .corners .now) (c .before .before .before .first-from .result) (c .before .at .result) (c .key-at .result)
@@ -20,7 +21,9 @@ key-at-requires : tie.Need-key-at-requires
 key-at-requires c κs = rw (c .at .ensures) (c .before .before .before .before .before .pre .known _ (c .before .if1 .taken))
 
 returns : tie.Need-returns
-returns c = let f = c .before .before .before in found-at (f .first-from .ensures) (f .before .before .before .pre) (seen-at c) (c .before .before .if1 .taken)
+returns c =
+    let f = c .before .before .before in
+    found-at (f .first-from .ensures) (f .before .before .before .pre) (seen-at c) (c .before .before .if1 .taken)
 
 returns-2 : tie.Need-returns-2
 returns-2 c = found-none (c .before .first-from .ensures) (omega arith)

@@ -6,6 +6,7 @@ use mathlib.Core.Path.{_∙_}
 use Rattle.lookup.proofs.is_rising_edge.Statement.{statement}
 use Rattle.lookup.proofs.is_rising_edge.Tie as tie
 
+-- the corners of the smaller point
 rising-at : (c : tie.After-at2) →
     let a = c .before .before .before .args in
     Rising (a .np) (a .nq) (a .was) (a .order) (a .a) (c .before .at .result) (c .at2 .result) (a .w .now)
@@ -66,7 +67,10 @@ has-larger-requires : tie.Need-has-larger-requires
 has-larger-requires c κs = rising-at (c .before .before) .ascending
 
 returns : tie.Need-returns
-returns c = let k = c .before .before .before in let p = k .before .before .before .pre in c .has-larger .ensures ∙ rising-at k .is _ (p .1 .0) (p .1 .1)
+returns c =
+    let k = c .before .before .before in
+    let p = k .before .before .before .pre in
+    c .has-larger .ensures ∙ rising-at k .is _ (p .1 .0) (p .1 .1)
 
 pub is-rising-edge-spec : {M : Type 1} → statement M
 is-rising-edge-spec =
