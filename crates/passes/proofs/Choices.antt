@@ -1,26 +1,24 @@
 -- The choice of a diagonal from what the slices hold is the rule's. Assumes nothing.
-use Prim.Native.Nat.{ℕ, _+_, _*_, _/_, _%_, _≤_, _<_}
+use Prim.Native.Nat.{ℕ, _+_, _*_, _/_, _%_, _<_}
 use mathlib.Core.Path.{_≡_, refl, sym, ap, ap₂, _∙_}
-use mathlib.Core.Bool.{Bool, true, false, cond, not, _&&_, _||_, true≢false, false≢true}
+use mathlib.Core.Bool.{Bool, true, false, _&&_, _||_, true≢false, false≢true}
 use mathlib.Core.List.{List}
 use native.Mathlib.Omega.{arith}
-use lib.Dec.{eqb, ltb, leb}
 use lib.ListN.{length, getD, take}
 use lib.Seq.{getD-take}
 use lib.Ieee.{Float}
 use Rattle.lists.proofs.Laws.{getD-tab}
 use Rattle.lists.proofs.Regions.{part-get}
 use Rattle.points.specs.Points.{pointAt}
-use Rattle.sheet.specs.Quads.{Quad, valence, isEdge}
+use Rattle.sheet.specs.Quads.{Quad, valence}
 use Rattle.sheet.specs.Flat.{quadAt, quadsOf}
-use Rattle.incidence.specs.Corners.{Cornered}
-use Rattle.swaps.specs.Swaps.{Fits, may, choose, takeOr}
+use Rattle.swaps.specs.Swaps.{may}
 use Rattle.fits.specs.declared.Six.{Six}
 use Rattle.fits.specs.declared.Held.{Held}
-use Rattle.fits.specs.SwapFits.{heldOf, nextFits, fitsWith, hexOf, SixBelow}
+use Rattle.fits.specs.SwapFits.{heldOf, nextFits, hexOf, SixBelow}
 use Rattle.fits.proofs.SwapFits.{swap-fits}
-use Rattle.swapping.specs.Slices.{valencesAt, startOf, sumIn, Passing}
-use Rattle.swapping.specs.Swapped.{turned, openIn, gainsIn, betterIn, sixAt, isHexagon}
+use Rattle.swapping.specs.Slices.{startOf, sumIn}
+use Rattle.swapping.specs.Swapped.{openIn, gainsIn, betterIn, sixAt, isHexagon}
 use Rattle.passes.specs.declared.Trial.{Trial}
 use Rattle.passes.specs.Choice.{fitsIn, diagonal, pickOf, mayTake, bestOf, freeIn, choiceIn, Trying}
 

@@ -2,7 +2,7 @@
 use Prim.Native.Nat.{ℕ, zero, suc, _+_, _*_, _/_, _%_, _≤_, _<_}
 use mathlib.Core.Path.{_≡_, refl, sym, ap, ap₂, _∙_}
 use mathlib.Core.Bool.{Bool, true, false, cond, not, _&&_}
-use mathlib.Core.Option.{Option, none, some}
+use mathlib.Core.Option.{none}
 use mathlib.Core.List.{List, [], _∷_}
 use native.Mathlib.Omega.{arith}
 use native.Mathlib.Numerals.{add-one}
@@ -10,18 +10,16 @@ use lib.Dec.{eqb, ltb}
 use lib.ListN.{length, getD, take}
 use lib.Seq.{getD-take}
 use lib.Ieee.{Float}
-use borrow.Author.Tests.{eqb-true, eq-eqb, ne-eqb}
-use Rattle.lists.specs.Regions.{Out, Kept}
+use borrow.Author.Tests.{eqb-true, ne-eqb}
 use Rattle.lists.proofs.Every.{and-left, and-right}
 use Rattle.lists.proofs.Regions.{kept-refl}
 use Rattle.sheet.specs.Quads.{Quad, quad, corners, valence}
 use Rattle.sheet.specs.Flat.{quadAt, quadsOf, from, to, before}
-use Rattle.incidence.specs.Corners.{Cornered}
-use Rattle.swaps.specs.Swaps.{Fits, State, turn, noneQuad, hex, swapOne, swapTwo, sixDiffer, meets, barList, choose, takeOr, may, swapQuads}
+use Rattle.swaps.specs.Swaps.{Fits, State, turn, noneQuad, swapOne, swapTwo, sixDiffer, barList, choose, takeOr, may, swapQuads}
 use Rattle.swaps.proofs.Swap.{corners-turn}
 use Rattle.fits.specs.declared.Six.{Six}
-use Rattle.fits.specs.SwapFits.{hexOf, SixBelow}
-use Rattle.swapping.specs.Slices.{startOf, isBarred, barsOf, stateOf}
+use Rattle.fits.specs.SwapFits.{hexOf}
+use Rattle.swapping.specs.Slices.{startOf, barsOf, stateOf}
 use Rattle.swapping.specs.Swapped.{across, quadFrom, sixAt, sixApart, isHexagon}
 use Rattle.swapping.specs.Made.{Swappable, swapBy, meetsSix, Made}
 use Rattle.swapping.proofs.Bars.{getD-quads, getD-bars}

@@ -1,25 +1,25 @@
 -- The loop over the corners in the order of their edges is a pass of the rule. Assumes nothing.
-use Prim.Native.Nat.{ℕ, _+_, _*_, _≤_, _<_, _^_, zero-le}
+use Prim.Native.Nat.{ℕ, _+_, _*_, _≤_, _<_, zero-le}
 use native.Mathlib.Nat.{zero-add}
 use mathlib.Core.Path.{_≡_, refl, sym, ap, ap₂, _∙_}
 use mathlib.Core.Bool.{Bool, true, false, cond, _||_, false≢true}
 use mathlib.Core.List.{List}
 use native.Mathlib.Omega.{arith}
 use lib.Dec.{eqb}
-use lib.ListN.{length, getD, take, replicate}
+use lib.ListN.{length, take}
 use lib.Ieee.{Float}
-use Rattle.lists.specs.Regions.{part, Part, Out, Kept}
+use Rattle.lists.specs.Regions.{part, Out, Kept}
 use Rattle.lists.proofs.Regions.{part-of, part-len, part-kept, kept-refl, kept-then}
 use Rattle.sheet.specs.Quads.{Quad}
 use Rattle.sheet.specs.Flat.{quadsOf}
 use Rattle.sheet.specs.Edges.{edgesOf}
 use Rattle.sheet.proofs.Flat.{length-quads}
 use Rattle.incidence.specs.Corners.{edgeOrder}
-use Rattle.census.specs.Places.{linked, goesOn, sameStart, kindAt}
+use Rattle.census.specs.Places.{linked, goesOn, kindAt}
 use Rattle.census.proofs.Walk.{linked-below}
-use Rattle.swaps.specs.Swaps.{State, Fits, sweep, fresh, swapPass}
-use Rattle.swapping.specs.Steps.{pairAt, tryPair, stepAt, stepsFrom}
-use Rattle.swapping.specs.Slices.{wasAt, edgesAt, valencesAt, startOf, barsOf, stateOf, edgeCorner, Begun}
+use Rattle.swaps.specs.Swaps.{State, sweep, fresh, swapPass}
+use Rattle.swapping.specs.Steps.{pairAt, stepAt, stepsFrom}
+use Rattle.swapping.specs.Slices.{wasAt, edgesAt, valencesAt, startOf, stateOf, edgeCorner, Begun}
 use Rattle.swapping.proofs.Fold.{steps-zero, steps-suc, steps-sweep}
 use Rattle.passes.specs.declared.Trial.{Trial}
 use Rattle.passes.specs.Choice.{fitsIn, Trying, Stepped, tryIn, stepIn, passIn, Passed}

@@ -5,7 +5,7 @@ use mathlib.Core.Bool.{Bool, true, false, cond, not, _||_, true≢false}
 use mathlib.Core.List.{List, [], _∷_, _++_}
 use native.Mathlib.Omega.{arith}
 use lib.Dec.{eqb}
-use lib.ListN.{length, getD, take, replicate}
+use lib.ListN.{length, getD, take}
 use lib.Seq.{take-suc, length-take-le}
 use lib.Ieee.{Float}
 use borrow.Author.Tests.{eqb-false}
@@ -14,26 +14,24 @@ use Rattle.lists.specs.Sort.{tabulate}
 use Rattle.band.specs.declared.Band.{Band}
 use Rattle.band.specs.Bands.{lengthOf, validOf}
 use Rattle.sheet.specs.declared.Counts.{Counts}
-use Rattle.sheet.specs.declared.Verdict.{Verdict}
 use Rattle.sheet.specs.declared.Verdict.the-variants.{Accepted, Refused}
 use Rattle.sheet.specs.Numbers.{box, bare, corner, clash}
 use Rattle.sheet.specs.Quads.{Quad, quad}
-use Rattle.sheet.specs.Flat.{quadAt, quadsOf, flatQuads}
+use Rattle.sheet.specs.Flat.{quadsOf, flatQuads}
 use Rattle.sheet.specs.Tests.{goodCorners, goodMasks}
 use Rattle.sheet.specs.Sheet.{Sheet, sheetOf, pointsOf, LentSheet, isBare, bareBy, finiteAt, lentVerdict, quadsVerdict, sheetVerdict}
-use Rattle.sheet.proofs.Flat.{quads-suc, length-quads}
+use Rattle.sheet.proofs.Flat.{quads-suc}
 use Rattle.sheet.proofs.Tests.{lent-is, length-points, bare-is, labels-match}
-use Rattle.incidence.specs.Corners.{Cornered}
 use Rattle.incidence.proofs.Corners.{cornered}
 use Rattle.results.specs.Results.{cleared, padded}
 use Rattle.swaps.specs.Runs.{Answer, capped}
-use Rattle.swaps.specs.Swaps.{Fits, swapRun}
+use Rattle.swaps.specs.Swaps.{swapRun}
 use Rattle.fits.specs.SwapFits.{fitsWith, swapFits}
 use Rattle.passes.specs.declared.Trial.{Trial}
 use Rattle.passes.specs.Choice.{Passable}
 use Rattle.regularize.specs.declared.Cleaned as answers
 use Rattle.regularize.specs.Runs.{Ran}
-use Rattle.regularize.specs.Rule.{Outcome, swapSheet, Cleanable, Cleans, cleanRule, Leaves}
+use Rattle.regularize.specs.Rule.{swapSheet, Cleanable, Cleans, cleanRule, Leaves}
 
 -- ---- the quads of a slice, flat
 
@@ -109,10 +107,6 @@ accepted-is b s = go (validOf b) (isBare s) refl
     go true true ee h = absurd (let z : _≡_ {A = ℕ} 0 1 = cc in omega arith)
     go true false ee h = (ee, corners-good (length (s .points)) (s .quads) (s .labels) h)
     go false e ee h = absurd (let z : _≡_ {A = ℕ} 0 1 = cc in omega arith)
-
--- what swaps are tried with
-abbrev pub trialOf : ℕ → Band → Trial
-trialOf least b = record { least = least; field = b .field; length = lengthOf b }
 
 module _ {b : Band} {least : ℕ} {c : Counts} {P : List Float} {Q labels w : List ℕ} (A : Cleanable b least c P Q labels w) where
   not-bare : bareBy c P ≡ false

@@ -1,7 +1,7 @@
 -- Passes one after the other are the rule's run; the count is capped after each. Assumes nothing.
-use Prim.Native.Nat.{ℕ, zero, suc, _+_, _-_, _≤_, _<_}
+use Prim.Native.Nat.{ℕ, suc, _+_, _-_, _≤_, _<_}
 use mathlib.Core.Path.{_≡_, refl, sym, ap, ap₂, _∙_}
-use mathlib.Core.Bool.{Bool, true, false}
+use mathlib.Core.Bool.{false}
 use mathlib.Core.List.{List}
 use native.Mathlib.Omega.{arith}
 use lib.Dec.{eqb}
@@ -11,10 +11,8 @@ use borrow.Author.Tests.{eq-eqb, ne-eqb}
 use Rattle.sheet.specs.Quads.{Quad}
 use Rattle.sheet.specs.Flat.{quadsOf}
 use Rattle.swaps.specs.Runs.{Answer, run, capped}
-use Rattle.swaps.specs.Swaps.{swapPass, swapRun}
 use Rattle.swaps.proofs.Runs.{idle, capped-add}
 use Rattle.swaps.proofs.Sweep.{pass-none}
-use Rattle.swapping.specs.Slices.{Room}
 use Rattle.passes.specs.declared.Trial.{Trial}
 use Rattle.passes.specs.Choice.{fitsIn, passIn, Passable, Passed}
 use Rattle.regularize.specs.Runs.{Ran}

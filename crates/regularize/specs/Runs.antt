@@ -5,7 +5,7 @@ use mathlib.Core.List.{List}
 use lib.ListN.{take}
 use lib.Ieee.{Float}
 use Rattle.sheet.specs.Flat.{quadsOf}
-use Rattle.swaps.specs.Runs.{Answer, capped}
+use Rattle.swaps.specs.Runs.{capped}
 use Rattle.swaps.specs.Swaps.{swapRun}
 use Rattle.passes.specs.declared.Trial.{Trial}
 use Rattle.passes.specs.Choice.{fitsIn}

@@ -1,6 +1,6 @@
 -- Marks of barred quads in the work slice: those at one point, at three, at six. Assumes nothing.
 use Prim.Native.Nat.{ℕ, zero, suc, _+_, _*_, _≤_, _<_}
-use mathlib.Core.Path.{_≡_, refl, sym, ap, _∙_}
+use mathlib.Core.Path.{_≡_, refl, sym, _∙_}
 use mathlib.Core.Bool.{Bool, true, false, cond, not, _||_}
 use mathlib.Core.Logic.{⊎-elim}
 use mathlib.Core.List.{List, [], _∷_}
@@ -12,17 +12,15 @@ use Rattle.lists.specs.Sort.{tabulate}
 use Rattle.lists.specs.Regions.{part, Part, Out, Kept}
 use Rattle.lists.proofs.Laws.{lt-or-le, getD-tab, length-tab, is-table, tab-ext}
 use Rattle.lists.proofs.Regions.{part-of, part-get, part-as, part-kept, kept-then}
-use Rattle.sheet.specs.Quads.{Quad, uses}
+use Rattle.sheet.specs.Quads.{Quad}
 use Rattle.sheet.specs.Flat.{quadAt, quadsOf}
-use Rattle.incidence.specs.Marks.{barredBy, Incident}
-use Rattle.lookup.specs.Maps.{Standing}
+use Rattle.incidence.specs.Marks.{Incident}
 use Rattle.lookup.proofs.Maps.{standing-kept}
 use Rattle.sheet.proofs.Flat.{length-quads}
 use Rattle.swaps.specs.Swaps.{barList, noneQuad}
 use Rattle.swaps.proofs.Sweep.{bar-length}
-use Rattle.fits.specs.declared.Six.{Six}
 use Rattle.swapping.specs.Slices.{wasAt, pointStartsAt, pointsAt, marksAt, startOf, isBarred, barsOf, Room, Barring}
-use Rattle.swapping.specs.Swapped.{markIf, usesThree, usesSix}
+use Rattle.swapping.specs.Swapped.{markIf}
 
 -- only the marks were written
 abbrev pub OnlyMarks : ℕ → ℕ → List ℕ → List ℕ → Type 0

@@ -1,29 +1,24 @@
 -- The calls that begin a pass, one after the other. Assumes nothing.
-use Prim.Native.Nat.{ℕ, _+_, _-_, _*_, _≤_, _<_}
-use mathlib.Core.Path.{_≡_, refl, sym, ap, _∙_}
-use mathlib.Core.Bool.{Bool, true, false, not}
+use Prim.Native.Nat.{ℕ, _+_, _-_, _*_, _≤_}
+use mathlib.Core.Path.{_≡_, ap, _∙_}
+use mathlib.Core.Bool.{false}
 use mathlib.Core.List.{List}
 use native.Mathlib.Omega.{arith}
-use lib.Dec.{eqb}
-use lib.ListN.{length, getD, take, replicate, getD-replicate}
+use lib.ListN.{length, take, replicate, getD-replicate}
 use borrow.Rule.Slice.PartMut.{midOf, putMid}
 use Rattle.lists.specs.Sort.{tabulate}
 use Rattle.lists.specs.Regions.{part, Part, Out, Out3, Apart, Kept, Three}
 use Rattle.lists.proofs.Laws.{always, tab-ext, tab-same}
-use Rattle.lists.proofs.Regions.{part-get, part-as, part-kept, lent-all}
+use Rattle.lists.proofs.Regions.{part-get, part-kept, lent-all}
 use Rattle.sheet.specs.Quads.{valence}
 use Rattle.sheet.specs.Flat.{quadsOf}
 use Rattle.incidence.specs.Corners.{Cornered, edgeOrder, cornersAt, firstAt}
 use Rattle.lookup.specs.Maps.{firstEdge}
 use Rattle.lookup.proofs.Maps.{mapped, standing, quads-take}
-use Rattle.swapping.specs.Slices.{wasAt, edgeStartsAt, edgesAt, pointStartsAt, pointsAt, valencesAt, marksAt, startOf, isBarred, barsOf, Room, Begun}
+use Rattle.swapping.specs.Slices.{wasAt, workAt, edgeStartsAt, edgesAt, pointStartsAt, pointsAt, valencesAt, marksAt, barsOf, Room, Begun}
 use Rattle.swapping.proofs.Bars.{room-kept}
 
--- where the sorts work
-abbrev firstAt5 : ℕ → ℕ → ℕ
-firstAt5 np nq = 5 * (np + nq)
-
-pub map-room : {np nq : ℕ} {w : List ℕ} → Room np nq w → Three (firstAt5 np nq) (4 * nq) (edgeStartsAt np nq) (np + 1) (edgesAt np nq) (4 * nq) w
+pub map-room : {np nq : ℕ} {w : List ℕ} → Room np nq w → Three (workAt np nq) (4 * nq) (edgeStartsAt np nq) (np + 1) (edgesAt np nq) (4 * nq) w
 map-room R = let s = R .some in let l = R .long in record {
   in-a = omega arith;
   in-b = omega arith;
@@ -33,7 +28,7 @@ map-room R = let s = R .some in let l = R .long in record {
   bc = λ i p q r t. omega arith;
 }
 
-pub points-room : {np nq : ℕ} {w : List ℕ} → Room np nq w → Three (firstAt5 np nq) (4 * nq) (pointStartsAt np nq) (np + 1) (pointsAt np nq) (4 * nq) w
+pub points-room : {np nq : ℕ} {w : List ℕ} → Room np nq w → Three (workAt np nq) (4 * nq) (pointStartsAt np nq) (np + 1) (pointsAt np nq) (4 * nq) w
 points-room R = let s = R .some in let l = R .long in record {
   in-a = omega arith;
   in-b = omega arith;
@@ -50,12 +45,12 @@ module _ {np nq : ℕ} {Q v : List ℕ} (C : Cornered np nq Q) (R : Room np nq v
     room-a = room-kept R (A .1)
 
     -- the edges are mapped
-    module _ {b : List ℕ} (B : Part (edgesAt np nq) (4 * nq) (edgeOrder np nq Q) b × (Part (edgeStartsAt np nq) (np + 1) (tabulate (firstEdge np nq Q) (np + 1)) b × Kept (Out3 (firstAt5 np nq) (4 * nq) (edgeStartsAt np nq) (np + 1) (edgesAt np nq) (4 * nq)) a b)) where
+    module _ {b : List ℕ} (B : Part (edgesAt np nq) (4 * nq) (edgeOrder np nq Q) b × (Part (edgeStartsAt np nq) (np + 1) (tabulate (firstEdge np nq Q) (np + 1)) b × Kept (Out3 (workAt np nq) (4 * nq) (edgeStartsAt np nq) (np + 1) (edgesAt np nq) (4 * nq)) a b)) where
       pub room-b : Room np nq b
       room-b = room-kept room-a (B .1 .1)
 
       -- the corners stand by point
-      module _ {d : List ℕ} (D : Part (pointStartsAt np nq) (np + 1) (tabulate (firstAt nq Q) (np + 1)) d × (Part (pointsAt np nq) (4 * nq) (cornersAt np nq Q) d × Kept (Out3 (firstAt5 np nq) (4 * nq) (pointStartsAt np nq) (np + 1) (pointsAt np nq) (4 * nq)) b d)) where
+      module _ {d : List ℕ} (D : Part (pointStartsAt np nq) (np + 1) (tabulate (firstAt nq Q) (np + 1)) d × (Part (pointsAt np nq) (4 * nq) (cornersAt np nq Q) d × Kept (Out3 (workAt np nq) (4 * nq) (pointStartsAt np nq) (np + 1) (pointsAt np nq) (4 * nq)) b d)) where
         pub room-d : Room np nq d
         room-d = room-kept room-b (D .1 .1)
 

@@ -1,13 +1,12 @@
 -- What the valences and the edge map say of a diagonal. Assumes nothing.
-use Prim.Native.Nat.{ℕ, _+_, _*_, _/_, _≤_, _<_}
-use mathlib.Core.Path.{_≡_, refl, sym, ap, _∙_}
+use Prim.Native.Nat.{ℕ, _+_, _*_, _≤_, _<_}
+use mathlib.Core.Path.{_≡_, refl, _∙_}
 use mathlib.Core.Bool.{Bool, true, false, not, _&&_}
 use mathlib.Core.List.{List}
 use native.Mathlib.Omega.{arith}
-use lib.Dec.{ltb, leb}
+use lib.Dec.{ltb}
 use lib.ListN.{length, getD}
 use borrow.Author.Tests.{le-leb, lt-leb}
-use Rattle.lists.specs.Regions.{part}
 use Rattle.lists.proofs.Regions.{part-get, part-of, part-len}
 use Rattle.sheet.specs.Quads.{isEdge}
 use Rattle.sheet.specs.Flat.{quadsOf}

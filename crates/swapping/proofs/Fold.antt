@@ -1,24 +1,24 @@
 -- The steps over the corners in the order of their edges are the sweep over the edges. Assumes nothing.
-use Prim.Native.Nat.{ℕ, zero, suc, _+_, _*_, _≤_, _<_, min, max}
+use Prim.Native.Nat.{ℕ, zero, suc, _+_, _≤_, _<_, min, max}
 use mathlib.Core.Path.{_≡_, refl, sym, ap, ap₂, _∙_}
-use mathlib.Core.Bool.{Bool, true, false, cond, _&&_, _||_}
+use mathlib.Core.Bool.{Bool, true, false, cond, _||_}
 use mathlib.Core.Logic.{_⊎_, inl, inr, ⊎-elim}
 use mathlib.Core.List.{List, [], _∷_, _++_, map}
 use native.Mathlib.Omega.{arith}
 use native.Mathlib.Nat.{zero-add}
 use native.Mathlib.Numerals.{add-one}
-use lib.Dec.{eqb, leb, ltb}
+use lib.Dec.{eqb}
 use lib.ListN.{length, getD}
 use borrow.Author.Tests.{le-leb, lt-leb, lt-ltb, ltb-false, ne-eqb}
 use Rattle.lists.specs.Sort.{consIf, bucket, start}
-use Rattle.lists.proofs.Laws.{eq-or-ne, lt-or-le, start-zero, start-suc}
+use Rattle.lists.proofs.Laws.{lt-or-le, start-zero, start-suc}
 use Rattle.sheet.specs.Quads.{Quad, side, isEdge}
 use Rattle.sheet.specs.Flat.{from, quadsOf}
 use Rattle.sheet.specs.Edges.{Pair, pair, joinTo, edgeIf, edgesFrom, edgesOf, smaller, larger, allCorners}
 use Rattle.incidence.specs.Corners.{edgeOrder}
 use Rattle.census.specs.Places.{kindAt}
 use Rattle.census.proofs.Blocks.{block, off, off-suc, byLarger, row-length, at-off}
-use Rattle.census.proofs.EdgeKinds.{kind, kindOf, kind-first, kind-later}
+use Rattle.census.proofs.EdgeKinds.{kind, kind-first, kind-later}
 use Rattle.census.proofs.Sides.{length-block, length-loop, length-none}
 use Rattle.swaps.specs.Swaps.{Place, State, Fits, takeOr, tryPlaces, tryEdge, sweep}
 use Rattle.swapping.specs.Steps.{placeOf, pairAt, tryPair, stepAt, stepsFrom}

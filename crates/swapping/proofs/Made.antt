@@ -1,19 +1,19 @@
 -- What a swap leaves in the slices: the rule's quads, their valences, and the rule's barred quads. Assumes nothing.
-use Prim.Native.Nat.{ℕ, _+_, _-_, _*_, _/_, _%_, _≤_, _<_, _^_}
+use Prim.Native.Nat.{ℕ, _+_, _-_, _*_, _≤_, _<_}
 use mathlib.Core.Path.{_≡_, refl, sym, ap, ap₂, _∙_}
 use mathlib.Core.Bool.{Bool, true, false, cond}
 use mathlib.Core.Logic.{_⊎_, ⊎-elim, _≢_}
 use mathlib.Core.List.{List}
 use native.Mathlib.Omega.{arith}
-use lib.Dec.{eqb, ltb}
+use lib.Dec.{eqb}
 use lib.ListN.{length, getD, set, length-set}
 use lib.Seq.{getD-set-same, getD-set-other}
 use Rattle.lists.specs.Sort.{tabulate, itself}
 use Rattle.lists.specs.Regions.{part, Part, Out, Kept}
 use Rattle.lists.proofs.Laws.{eq-or-ne, getD-tab, length-tab, tab-set, tab-ext, is-tab, bucket-le}
-use Rattle.lists.proofs.Regions.{part-of, part-get, part-as, part-kept, part-len, kept-then, kept-less}
+use Rattle.lists.proofs.Regions.{part-of, part-as, part-kept, kept-then}
 use Rattle.sheet.specs.Quads.{Quad, quad, corners, total, at, valence}
-use Rattle.sheet.specs.Flat.{corner, quadAt, quadsOf, from}
+use Rattle.sheet.specs.Flat.{quadAt, quadsOf, from}
 use Rattle.sheet.proofs.Flat.{valence-flat, length-quads}
 use Rattle.incidence.specs.Corners.{Cornered}
 use Rattle.lookup.proofs.Maps.{mapped-kept, standing-kept}
@@ -25,8 +25,8 @@ use Rattle.swaps.proofs.SwapPass.{two-quads}
 use Rattle.swaps.proofs.Sweep.{six-of}
 use Rattle.fits.specs.declared.Six as six
 use Rattle.fits.specs.SwapFits.{SixBelow}
-use Rattle.swapping.specs.Slices.{wasAt, valencesAt, marksAt, startOf, isBarred, barsOf, Room, Barring, Passing}
-use Rattle.swapping.specs.Swapped.{sixApart, turned, withQuad, withPair, less, more, moved, Movable, markIf, usesSix}
+use Rattle.swapping.specs.Slices.{wasAt, valencesAt, marksAt, startOf, isBarred, barsOf, Barring, Passing}
+use Rattle.swapping.specs.Swapped.{turned, withQuad, withPair, less, more, moved, Movable, markIf, usesSix}
 use Rattle.swapping.specs.Made.{Swappable, swapBy, meetsSix, Made}
 use Rattle.swapping.proofs.Moves.{second-is, third-is, last-is}
 use Rattle.swapping.proofs.Bars.{OnlyMarks, Marked, room-kept, barring-kept, bars-are, getD-quads}

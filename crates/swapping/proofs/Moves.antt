@@ -1,13 +1,13 @@
 -- Valences move from two points to two others. Assumes nothing.
-use Prim.Native.Nat.{ℕ, _+_, _-_, _≤_, _<_, _^_}
-use mathlib.Core.Path.{_≡_, refl, sym, ap, _∙_}
+use Prim.Native.Nat.{ℕ, _+_, _-_, _≤_, _<_}
+use mathlib.Core.Path.{_≡_, sym, ap, _∙_}
 use mathlib.Core.List.{List}
 use native.Mathlib.Omega.{arith}
 use lib.ListN.{length, getD, set}
 use lib.Seq.{getD-set-other}
 use Rattle.lists.specs.Regions.{part, Part, Out, Kept}
 use Rattle.lists.proofs.Regions.{part-of, part-get, part-as, part-set, kept-set, kept-refl}
-use Rattle.swapping.specs.Swapped.{less, more, moved, Movable}
+use Rattle.swapping.specs.Swapped.{less, more, Movable}
 
 -- the valences vs in w, all else as in u
 pub record Moving (val np : ℕ) (vs u w : List ℕ) : Type 0 where

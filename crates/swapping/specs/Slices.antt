@@ -19,14 +19,18 @@ use Rattle.swaps.specs.Swaps.{State}
 abbrev pub wasAt : ℕ → ℕ → ℕ
 wasAt np nq = 1 * (np + nq)
 
--- their corners in the order of their edges, and where those of each smaller point begin
+-- where the sorts work
+abbrev pub workAt : ℕ → ℕ → ℕ
+workAt np nq = 5 * (np + nq)
+
+-- the corners of those quads in the order of their edges, and where those of each smaller point begin
 abbrev pub edgeStartsAt : ℕ → ℕ → ℕ
 edgeStartsAt np nq = 9 * (np + nq)
 
 abbrev pub edgesAt : ℕ → ℕ → ℕ
 edgesAt np nq = 11 * (np + nq)
 
--- their corners by point, and where those of each point begin
+-- the corners of those quads by point, and where those of each point begin
 abbrev pub pointStartsAt : ℕ → ℕ → ℕ
 pointStartsAt np nq = 15 * (np + nq)
 

@@ -1,11 +1,10 @@
 -- One swap in slices: the two quads, the four valences and the marks that it writes.
 use Prim.Native.Nat.{ℕ, _+_, _-_, _*_, _/_, _%_, _≤_, _<_, _^_}
-use mathlib.Core.Path.{_≡_}
 use mathlib.Core.Bool.{Bool, cond, not, _&&_}
 use mathlib.Core.Logic.{_≢_}
 use mathlib.Core.List.{List}
 use lib.Dec.{eqb, leb, ltb}
-use lib.ListN.{length, getD, set}
+use lib.ListN.{getD, set}
 use Rattle.sheet.specs.Quads.{Quad, quad, uses, isEdge}
 use Rattle.sheet.specs.Flat.{quadAt, quadsOf, from, to, before}
 use Rattle.swaps.specs.Swaps.{sixDiffer}

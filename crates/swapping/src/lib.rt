@@ -2,18 +2,18 @@
 
 use fits::Six;
 ghost use mathlib.Core.Path.{_≡_};
-ghost use mathlib.Core.Bool.{Bool, not, _&&_};
-ghost use Prim.Native.Nat.{ℕ, _+_, _*_, _/_, _%_, _<_, _≤_, _^_};
+ghost use mathlib.Core.Bool.{not, _&&_};
+ghost use Prim.Native.Nat.{_+_, _*_, _/_, _%_, _<_, _≤_, _^_};
 ghost use lib.Dec.{eqb};
-ghost use lib.ListN.{length, getD, take};
+ghost use lib.ListN.{length, getD};
 ghost use Rattle.lists.specs.Sort.{tabulate};
-ghost use Rattle.lists.specs.Regions.{part, Part, Out, Out2, Kept};
+ghost use Rattle.lists.specs.Regions.{part, Part, Out, Kept};
 ghost use Rattle.incidence.specs.Corners.{Known, Cornered};
 ghost use Rattle.incidence.specs.Marks.{barredBy};
 ghost use Rattle.lookup.specs.Maps.{Mapped};
 ghost use Rattle.fits.specs.SwapFits.{SixBelow};
 ghost use Rattle.swapping.specs.Steps.{pairAt};
-ghost use Rattle.swapping.specs.Slices.{wasAt, edgeStartsAt, edgesAt, valencesAt, marksAt, startOf, isBarred, sumIn, edgeCorner, Room, Barring, Passing, Begun};
+ghost use Rattle.swapping.specs.Slices.{wasAt, edgeStartsAt, edgesAt, marksAt, startOf, isBarred, sumIn, edgeCorner, Room, Barring, Passing, Begun};
 ghost use Rattle.swapping.specs.Swapped.{sixAt, sixApart, isHexagon, turned, openIn, gainsIn, betterIn, withQuad, withPair, moved, Movable, markIf, usesThree, usesSix};
 ghost use Rattle.swapping.specs.Made.{Swappable, Made};
 

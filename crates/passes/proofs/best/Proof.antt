@@ -1,5 +1,4 @@
 -- `passes::best` meets its contract. Assumes nothing.
-use native.Mathlib.Omega.{arith}
 use borrow.Author.Needs.{needs}
 use Rattle.passes.proofs.Choices.{best-told}
 use Rattle.passes.proofs.best.Statement.{statement}

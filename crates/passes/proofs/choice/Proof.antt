@@ -1,6 +1,5 @@
 -- `passes::choice` meets its contract. Assumes nothing.
 use native.Mathlib.Omega.{arith}
-use borrow.Author.Needs.{needs}
 use borrow.Author.Tests.{not-true}
 use Rattle.passes.proofs.Choices.{pick-none, pick-best}
 use Rattle.passes.proofs.choice.Statement.{statement}

@@ -1,6 +1,5 @@
 -- `passes::choice_at` meets its contract. Assumes nothing.
 use native.Mathlib.Omega.{arith}
-use borrow.Author.Needs.{needs}
 use borrow.Author.Tests.{not-true, not-false}
 use Rattle.fits.specs.SwapFits.{SixBelow}
 use Rattle.passes.proofs.Choices.{known-corner, six-below, choice-barred, choice-bent, choice-told}

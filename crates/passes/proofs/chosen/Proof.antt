@@ -1,6 +1,4 @@
 -- `passes::chosen` meets its contract. Assumes nothing.
-use native.Mathlib.Omega.{arith}
-use borrow.Author.Needs.{needs}
 use Rattle.passes.proofs.Choices.{take-second, take-first, only-second, take-none}
 use Rattle.passes.proofs.chosen.Statement.{statement}
 use Rattle.passes.proofs.chosen.Tie as tie

@@ -1,6 +1,4 @@
 -- `passes::may_take` meets its contract. Assumes nothing.
-use native.Mathlib.Omega.{arith}
-use borrow.Author.Needs.{needs}
 use borrow.Author.Tests.{not-true, not-false}
 use Rattle.passes.proofs.Choices.{not-free, free-fits}
 use Rattle.passes.proofs.may_take.Statement.{statement}

@@ -1,6 +1,5 @@
 -- `passes::sweep` meets its contract. Assumes nothing.
 use native.Mathlib.Omega.{arith}
-use borrow.Author.Needs.{needs}
 use Prim.Native.Nat.{_*_, _-_}
 use Rattle.passes.proofs.Sweeps.{Sweeping, sweeping-start, sweeping-turn, sweeping-end}
 use Rattle.passes.proofs.sweep.Statement.{statement}

@@ -1,7 +1,6 @@
 -- `passes::try_pair` meets its contract. Assumes nothing.
 use native.Mathlib.Omega.{arith}
 use borrow.Author.Needs.{needs}
-use Rattle.swapping.specs.Made.{Swappable}
 use Rattle.passes.proofs.Choices.{known-corner}
 use Rattle.passes.proofs.Pairs.{step-none, swappable, step-made}
 use Rattle.passes.proofs.try_pair.Statement.{statement}

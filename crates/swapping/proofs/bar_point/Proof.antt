@@ -1,5 +1,4 @@
 -- `swapping::bar_point` meets its contract. Assumes nothing.
-use native.Mathlib.Omega.{arith}
 use borrow.Author.Needs.{needs}
 use Rattle.swapping.proofs.Bars.{incident-of}
 use Rattle.swapping.proofs.bar_point.Statement.{statement}

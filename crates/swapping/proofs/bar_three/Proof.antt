@@ -1,5 +1,4 @@
 -- `swapping::bar_three` meets its contract. Assumes nothing.
-use native.Mathlib.Omega.{arith}
 use borrow.Author.Needs.{needs}
 use Rattle.sheet.specs.Quads.{uses}
 use Rattle.swapping.proofs.Bars.{Marked, barring-kept, marked-then}

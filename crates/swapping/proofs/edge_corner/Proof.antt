@@ -1,5 +1,4 @@
 -- `swapping::edge_corner` meets its contract. Assumes nothing.
-use native.Mathlib.Omega.{arith}
 use borrow.Author.Needs.{needs}
 use Rattle.swapping.proofs.Diagonals.{corner-told}
 use Rattle.swapping.proofs.edge_corner.Statement.{statement}

@@ -1,5 +1,4 @@
 -- `swapping::gains` meets its contract. Assumes nothing.
-use native.Mathlib.Omega.{arith}
 use borrow.Author.Needs.{needs}
 use Rattle.swapping.proofs.Diagonals.{ends-below, gains-told}
 use Rattle.swapping.proofs.gains.Statement.{statement}

@@ -1,5 +1,4 @@
 -- `swapping::is_hexagon` meets its contract. Assumes nothing.
-use native.Mathlib.Omega.{arith}
 use borrow.Author.Needs.{needs}
 use Rattle.swapping.proofs.Hexagons.{hexagon-told}
 use Rattle.swapping.proofs.is_hexagon.Statement.{statement}

@@ -1,5 +1,4 @@
 -- `swapping::is_pair` meets its contract. Assumes nothing.
-use native.Mathlib.Omega.{arith}
 use borrow.Author.Needs.{needs}
 use Prim.Native.Nat.{_*_}
 use Rattle.lists.proofs.Regions.{lent-is}

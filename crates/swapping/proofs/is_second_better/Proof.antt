@@ -1,5 +1,4 @@
 -- `swapping::is_second_better` meets its contract. Assumes nothing.
-use native.Mathlib.Omega.{arith}
 use borrow.Author.Needs.{needs}
 use Rattle.swapping.proofs.Diagonals.{better-told}
 use Rattle.swapping.proofs.is_second_better.Statement.{statement}

@@ -1,5 +1,4 @@
 -- `swapping::make_swap` meets its contract. Assumes nothing.
-use native.Mathlib.Omega.{arith}
 use borrow.Author.Needs.{needs}
 use Rattle.swapping.proofs.Made.{put-ready, move-ready, barring-moved, swap-done}
 use Rattle.swapping.proofs.make_swap.Statement.{statement}

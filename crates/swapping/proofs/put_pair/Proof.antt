@@ -1,5 +1,4 @@
 -- `swapping::put_pair` meets its contract. Assumes nothing.
-use native.Mathlib.Omega.{arith}
 use borrow.Author.Needs.{needs}
 use Rattle.swapping.proofs.Hexagons.{pair-put}
 use Rattle.swapping.proofs.put_pair.Statement.{statement}

@@ -1,5 +1,4 @@
 -- `swapping::six_at` meets its contract. Assumes nothing.
-use native.Mathlib.Omega.{arith}
 use borrow.Author.Needs.{needs}
 use Rattle.swapping.proofs.Hexagons.{six-told}
 use Rattle.swapping.proofs.six_at.Statement.{statement}

@@ -1,6 +1,4 @@
 -- `swapping::six_differ` meets its contract. Assumes nothing.
-use native.Mathlib.Omega.{arith}
-use borrow.Author.Needs.{needs}
 use Rattle.swapping.proofs.Hexagons.{six-differ}
 use Rattle.swapping.proofs.six_differ.Statement.{statement}
 use Rattle.swapping.proofs.six_differ.Tie as tie

@@ -1,6 +1,4 @@
 -- `swapping::turned_by` meets its contract. Assumes nothing.
-use native.Mathlib.Omega.{arith}
-use borrow.Author.Needs.{needs}
 use Rattle.lists.proofs.Every.{tests}
 use Rattle.swapping.proofs.turned_by.Statement.{statement}
 use Rattle.swapping.proofs.turned_by.Tie as tie
