@@ -8,8 +8,7 @@ use lib.Ieee.{Float}
 use Rattle.points.specs.declared.Point.{Point}
 use Rattle.points.specs.Points.{pointAt}
 use Rattle.field.specs.declared.Field.{Field}
-use Rattle.band.specs.declared.Band.{Band}
-use Rattle.band.specs.Bands.{lengthOf, normalWith}
+use Rattle.band.specs.Bands.{normalWith}
 use Rattle.lists.proofs.Laws.{getD-tab}
 use Rattle.sheet.specs.Flat.{quadAt, quadsOf}
 use Rattle.sheet.specs.Sheet.{pointsOf}
@@ -19,7 +18,7 @@ use Rattle.fits.specs.declared.Four.{Four}
 use Rattle.fits.specs.declared.Six.{Six}
 use Rattle.fits.specs.declared.Held.{Held}
 use Rattle.fits.specs.Shaped.{pointIn, quadIs, fourAt, FourBelow}
-use Rattle.fits.specs.SwapFits.{hexCentre, lesserShape, heldOf, nextShape, nextFits, swapFits, hexOf, SixBelow}
+use Rattle.fits.specs.SwapFits.{hexCentre, lesserShape, heldOf, nextShape, nextFits, fitsWith, hexOf, SixBelow}
 use Rattle.fits.proofs.Shaped.{point-there, four-below, Agree, shape-same}
 
 -- what is held, from the calls that make it
@@ -65,15 +64,15 @@ unfolding quadsOf
 quad-there nq Q q h = getD-tab (quadAt Q) nq q noneQuad h
 
 -- `next_fits` of what `hold` gives is the rule
-pub swap-fits : (b : Band) (np nq : ℕ) (P : List Float) (Q labels : List ℕ) (i j : ℕ) (h : Six) (k : ℕ) (positive : Bool) → Cornered np nq Q → i < nq → j < nq → SixBelow np h
-    → nextFits (pointAt P) (hexOf h) k (heldOf (b .field) (lengthOf b) (pointAt P) (getD labels i 0) (quadAt Q i) (quadAt Q j) (hexOf h)) positive
-    ≡ swapFits b (pointsOf np P) labels (quadsOf nq Q) i j (hexOf h) k positive
-unfolding swapFits
-swap-fits b np nq P Q labels i j h k positive C hi hj B =
+pub swap-fits : (f : Field) (len : Float) (np nq : ℕ) (P : List Float) (Q labels : List ℕ) (i j : ℕ) (h : Six) (k : ℕ) (positive : Bool) → Cornered np nq Q → i < nq → j < nq → SixBelow np h
+    → nextFits (pointAt P) (hexOf h) k (heldOf f len (pointAt P) (getD labels i 0) (quadAt Q i) (quadAt Q j) (hexOf h)) positive
+    ≡ fitsWith f len (pointsOf np P) labels (quadsOf nq Q) i j (hexOf h) k positive
+unfolding fitsWith
+swap-fits f len np nq P Q labels i j h k positive C hi hj B =
     let same = point-there np P in
     rw (
       quad-there nq Q i hi,
       quad-there nq Q j hj,
-      held-same (pointAt P) (pointIn (pointsOf np P)) same h B (b .field) (lengthOf b) (getD labels i 0) (fourAt Q i) (fourAt Q j) (four-below Q i C hi) (four-below Q j C hj),
+      held-same (pointAt P) (pointIn (pointsOf np P)) same h B f len (getD labels i 0) (fourAt Q i) (fourAt Q j) (four-below Q i C hi) (four-below Q j C hj),
     )
     (next-same (pointAt P) (pointIn (pointsOf np P)) same h B k _ positive)

@@ -51,10 +51,14 @@ shapeFits next old positive = (positive || not (lt next (old ⊕ leastRise))) &&
 unfoldable pub nextFits : (ℕ → Point) → Hex → ℕ → Held → Bool → Bool
 nextFits at h k held positive = shapeFits (nextShape at h k (held .normal)) (held .old) positive
 
--- the part of the swaps' rule that reads the points: the quads i and j as they stand, their six corners, the diagonal k, and whether the gain is more than 0
+-- the part of the swaps' rule that reads the points, by a field and the length of its band: the quads i and j as they stand, their six corners, the diagonal k, and whether the gain is more than 0
+unfoldable pub fitsWith : Field → Float → List Point → List ℕ → Fits
+fitsWith f len ps labels S i j h k positive =
+    nextFits (pointIn ps) h k (heldOf f len (pointIn ps) (getD labels i 0) (getD S i noneQuad) (getD S j noneQuad) h) positive
+
+-- the same by the band
 unfoldable pub swapFits : Band → List Point → List ℕ → Fits
-swapFits b ps labels S i j h k positive =
-    nextFits (pointIn ps) h k (heldOf (b .field) (lengthOf b) (pointIn ps) (getD labels i 0) (getD S i noneQuad) (getD S j noneQuad) h) positive
+swapFits b ps labels = fitsWith (b .field) (lengthOf b) ps labels
 
 -- ---- what the functions are handed
 
