@@ -132,7 +132,17 @@ pub fn regularize(
     ensures { λ _. ⌜ now (work .exit) ≡ replicate (length (now (work .entry))) 0 ⌝ }
     ensures { λ _. ⌜ now (floats .exit) ≡ replicate (length (now (floats .entry))) zeroF ⌝ }
 {
-    let r = clean_or_refusal(b, passes, GAIN, c, points, quads, labels, work, floats.len());
+    let r = clean_or_refusal(
+        b,
+        passes,
+        GAIN,
+        c,
+        points,
+        quads,
+        labels,
+        work,
+        floats.len(),
+    );
     results::clear_work(work, floats);
     r
 }
@@ -152,7 +162,17 @@ pub fn improve_layout(
     ensures { λ _. ⌜ now (work .exit) ≡ replicate (length (now (work .entry))) 0 ⌝ }
     ensures { λ _. ⌜ now (floats .exit) ≡ replicate (length (now (floats .entry))) zeroF ⌝ }
 {
-    let r = clean_or_refusal(b, passes, NEUTRAL, c, points, quads, labels, work, floats.len());
+    let r = clean_or_refusal(
+        b,
+        passes,
+        NEUTRAL,
+        c,
+        points,
+        quads,
+        labels,
+        work,
+        floats.len(),
+    );
     results::clear_work(work, floats);
     r
 }

@@ -1,4 +1,4 @@
-// One pass of swaps: each edge of two quads is tried once, in the order of the edges of the pass's start. What a swap needs stands in regions of one work slice.
+// What a swap reads and writes: the quads, and in regions of one work slice the edge map of the pass's start, the valences and the barred quads.
 
 use fits::Six;
 ghost use mathlib.Core.Path.{_≡_};
@@ -17,21 +17,26 @@ ghost use Rattle.swapping.specs.Slices.{wasAt, edgeStartsAt, edgesAt, ma
 ghost use Rattle.swapping.specs.Swapped.{sixAt, sixApart, isHexagon, turned, openIn, gainsIn, betterIn, withQuad, withPair, moved, Movable, markIf, usesThree, usesSix};
 ghost use Rattle.swapping.specs.Made.{Swappable, Made};
 
-// Where the regions begin in the work slice, in numbers of points and quads together: the quads of the pass's start, work, the corners by edge and by point with their starts, the valences, the marks of barred quads.
+// Where the regions begin in the work slice, in units of all points and quads together. The quads of the pass's start.
 const WAS: usize = 1;
 
-const FIRST: usize = 5;
+// Where the sorts work.
+const WORK: usize = 5;
 
+// The corners by edge, and where those of each smaller point begin.
 const EDGE_STARTS: usize = 9;
 
 const EDGES: usize = 11;
 
+// The corners by point, and where those of each point begin.
 const POINT_STARTS: usize = 15;
 
 const POINTS: usize = 17;
 
+// The valences now.
 const VALENCES: usize = 21;
 
+// The marks of barred quads.
 const MARKS: usize = 22;
 
 // An edge of exactly two corners begins at place i in the order of the edges.
@@ -235,7 +240,16 @@ fn bar_point(np: usize, nq: usize, v: usize, w: &mut [u32])
     ensures { λ _. ⌜ Kept (Out (marksAt np nq) nq) (now (w .entry)) (now (w .exit)) ⌝ }
 {
     let n = np + nq;
-    incidence::bar_around(np, nq, WAS * n, v, POINT_STARTS * n, POINTS * n, MARKS * n, w);
+    incidence::bar_around(
+        np,
+        nq,
+        WAS * n,
+        v,
+        POINT_STARTS * n,
+        POINTS * n,
+        MARKS * n,
+        w,
+    );
 }
 
 // Bars the quads at three points.
@@ -270,8 +284,8 @@ pub fn begin_pass(np: usize, nq: usize, quads: &[u32], w: &mut [u32])
     let n = np + nq;
     let marks = MARKS * n;
     lookup::copy_quads(nq, quads, WAS * n, w);
-    lookup::edge_map(np, nq, quads, FIRST * n, EDGE_STARTS * n, EDGES * n, w);
-    incidence::quads_at(np, nq, quads, FIRST * n, POINT_STARTS * n, POINTS * n, w);
+    lookup::edge_map(np, nq, quads, WORK * n, EDGE_STARTS * n, EDGES * n, w);
+    incidence::quads_at(np, nq, quads, WORK * n, POINT_STARTS * n, POINTS * n, w);
     incidence::valences(np, nq, quads, POINT_STARTS * n, VALENCES * n, w);
     lists::clear(&mut w[marks..marks + nq]);
 }

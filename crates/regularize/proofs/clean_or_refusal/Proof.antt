@@ -40,8 +40,7 @@ slice-aggregate-constraints c = let a = c .before .before .before .before .befor
 
 constraints-requires : tie.Need-constraints-requires
 constraints-requires c κs = let a = c .before .before .before .before .before .before .before .before .before .args in
-    let e = lent-accepted (c .before .before) in
-    (
+    let e = lent-accepted (c .before .before) in (
       sheet-fits (a .least) (a .b) (a .passes) (a .c) (a .points .now) (a .quads .now) (a .labels .now) (length (a .w .now)) (a .floats) e,
       length-take-le (a .c .points) (a .w .now) (points-fit (a .least) (a .b) (a .passes) (a .c) (a .points .now) (a .quads .now) (a .labels .now) (length (a .w .now)) (a .floats) e),
     )

@@ -7,10 +7,10 @@ use Rattle.swapping.proofs.bar_six.Statement.{statement}
 use Rattle.swapping.proofs.bar_six.Tie as tie
 
 bar-three-requires : tie.Need-bar-three-requires
-bar-three-requires c κs = let B = c .before .before .pre .1 in (c .before .before .pre .0, (B .h0<, B .h1<, B .h2<))
+bar-three-requires c κs = let B = c .before .before .pre .1 in (c .before .before .pre .0, (omega arith, omega arith, omega arith))
 
 bar-three-requires-2 : tie.Need-bar-three-requires-2
-bar-three-requires-2 c κs = let B = c .before .before .before .before .before .before .pre .1 in (barring-kept (c .before .before .before .before .before .before .pre .0) (c .before .before .before .bar-three .ensures .1), (B .h3<, B .h4<, B .h5<))
+bar-three-requires-2 c κs = let B = c .before .before .before .before .before .before .pre .1 in (barring-kept (c .before .before .before .before .before .before .pre .0) (c .before .before .before .bar-three .ensures .1), (omega arith, omega arith, omega arith))
 
 same-length : tie.Need-same-length
 same-length c = search needs

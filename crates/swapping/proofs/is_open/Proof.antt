@@ -37,7 +37,7 @@ mul-is-edge-3 : tie.Need-mul-is-edge-3
 mul-is-edge-3 c = search needs
 
 is-edge-requires : tie.Need-is-edge-requires
-is-edge-requires c κs = let s = c .before .before .before .before .before in let E = ends-below (s .args .k) _ (s .pre .1 .1 .0) (c .before .before .before .turned-by .ensures) in (s .pre .0, (E .0, E .1))
+is-edge-requires c κs = let s = c .before .before .before .before .before in let E = ends-below (s .args .k) _ (s .pre .1 .1 .0) (c .before .before .before .turned-by .ensures) in (s .pre .0, (omega (arith, E .0, E .1), omega (arith, E .0, E .1)))
 
 returns-2 : tie.Need-returns-2
 returns-2 c = let a = c .before .before .before .before .before .before .args in
