@@ -59,7 +59,7 @@ module _ {np : ℕ} (f g : ℕ → Point) (same : Agree np f g) where
     next-same k x positive = rw (next-shape-same k (x .normal))
 
 -- quad q of a flat list
-quad-there : (nq : ℕ) (Q : List ℕ) (q : ℕ) → q < nq → getD (quadsOf nq Q) q noneQuad ≡ quadAt Q q
+pub quad-there : (nq : ℕ) (Q : List ℕ) (q : ℕ) → q < nq → getD (quadsOf nq Q) q noneQuad ≡ quadAt Q q
 unfolding quadsOf
 quad-there nq Q q h = getD-tab (quadAt Q) nq q noneQuad h
 

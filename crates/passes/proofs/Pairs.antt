@@ -19,10 +19,11 @@ use Rattle.swaps.specs.Swaps.{Fits, State, turn, noneQuad, swapOne, swapTwo, si
 use Rattle.swaps.proofs.Swap.{corners-turn}
 use Rattle.fits.specs.declared.Six.{Six}
 use Rattle.fits.specs.SwapFits.{hexOf}
+use Rattle.fits.proofs.SwapFits.{quad-there}
 use Rattle.swapping.specs.Slices.{startOf, barsOf, stateOf}
 use Rattle.swapping.specs.Swapped.{across, quadFrom, sixAt, sixApart, isHexagon}
 use Rattle.swapping.specs.Made.{Swappable, swapBy, meetsSix, Made}
-use Rattle.swapping.proofs.Bars.{getD-quads, getD-bars}
+use Rattle.swapping.proofs.Bars.{getD-bars}
 use Rattle.passes.specs.declared.Trial.{Trial}
 use Rattle.passes.specs.Choice.{fitsIn, diagonal, pickOf, freeIn, choiceIn, Trying, Stepped, tryIn}
 use Rattle.passes.proofs.Choices.{six-below}
@@ -103,7 +104,7 @@ module _ {np nq : ℕ} {t : Trial} {P : List Float} {Q labels w : List ℕ} (T :
       go false = refl
 
   read : (e : ℕ) → e < 4 * nq → turn (e % 4) (getD S (e / 4) noneQuad) ≡ quadFrom Q e
-  read e l = ap (turn (e % 4)) (getD-quads nq Q (e / 4) (omega arith)) ∙ turn-from Q e
+  read e l = ap (turn (e % 4)) (quad-there nq Q (e / 4) (omega arith)) ∙ turn-from Q e
 
   label-is : (i : ℕ) → i < nq → getD (take nq labels) i 8 ≡ getD labels i 0
   label-is i l = getD-take nq labels i 8 l ∙ any-default labels i 8 0 (omega (arith, T .labels≤))

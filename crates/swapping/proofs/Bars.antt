@@ -18,6 +18,7 @@ use Rattle.incidence.specs.Marks.{Incident}
 use Rattle.lookup.proofs.Maps.{standing-kept}
 use Rattle.sheet.proofs.Flat.{length-quads}
 use Rattle.swaps.specs.Swaps.{barList, noneQuad}
+use Rattle.fits.proofs.SwapFits.{quad-there}
 use Rattle.swaps.proofs.Sweep.{bar-length}
 use Rattle.swapping.specs.Slices.{wasAt, pointStartsAt, pointsAt, marksAt, startOf, isBarred, barsOf, Room, Barring}
 use Rattle.swapping.specs.Swapped.{markIf}
@@ -84,10 +85,6 @@ getD-bar (x ∷ S) [] f q e h = absurd (omega arith)
 getD-bar (x ∷ S) (b ∷ bs) f zero e h = refl
 getD-bar (x ∷ S) (b ∷ bs) f (suc q) e h = getD-bar S bs f q (omega arith) (omega arith)
 
-pub getD-quads : (nq : ℕ) (Q : List ℕ) (q : ℕ) → q < nq → getD (quadsOf nq Q) q noneQuad ≡ quadAt Q q
-unfolding quadsOf
-getD-quads nq Q q h = getD-tab (quadAt Q) nq q noneQuad h
-
 pub getD-bars : (np nq : ℕ) (w : List ℕ) (q : ℕ) → q < nq → getD (barsOf np nq w) q true ≡ isBarred np nq w q
 unfolding barsOf
 getD-bars np nq w q h = getD-tab (isBarred np nq w) nq q true h
@@ -108,7 +105,7 @@ bars-are {np} {nq} {v} {w} f t R M e =
     let a : getD w (marksAt np nq + q) 0 ≡ markIf f (startOf np nq v) (part (marksAt np nq) nq v) q =
     part-get 0 q (M .marks) h ∙ getD-tab (markIf f (startOf np nq v) (part (marksAt np nq) nq v)) nq q 0 h in
     getD-bar S (barsOf np nq v) t q bl (omega arith)
-    ∙ rw (getD-bars np nq v q h, getD-quads nq (startOf np nq v) q h, e (quadAt (startOf np nq v) q), a, ← part-get 0 q P h) (after (ltb 0 (f (quadAt (startOf np nq v) q))) _)))
+    ∙ rw (getD-bars np nq v q h, quad-there nq (startOf np nq v) q h, e (quadAt (startOf np nq v) q), a, ← part-get 0 q P h) (after (ltb 0 (f (quadAt (startOf np nq v) q))) _)))
   where
     after : (b : Bool) (x : ℕ) → (not (eqb x 0) || b) ≡ not (eqb (cond b 1 x) 0)
     after true x = or-true (not (eqb x 0))

@@ -25,11 +25,12 @@ use Rattle.swaps.proofs.SwapPass.{two-quads}
 use Rattle.swaps.proofs.Sweep.{six-of}
 use Rattle.fits.specs.declared.Six as six
 use Rattle.fits.specs.SwapFits.{SixBelow}
+use Rattle.fits.proofs.SwapFits.{quad-there}
 use Rattle.swapping.specs.Slices.{wasAt, valencesAt, marksAt, startOf, isBarred, barsOf, Barring, Passing}
 use Rattle.swapping.specs.Swapped.{turned, withQuad, withPair, less, more, moved, Movable, markIf, usesSix}
 use Rattle.swapping.specs.Made.{Swappable, swapBy, meetsSix, Made}
 use Rattle.swapping.proofs.Moves.{second-is, third-is, last-is}
-use Rattle.swapping.proofs.Bars.{OnlyMarks, Marked, room-kept, barring-kept, bars-are, getD-quads}
+use Rattle.swapping.proofs.Bars.{OnlyMarks, Marked, room-kept, barring-kept, bars-are}
 
 -- ---- the quads
 
@@ -194,10 +195,10 @@ module _ {np nq : ℕ} {Q w : List ℕ} {h : six.Six} {i j : ℕ} (P : Passing n
   differ = six-of (h .h0) (h .h1) (h .h2) (h .h3) (h .h4) (h .h5) (X .differ)
 
   here-i : (f : ℕ → ℕ → ℕ → ℕ) → corners f (getD S i noneQuad) ≡ corners f (quad (h .h0) (h .h3) (h .h4) (h .h5))
-  here-i f = ap (corners f) (getD-quads nq Q i (X .i<)) ∙ X .first f
+  here-i f = ap (corners f) (quad-there nq Q i (X .i<)) ∙ X .first f
 
   here-j : (f : ℕ → ℕ → ℕ → ℕ) → corners f (getD S j noneQuad) ≡ corners f (quad (h .h3) (h .h0) (h .h1) (h .h2))
-  here-j f = ap (corners f) (getD-quads nq Q j (X .j<)) ∙ X .second f
+  here-j f = ap (corners f) (quad-there nq Q j (X .j<)) ∙ X .second f
 
   exchange : (k : ℕ) → Exchange (λ f. total f S) (λ f. total f (swapBy k S i j h)) (h .h0) (h .h3) (endC k) (endD k)
   exchange k = go (eqb k 1)
