@@ -1,3 +1,4 @@
--- `Exports` has the laws of `specs/Exports.antt`, `Assessments` those of `specs/Assessments.antt`.
+-- `Exports`, `Assessments` and `Cleanings` have the laws of the definitions of the same name.
 pub mod Exports
 pub mod Assessments
+pub mod Cleanings

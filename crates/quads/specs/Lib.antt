@@ -1,2 +1,3 @@
 pub mod Exports
 pub mod Assessments
+pub mod Cleanings

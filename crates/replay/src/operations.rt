@@ -98,6 +98,58 @@ fn refine(bytes: &[u8], n: Sizes, number: u64) -> bool
         )
 }
 
+// Whether `subdivide` answers as the record says; k holds the band.
+fn subdivide(bytes: &[u8], n: Sizes, k: &[f64], number: u64) -> bool
+    requires { ⌜ Small n ⌝ }
+{
+    if k.len() < 18 {
+        return false;
+    }
+    let mut points = [0.0; 192];
+    let mut quads = [0u32; 256];
+    let mut labels = [0u8; 64];
+    sheets::load(bytes, n, &mut points, &mut quads, &mut labels);
+    let mut new_points = [0.0; 1152];
+    let mut new_quads = [0u32; 1024];
+    let mut new_labels = [0u8; 256];
+    let mut work = [0u32; 8192];
+    let mut floats = [0.0; 2048];
+    let mut answer = [0u64; 4];
+    let got = quads::quads_subdivide(
+        &points,
+        &quads,
+        &labels,
+        n.points,
+        n.quads,
+        n.labels,
+        numbers::byte_at(bytes, 7) as u32,
+        &k[0..10],
+        &k[10..16],
+        k[16],
+        k[17],
+        &mut new_points,
+        &mut new_quads,
+        &mut new_labels,
+        &mut work,
+        &mut floats,
+        &mut answer,
+    );
+    if got != 0 {
+        return got as u64 == number;
+    }
+    number == 0
+        && same_made(
+            bytes,
+            n,
+            answer[1],
+            answer[2],
+            answer[3],
+            &new_points,
+            &new_quads,
+            &new_labels,
+        )
+}
+
 // Whether eight counts, and then tight and valid, are those of a record's result from a place on.
 fn same_tally(bytes: &[u8], at: usize, answer: &[u64; 10]) -> bool
     requires { ⌜ at ≤ 4000 ⌝ }
@@ -179,6 +231,7 @@ fn agrees_on(bytes: &[u8], n: Sizes, operation: u64, number: u64) -> bool
     numbers::load_floats(bytes, BAND, &mut k);
     match operation {
         1 => refine(bytes, n, number),
+        2 => subdivide(bytes, n, &k, number),
         8 => quality(bytes, n, &k, number),
         _ => false,
     }
