@@ -7,6 +7,9 @@ use oracle::quads::Quality;
 /// All that an operation is lent; what it writes is filled with what must be overwritten.
 pub struct Lent {
     sheet: Flat,
+    /// The sheet as it came.
+    came: Flat,
+    passes: usize,
     band: FlatBand,
     result: Flat,
     work: Work,
@@ -17,13 +20,15 @@ pub struct Lent {
 impl Lent {
     /// What the call lends; a finer sheet has room for what it can be and some more.
     pub fn of(call: &Call) -> Lent {
-        let sheet = Flat::of(&call.sheet);
+        let sheet = Flat::with_tails(&call.sheet);
         let [points, quads, _] = sheet.counts;
         let finer = matches!(call.operation, Operation::Refine | Operation::Subdivide);
         let room = if finer { [points + 5 * quads + 1, 4 * quads + 1, 4 * quads + 1] } else { [0; 3] };
         Lent {
             work: Work::of(sheet.counts),
+            came: sheet.clone(),
             sheet,
+            passes: call.argument as usize,
             band: FlatBand::of(&call.band),
             result: Flat::room(room),
             answer: [u64::MAX; 10],
@@ -38,6 +43,8 @@ impl Lent {
             match operation {
                 Operation::Refine => Some(call!(self.quads_refine [] sheet made work)),
                 Operation::Subdivide => Some(call!(self.quads_subdivide [] sheet band made work)),
+                Operation::Regularize => Some(call!(self.quads_regularize [] sheet band passes work)),
+                Operation::ImproveLayout => Some(call!(self.quads_improve_layout [] sheet band passes work)),
                 Operation::Quality => Some(call!(self.quads_quality [] sheet band work measures)),
                 _ => None,
             }
@@ -48,6 +55,19 @@ impl Lent {
     fn made(&self) -> Option<Answer> {
         let counts = [self.answer[1], self.answer[2], self.answer[3]].map(|n| n as usize);
         Some(Answer::sheet(self.answer[0] as usize, &self.result.sheet(counts)?))
+    }
+
+    /// The sheet whose quads an operation altered; none if anything else is not as it came, or something is left behind the quads.
+    fn swapped(&self) -> Option<Answer> {
+        let Flat { points, labels, counts, .. } = self.came.clone();
+        let mut left = self.sheet.clone();
+        (left.points, left.labels) = (points, labels);
+        if !left.same(&self.sheet) || self.answer[1..4] != counts.map(|n| n as u64) {
+            return None;
+        }
+        left.points.truncate(3 * counts[0]);
+        left.labels.truncate(counts[2]);
+        Some(Answer::sheet(self.answer[0] as usize, &left.sheet(counts)?))
     }
 
     /// The measures that `quality` wrote: eight counts, tight and valid, and four floats.
@@ -83,8 +103,11 @@ impl Lent {
         match (number, operation) {
             _ if !self.work.is_zero() => None,
             (0, Operation::Quality) => self.measured(),
+            (0, Operation::Regularize | Operation::ImproveLayout) => self.swapped(),
             (0, _) => self.made(),
-            (number, _) => self.is_bare(operation).then(|| Answer::refused(number as u8)),
+            (number, _) => {
+                (self.sheet.same(&self.came) && self.is_bare(operation)).then(|| Answer::refused(number as u8))
+            }
         }
     }
 }

@@ -24,7 +24,8 @@ const LEAVES: [(Operation, usize); 6] = [
 const SHEETS: usize = 60;
 
 /// How many random calls of each operation on a sheet the sample holds.
-const OPERATIONS: [(Operation, usize); 2] = [(Operation::Refine, 40), (Operation::Quality, 60)];
+const OPERATIONS: [(Operation, usize); 3] =
+    [(Operation::Refine, 40), (Operation::Subdivide, 80), (Operation::Quality, 60)];
 
 /// The roots of document 01, of zeros, of limits and of what has no root.
 const ROOTS: [f64; 20] = [
@@ -194,8 +195,10 @@ mod tests {
         let tests = [(Validate, 0), (Validate, 1)];
         let sheet = [0, 1, 5, 6, 7].map(|number| (Constraints, number));
         let refine = [0, 5, 6].map(|number| (Refine, number));
+        let subdivide = [0, 1, 5, 6, 7, 8, 9].map(|number| (Subdivide, number));
         let quality = [0, 1, 5, 6, 7, 11].map(|number| (Quality, number));
-        let expected = leaf.into_iter().chain(tests).chain(sheet).chain(refine).chain(quality).collect();
+        let expected =
+            leaf.into_iter().chain(tests).chain(sheet).chain(refine).chain(subdivide).chain(quality).collect();
         assert_eq!(seen(&records(SEED)), expected);
     }
 

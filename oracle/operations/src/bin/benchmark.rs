@@ -10,7 +10,13 @@ use std::process::ExitCode;
 use std::time::Instant;
 
 /// The operations that are timed, each with its number of passes.
-const OPERATIONS: [(Operation, u64); 3] = [(Operation::Refine, 0), (Operation::Subdivide, 0), (Operation::Quality, 0)];
+const OPERATIONS: [(Operation, u64); 5] = [
+    (Operation::Refine, 0),
+    (Operation::Subdivide, 0),
+    (Operation::Regularize, 1),
+    (Operation::ImproveLayout, 1),
+    (Operation::Quality, 0),
+];
 
 /// A shell, and a shell that the box cuts.
 const BANDS: [(&str, BandNumbers); 2] = [
@@ -31,11 +37,11 @@ fn milliseconds<T>(run: impl FnOnce() -> T) -> f64 {
     start.elapsed().as_secs_f64() * 1e3
 }
 
-/// The best times of the library and of the original, in turns until both have run for a while.
+/// The best times of the library and of the original, in turns until both have run for two seconds.
 fn best(call: &Call) -> (f64, f64) {
     let (mut ours, mut theirs, mut total) = (f64::INFINITY, f64::INFINITY, 0.0);
     let mut turns = 0;
-    while turns < 3 || (turns < 40 && total < 1500.0) {
+    while turns == 0 || (turns < 40 && total < 2000.0) {
         let mut lent = Lent::of(call);
         let (a, b) = (milliseconds(|| lent.run(call.operation)), milliseconds(|| original(call)));
         (ours, theirs) = (ours.min(a), theirs.min(b));

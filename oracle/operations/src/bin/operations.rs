@@ -6,7 +6,13 @@ use oracle::{arguments, driver};
 use std::process::ExitCode;
 
 /// The operations that are compared, each with its share of 100 calls.
-const SHARES: [(Operation, u64); 3] = [(Operation::Refine, 20), (Operation::Subdivide, 40), (Operation::Quality, 40)];
+const SHARES: [(Operation, u64); 5] = [
+    (Operation::Refine, 10),
+    (Operation::Subdivide, 25),
+    (Operation::Regularize, 20),
+    (Operation::ImproveLayout, 20),
+    (Operation::Quality, 25),
+];
 
 fn main() -> ExitCode {
     match (arguments::number(1, 200_000), arguments::number(2, 1)) {
