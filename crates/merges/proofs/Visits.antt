@@ -104,9 +104,9 @@ module _ (n : ℕ) (S0 : List Quad) (labels : List ℕ) (fits : MergeFits) (posi
   unfolding Used
   mergeable st f a b c d face from e t ua ub uc ud y = go (and8 _ _ _ _ _ _ _ _ y)
     where
-      go : (masksJoin n S0 labels fits position a c ≡ true) × (leb 4 (valence S0 b) ≡ true) × (leb 4 (valence S0 d) ≡ true) × (shareOnly n S0 labels fits position a b c d ≡ true)
-          × (noFurther n S0 labels fits position f a c ≡ true) × (nearFree n S0 labels fits position (st .used) a c ≡ true)
-          × (leb (sumAfter n S0 labels fits position a b c d) (sumBefore n S0 labels fits position a b c d) ≡ true) × (fits (st .points) (st .slots) f a c ≡ true)
+      go : (masksJoin n S0 labels a c ≡ true) × (leb 4 (valence S0 b) ≡ true) × (leb 4 (valence S0 d) ≡ true) × (shareOnly n S0 labels a b c d ≡ true)
+          × (noFurther n S0 labels f a c ≡ true) × (nearFree n S0 labels (st .used) a c ≡ true)
+          × (leb (sumAfter n S0 labels a b c d) (sumBefore n S0 labels a b c d) ≡ true) × (fits (st .points) (st .slots) f a c ≡ true)
           → Mergeable S0 labels (st .slots) (λ v. getD (st .used) v true ≡ true) f a b c d
       go (mj, fb, fd, sh, nm, un, ga, fi) = record {
         face = face;
@@ -198,11 +198,11 @@ module _ (n : ℕ) (S0 : List Quad) (labels : List ℕ) (fits : MergeFits) (posi
       x2 = mergedState n S0 labels fits position st f q1 q3
 
       tested : ((not (getD (st .used) q0 true) && not (getD (st .used) q1 true) && not (getD (st .used) q2 true) && not (getD (st .used) q3 true)) ≡ true)
-          × (choose b1 b2 (ltb (sumBefore n S0 labels fits position q0 q1 q2 q3 - sumAfter n S0 labels fits position q0 q1 q2 q3) (sumBefore n S0 labels fits position q1 q2 q3 q0 - sumAfter n S0 labels fits position q1 q2 q3 q0)) x1 x2 ≡ some t) → MStep st t
+          × (choose b1 b2 (ltb (sumBefore n S0 labels q0 q1 q2 q3 - sumAfter n S0 labels q0 q1 q2 q3) (sumBefore n S0 labels q1 q2 q3 q0 - sumAfter n S0 labels q1 q2 q3 q0)) x1 x2 ≡ some t) → MStep st t
       tested (a, c) = free (and4 _ _ _ _ a)
         where
           free : (not (getD (st .used) q0 true) ≡ true) × (not (getD (st .used) q1 true) ≡ true) × (not (getD (st .used) q2 true) ≡ true) × (not (getD (st .used) q3 true) ≡ true) → MStep st t
-          free (u0, u1, u2, u3) = chosen (choose-some b1 b2 (ltb (sumBefore n S0 labels fits position q0 q1 q2 q3 - sumAfter n S0 labels fits position q0 q1 q2 q3) (sumBefore n S0 labels fits position q1 q2 q3 q0 - sumAfter n S0 labels fits position q1 q2 q3 q0)) x1 x2 t c)
+          free (u0, u1, u2, u3) = chosen (choose-some b1 b2 (ltb (sumBefore n S0 labels q0 q1 q2 q3 - sumAfter n S0 labels q0 q1 q2 q3) (sumBefore n S0 labels q1 q2 q3 q0 - sumAfter n S0 labels q1 q2 q3 q0)) x1 x2 t c)
             where
               chosen : ((b1 ≡ true) × (x1 ≡ t)) ⊎ ((b2 ≡ true) × (x2 ≡ t)) → MStep st t
               chosen (inl (y, p)) = subst (λ u. MStep st u) p (take-merge st f q0 q1 q2 q3 (quad q0 q1 q2 q3) 0 q refl u0 u1 u2 u3 y)
