@@ -57,7 +57,7 @@ mark-more (b ∷ us) f i (suc v) h = mark-more us f (suc i) v (shift h)
     shift (inr h) = inr (ap f (omega arith) ∙ h)
 
 -- a corner of a quad at a or c is near
-near-of : (S : List Quad) (a c v j : ℕ) → j < length S → Has (getD S j noneQuad) a ⊎ Has (getD S j noneQuad) c → Has (getD S j noneQuad) v → near S a c v ≡ true
+pub near-of : (S : List Quad) (a c v j : ℕ) → j < length S → Has (getD S j noneQuad) a ⊎ Has (getD S j noneQuad) c → Has (getD S j noneQuad) v → near S a c v ≡ true
 near-of S a c v j l h hv = lt-ltb 0 (sum (λ q. cond (hasCorner q a || hasCorner q c) (uses v q) 0) S) (omega (arith, sum-at (λ q. cond (hasCorner q a || hasCorner q c) (uses v q) 0) S j noneQuad l, ap (λ b. cond b (uses v (getD S j noneQuad)) 0) (at-either h), hv))
   where
     at-either : Has (getD S j noneQuad) a ⊎ Has (getD S j noneQuad) c → (hasCorner (getD S j noneQuad) a || hasCorner (getD S j noneQuad) c) ≡ true
