@@ -14,11 +14,11 @@ sq-low k h = let e : k - 4 ≡ 0 = omega arith in rw e (omega arith)
 pub sq-high : (k : ℕ) → 4 ≤ k → (k - 4) * (k - 4) ≡ sq k
 sq-high k h = let e : 4 - k ≡ 0 = omega arith in rw e (omega arith)
 
--- the squares of numbers of at most 2 ^ 23
-pub square-le : (d : ℕ) → d ≤ 8388608 → d * d ≤ 70368744177664
+-- the squares of numbers of at most 2 ^ 24
+pub square-le : (d : ℕ) → d ≤ 16777216 → d * d ≤ 281474976710656
 square-le d h = mul-le-mul h h
 
-pub sq-le : (k : ℕ) → k ≤ 8388608 → sq k ≤ 70368744177664
+pub sq-le : (k : ℕ) → k ≤ 16777216 → sq k ≤ 281474976710656
 sq-le k h = ⊎-elim
     (λ (l : k < 4). rw (← sq-low k l) (square-le (4 - k) (omega arith)))
     (λ (l : 4 ≤ k). rw (← sq-high k l) (square-le (k - 4) (omega arith)))
@@ -26,23 +26,23 @@ sq-le k h = ⊎-elim
 
 -- the numbers of quads after a merge, and what the sums over them are at most
 pub record After (a b c d : ℕ) : Type 0 where
-  pub ac : a + c - 2 ≤ 8388608
-  pub b≤ : b - 1 ≤ 8388608
-  pub d≤ : d - 1 ≤ 8388608
-  pub ac² : sq (a + c - 2) ≤ 70368744177664
-  pub b² : sq (b - 1) ≤ 70368744177664
-  pub d² : sq (d - 1) ≤ 70368744177664
+  pub ac : a + c - 2 ≤ 16777216
+  pub b≤ : b - 1 ≤ 16777216
+  pub d≤ : d - 1 ≤ 16777216
+  pub ac² : sq (a + c - 2) ≤ 281474976710656
+  pub b² : sq (b - 1) ≤ 281474976710656
+  pub d² : sq (d - 1) ≤ 281474976710656
 
-pub after : (a b c d : ℕ) → a + b + c + d ≤ 8388608 → After a b c d
+pub after : (a b c d : ℕ) → a + b + c + d ≤ 16777216 → After a b c d
 after a b c d h =
-    let x : a + c - 2 ≤ 8388608 = omega arith in
-    let y : b - 1 ≤ 8388608 = omega arith in
-    let z : d - 1 ≤ 8388608 = omega arith in
+    let x : a + c - 2 ≤ 16777216 = omega arith in
+    let y : b - 1 ≤ 16777216 = omega arith in
+    let z : d - 1 ≤ 16777216 = omega arith in
     record { ac = x; b≤ = y; d≤ = z; ac² = sq-le (a + c - 2) x; b² = sq-le (b - 1) y; d² = sq-le (d - 1) z }
 
 -- two and three of them together
-pub two-fit : {x y : ℕ} → x ≤ 70368744177664 → y ≤ 70368744177664 → x + y < 18446744073709551616
+pub two-fit : {x y : ℕ} → x ≤ 281474976710656 → y ≤ 281474976710656 → x + y < 18446744073709551616
 two-fit p q = omega arith
 
-pub three-fit : {x y z : ℕ} → x ≤ 70368744177664 → y ≤ 70368744177664 → z ≤ 70368744177664 → x + (y + z) < 18446744073709551616
+pub three-fit : {x y z : ℕ} → x ≤ 281474976710656 → y ≤ 281474976710656 → z ≤ 281474976710656 → x + (y + z) < 18446744073709551616
 three-fit p q r = omega arith

@@ -5,7 +5,8 @@ use mathlib.Core.List.{List}
 use lib.Dec.{eqb, leb}
 use lib.ListN.{length, getD}
 use Rattle.lists.specs.Every.{every}
-use Rattle.sheet.specs.Flat.{corner, quadAt, from, to, before}
+use Rattle.sheet.specs.Flat.{corner, quadAt, quadsOf, to, before}
+use Rattle.sheet.specs.Edges.{pointCorners}
 use Rattle.sheet.specs.Quads.{Quad, isEdge}
 use Rattle.swaps.specs.Claims.{sq}
 use Rattle.merges.specs.Coarse.{hasCorner}
@@ -61,9 +62,25 @@ notFurther cs Q f v t = eqb (getD cs t 0 / 4) f || not (hasCorner (quadAt Q (get
 abbrev pub apartFrom : List Quad → ℕ → ℕ → ℕ → ℕ → Bool
 apartFrom S b d v x = eqb x b || eqb x d || not (isEdge S v x)
 
+-- both neighbours at corner c are
+abbrev pub sharesAt : List ℕ → List Quad → ℕ → ℕ → ℕ → ℕ → Bool
+sharesAt Q S b d v c = apartFrom S b d v (before Q c) && apartFrom S b d v (to Q c)
+
 -- both neighbours at corner t of a list are
 abbrev pub sharesNone : List ℕ → List ℕ → List Quad → ℕ → ℕ → ℕ → ℕ → Bool
-sharesNone cs Q S b d v t = apartFrom S b d v (before Q (getD cs t 0)) && apartFrom S b d v (to Q (getD cs t 0))
+sharesNone cs Q S b d v t = sharesAt Q S b d v (getD cs t 0)
+
+-- no quad at v has a marked corner
+unfoldable pub freeAround : List ℕ → List ℕ → ℕ → ℕ → Bool
+freeAround Q U n v = every (freeAt (pointCorners Q n v) Q U) (length (pointCorners Q n v))
+
+-- no quad at v has the corner u, but quad f
+unfoldable pub noneFurther : List ℕ → ℕ → ℕ → ℕ → ℕ → Bool
+noneFurther Q n f v u = every (notFurther (pointCorners Q n v) Q f u) (length (pointCorners Q n v))
+
+-- v and u share only the neighbours b and d
+unfoldable pub sharedOnly : List ℕ → ℕ → ℕ → ℕ → ℕ → ℕ → Bool
+sharedOnly Q n v b u d = every (sharesNone (pointCorners Q n v) Q (quadsOf n Q) b d u) (length (pointCorners Q n v))
 
 -- a list of corners of nq quads
 pub record Listed (np nq : ℕ) (cs Q : List ℕ) : Type 0 where

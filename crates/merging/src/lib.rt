@@ -4,11 +4,46 @@ ghost use mathlib.Core.Path.{_≡_};
 ghost use Prim.Native.Nat.{ℕ, _+_, _*_, _/_, _<_, _≤_};
 ghost use lib.ListN.{length};
 ghost use Rattle.lists.specs.Every.{every};
+ghost use Rattle.sheet.specs.Edges.{pointCorners};
+ghost use Rattle.sheet.specs.Quads.{valence};
 ghost use Rattle.sheet.specs.Flat.{corner, quadAt};
 ghost use Rattle.swaps.specs.Claims.{sq};
 ghost use Rattle.merges.specs.Coarse.{hasCorner};
 ghost use Rattle.incidence.specs.Corners.{Cornered};
-ghost use Rattle.merging.specs.Tests.{noOpposite, partOf, masksJoined, sumOfFour, sumOfThree, unmarked, quadFree, freeAt, notFurther, Listed};
+ghost use Rattle.merging.specs.Tests.{noOpposite, partOf, masksJoined, sumOfFour, sumOfThree, unmarked, quadFree, freeAt, notFurther, apartFrom, sharesAt, sharesNone, freeAround, noneFurther, sharedOnly, Listed};
+ghost use Rattle.merging.specs.Layout.{wasAt, flatStart, startOf, usedIn, Grounds, Spanned, Face, meetOnly, gainOf, worthIt, allowedIn};
+
+// Regions of the work slice in a pass, in units of points and quads together, behind the masks: the quads at the pass's start, work of the sorts,
+// where the corners by edge begin and the corners, the same by point, how many quads each point has, the barred points, and the quads that are out.
+pub const WAS: usize = 1;
+
+pub const FIRST: usize = 5;
+
+pub const EDGE_STARTS: usize = 9;
+
+pub const EDGES: usize = 11;
+
+pub const STARTS: usize = 15;
+
+pub const ORDER: usize = 17;
+
+pub const VALENCES: usize = 21;
+
+pub const USED: usize = 22;
+
+pub const REMOVED: usize = 23;
+
+// A part of the work slice, from one place to another.
+pub struct Span {
+    pub from: usize,
+    pub to: usize,
+}
+
+// The sums over the corners of a quad before a merge and after it.
+pub struct Sums {
+    pub before: usize,
+    pub after: usize,
+}
 
 // ---- masks
 
@@ -47,7 +82,7 @@ pub fn masks_join(a: u32, c: u32) -> bool
 
 // How far a number of quads is from 4, squared.
 fn square(k: usize) -> usize
-    requires { ⌜ k ≤ 8388608 ⌝ }
+    requires { ⌜ k ≤ 16777216 ⌝ }
     ensures { λ r. ⌜ r ≡ sq k ⌝ }
 {
     if k < 4 {
@@ -58,7 +93,7 @@ fn square(k: usize) -> usize
 
 // The sum over the four corners of a quad, by how many quads each has.
 pub fn sum_before(a: usize, b: usize, c: usize, d: usize) -> usize
-    requires { ⌜ a + b + c + d ≤ 8388608 ⌝ }
+    requires { ⌜ a + b + c + d ≤ 16777216 ⌝ }
     ensures { λ r. ⌜ r ≡ sumOfFour a b c d ⌝ }
 {
     square(a) + (square(b) + (square(c) + square(d)))
@@ -66,7 +101,7 @@ pub fn sum_before(a: usize, b: usize, c: usize, d: usize) -> usize
 
 // The sum over the merged point and the other two corners.
 pub fn sum_after(a: usize, b: usize, c: usize, d: usize) -> usize
-    requires { ⌜ a + b + c + d ≤ 8388608 ⌝ }
+    requires { ⌜ a + b + c + d ≤ 16777216 ⌝ }
     requires { ⌜ 2 ≤ a + c ⌝ }
     requires { ⌜ 1 ≤ b ⌝ }
     requires { ⌜ 1 ≤ d ⌝ }
@@ -146,4 +181,170 @@ fn none_further(np: usize, nq: usize, cs: &[u32], quads: &[u32], f: usize, v: us
         }
     }
     true
+}
+
+// ---- the corners of a point
+
+// Where the corners of point v stand.
+fn corners_of(np: usize, nq: usize, v: usize, w: &[u32]) -> Span
+    requires { ⌜ Grounds np nq (now w) ⌝ }
+    requires { ⌜ v < np ⌝ }
+    ensures { λ r. ⌜ Spanned np nq v r (now (w .entry)) ⌝ }
+{
+    let n = np + nq;
+    let from = ORDER * n + lists::at(w, STARTS * n + v);
+    let to = ORDER * n + lists::at(w, STARTS * n + v + 1);
+    Span { from, to }
+}
+
+// No quad at point v has a barred corner.
+fn near_free(np: usize, nq: usize, v: usize, w: &[u32]) -> bool
+    requires { ⌜ Grounds np nq (now w) ⌝ }
+    requires { ⌜ v < np ⌝ }
+    ensures { λ r. ⌜ r ≡ freeAround (flatStart np nq (now (w .entry))) (usedIn np nq (now (w .entry))) nq v ⌝ }
+{
+    let n = np + nq;
+    let s = corners_of(np, nq, v, w);
+    let from = s.from;
+    let to = s.to;
+    let was = WAS * n;
+    let used = USED * n;
+    corners_free(np, nq, &w[from..to], &w[was..was + 4 * nq], &w[used..used + np])
+}
+
+// No quad at point v has the corner u, but quad f.
+fn no_further(np: usize, nq: usize, f: usize, v: usize, u: usize, w: &[u32]) -> bool
+    requires { ⌜ Grounds np nq (now w) ⌝ }
+    requires { ⌜ v < np ⌝ }
+    ensures { λ r. ⌜ r ≡ noneFurther (flatStart np nq (now (w .entry))) nq f v u ⌝ }
+{
+    let s = corners_of(np, nq, v, w);
+    let from = s.from;
+    let to = s.to;
+    let was = WAS * (np + nq);
+    none_further(np, nq, &w[from..to], &w[was..was + 4 * nq], f, u)
+}
+
+// The point x is one of two corners, or no neighbour of v.
+fn apart_from(np: usize, nq: usize, b: usize, d: usize, v: usize, x: usize, w: &[u32]) -> bool
+    requires { ⌜ Grounds np nq (now w) ⌝ }
+    requires { ⌜ v < np ⌝ }
+    requires { ⌜ x < np ⌝ }
+    ensures { λ r. ⌜ r ≡ apartFrom (startOf np nq (now (w .entry))) b d v x ⌝ }
+{
+    if x == b {
+        return true;
+    }
+    if x == d {
+        return true;
+    }
+    let n = np + nq;
+    !lookup::is_edge(np, nq, WAS * n, EDGE_STARTS * n, EDGES * n, v, x, w)
+}
+
+// Both neighbours at corner c are one of two corners, or no neighbours of v.
+fn shares_none(np: usize, nq: usize, b: usize, d: usize, v: usize, c: usize, w: &[u32]) -> bool
+    requires { ⌜ Grounds np nq (now w) ⌝ }
+    requires { ⌜ v < np ⌝ }
+    requires { ⌜ c < 4 * nq ⌝ }
+    ensures { λ r. ⌜ r ≡ sharesAt (flatStart np nq (now (w .entry))) (startOf np nq (now (w .entry))) b d v c ⌝ }
+{
+    let was = WAS * (np + nq);
+    let x = lists::at(w, was + (c / 4 * 4 + (c + 3) % 4));
+    let y = lists::at(w, was + (c / 4 * 4 + (c + 1) % 4));
+    apart_from(np, nq, b, d, v, x, w) & apart_from(np, nq, b, d, v, y, w)
+}
+
+// The same at every corner of a list.
+fn none_shared(np: usize, nq: usize, cs: &[u32], b: usize, d: usize, v: usize, w: &[u32]) -> bool
+    requires { ⌜ Grounds np nq (now w) ⌝ }
+    requires { ⌜ v < np ⌝ }
+    requires { ⌜ Listed np nq (now cs) (flatStart np nq (now w)) ⌝ }
+    ensures { λ r. ⌜ r ≡ every (sharesNone (now (cs .entry)) (flatStart np nq (now (w .entry))) (startOf np nq (now (w .entry))) b d v) (length (now (cs .entry))) ⌝ }
+{
+    let mut t = 0;
+    while t < cs.len() {
+        if shares_none(np, nq, b, d, v, lists::at(cs, t), w) {
+            t += 1;
+        } else {
+            return false;
+        }
+    }
+    true
+}
+
+// The points v and u share only the two corners b and d as neighbours.
+fn share_only(np: usize, nq: usize, v: usize, b: usize, u: usize, d: usize, w: &[u32]) -> bool
+    requires { ⌜ Grounds np nq (now w) ⌝ }
+    requires { ⌜ v < np ⌝ }
+    requires { ⌜ u < np ⌝ }
+    ensures { λ r. ⌜ r ≡ sharedOnly (flatStart np nq (now (w .entry))) nq v b u d ⌝ }
+{
+    let s = corners_of(np, nq, v, w);
+    let from = s.from;
+    let to = s.to;
+    none_shared(np, nq, &w[from..to], b, d, u, w)
+}
+
+// How many quads point v has.
+fn valence_at(np: usize, nq: usize, v: usize, w: &[u32]) -> usize
+    requires { ⌜ Grounds np nq (now w) ⌝ }
+    requires { ⌜ v < np ⌝ }
+    ensures { λ r. ⌜ r ≡ valence (startOf np nq (now (w .entry))) v ⌝ }
+{
+    lists::at(w, VALENCES * (np + nq) + v)
+}
+
+// The points a and c have no further quad than f in common, and only the two corners b and d as neighbours; the walk is round the point with fewer quads.
+fn meet_only(np: usize, nq: usize, f: usize, a: usize, b: usize, c: usize, d: usize, w: &[u32]) -> bool
+    requires { ⌜ Grounds np nq (now w) ⌝ }
+    requires { ⌜ a < np ⌝ }
+    requires { ⌜ c < np ⌝ }
+    ensures { λ r. ⌜ r ≡ meetOnly np nq f a b c d (now (w .entry)) ⌝ }
+{
+    if valence_at(np, nq, c, w) < valence_at(np, nq, a, w) {
+        return share_only(np, nq, c, b, a, d, w) & no_further(np, nq, f, c, a, w);
+    }
+    share_only(np, nq, a, b, c, d, w) & no_further(np, nq, f, a, c, w)
+}
+
+// The sums before and after a merge of the corners a and c of a quad.
+pub fn sums_of(np: usize, nq: usize, a: usize, b: usize, c: usize, d: usize, w: &[u32]) -> Sums
+    requires { ⌜ Grounds np nq (now w) ⌝ }
+    requires { ⌜ Face np nq a b c d (now w) ⌝ }
+    ensures { λ r. ⌜ r ≡ gainOf np nq a b c d (now (w .entry)) ⌝ }
+{
+    let va = valence_at(np, nq, a, w);
+    let vb = valence_at(np, nq, b, w);
+    let vc = valence_at(np, nq, c, w);
+    let vd = valence_at(np, nq, d, w);
+    let before = sum_before(va, vb, vc, vd);
+    let after = sum_after(va, vb, vc, vd);
+    Sums { before, after }
+}
+
+// What the masks and the numbers of quads at the corners a, b, c and d say of a merge of a and c.
+fn worth(np: usize, nq: usize, a: usize, b: usize, c: usize, d: usize, w: &[u32]) -> bool
+    requires { ⌜ Grounds np nq (now w) ⌝ }
+    requires { ⌜ Face np nq a b c d (now w) ⌝ }
+    ensures { λ r. ⌜ r ≡ worthIt np nq a b c d (now (w .entry)) ⌝ }
+{
+    let vb = valence_at(np, nq, b, w);
+    let vd = valence_at(np, nq, d, w);
+    let s = sums_of(np, nq, a, b, c, d, w);
+    masks_join(w[a], w[c]) & (4 <= vb) & (4 <= vd) & (s.after <= s.before)
+}
+
+// Whether the rule allows the merge of the corners a and c of quad f = (a, b, c, d), as far as it does not read the points.
+pub fn allowed(np: usize, nq: usize, f: usize, a: usize, b: usize, c: usize, d: usize, w: &[u32]) -> bool
+    requires { ⌜ Grounds np nq (now w) ⌝ }
+    requires { ⌜ Face np nq a b c d (now w) ⌝ }
+    ensures { λ r. ⌜ r ≡ allowedIn np nq f a b c d (now (w .entry)) ⌝ }
+{
+    if worth(np, nq, a, b, c, d, w) {
+        if meet_only(np, nq, f, a, b, c, d, w) {
+            return near_free(np, nq, a, w) & near_free(np, nq, c, w);
+        }
+    }
+    false
 }
