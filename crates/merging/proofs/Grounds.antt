@@ -10,10 +10,11 @@ use borrow.Author.Tests.{eq-eqb, ne-eqb}
 use borrow.Rule.Slice.PartMut.{midOf}
 use Rattle.lists.specs.Every.{every}
 use Rattle.lists.specs.Sort.{tabulate, bucket}
-use Rattle.lists.specs.Regions.{part, Part, Kept}
-use Rattle.lists.proofs.Laws.{getD-tab, length-tab, bucket-le}
+use Rattle.lists.specs.Regions.{part, Part, Out, Kept}
+use Rattle.lists.proofs.Laws.{getD-tab, is-tab, length-tab, bucket-le}
+use Rattle.lists.proofs.Every.{some-zero}
 use Rattle.lists.proofs.Order.{each-bucket, below-tab}
-use Rattle.lists.proofs.Regions.{part-of, part-len, part-get, part-kept}
+use Rattle.lists.proofs.Regions.{part-of, part-len, part-get, part-as, part-kept, kept-refl, kept-then, kept-less}
 use Rattle.sheet.specs.Quads.{Quad, valence, isEdge}
 use Rattle.sheet.specs.Flat.{corner, quadsOf, from, to, before}
 use Rattle.sheet.specs.Edges.{allCorners, pointCorners}
@@ -21,12 +22,15 @@ use Rattle.sheet.proofs.Flat.{valence-flat}
 use Rattle.incidence.specs.Marks.{Incident}
 use Rattle.incidence.proofs.Marks.{Around, around}
 use Rattle.lookup.specs.Maps.{Mapped, Standing}
+use Rattle.lookup.proofs.Maps.{standing-kept, mapped-kept}
 use Rattle.merges.specs.Coarse.{nearFree}
 use Rattle.merging.specs.declared.Span.{Span}
 use Rattle.merging.specs.declared.Sums.{Sums}
 use Rattle.merging.specs.Tests.{masksJoined, freeAt, notFurther, sharesAt, sharesNone, freeAround, noneFurther, sharedOnly, Listed}
 use Rattle.merging.specs.State.{usedOf}
-use Rattle.merging.specs.Layout.{wasAt, startsAt, orderAt, valencesAt, usedAt, removedAt, flatStart, startOf, usedIn, Grounds, Spanned, Face, noLabels, meetOnly, gainOf, worthIt}
+use Rattle.merging.specs.Layout.{wasAt, startsAt, orderAt, valencesAt, usedAt, removedAt, flatStart, startOf, usedIn, Steady, Grounds, Spanned, Face, noLabels, meetOnly, gainOf, worthIt}
+use Rattle.merging.specs.Marks.{markedIn, reaches, markedTo, markedNear, renamedAt, renamedQuads, Marking, Nameable}
+use Rattle.merging.proofs.Marks.{near-marks, more-marks}
 use Rattle.merging.proofs.Around.{further-is, further-turned, free-is, share-is, share-turned}
 
 -- ---- the corners of a point
@@ -54,7 +58,9 @@ spanned {np} {nq} {w} v a b G h p q =
     let k : b ≤ 4 * nq = omega (arith, A .e≤) in
     let e : orderAt np nq + b - (orderAt np nq + a) ≡ b - a = omega arith in
     record {
+      begin = omega arith;
       low = omega arith;
+      end = omega arith;
       high = omega (arith, A .fits);
       list = rw e (rw (p, q) (A .list));
     }
@@ -187,3 +193,120 @@ pub worth-is : (np nq a b c d : ℕ) (w : List ℕ) (j : Bool) (vb vd : ℕ) (s 
     → s ≡ gainOf np nq a b c d w → (j && leb 4 vb && leb 4 vd && leb (s .after) (s .before)) ≡ worthIt np nq a b c d w
 unfolding worthIt gainOf
 worth-is np nq a b c d w j vb vd s p q r e = rw (p, q, r, e) refl
+
+-- ---- what keeps the regions of the start
+
+pub start-kept : {np nq : ℕ} {v w : List ℕ} → Grounds np nq v → Kept (Steady np nq) v w → flatStart np nq w ≡ flatStart np nq v
+start-kept {np} {nq} {v} {w} G K =
+    let r = G .room in
+    part-kept (part-of (wasAt np nq) (4 * nq) v (G .standing .in-was)) K (λ i p q. ((λ a b. omega arith), (λ a b. omega arith))) .is
+
+pub grounds-kept : {np nq : ℕ} {v w : List ℕ} → Grounds np nq v → Kept (Steady np nq) v w → Grounds np nq w
+grounds-kept {np} {nq} {v} {w} G K =
+    let r = G .room in
+    let s = G .some in
+    record {
+      few = G .few;
+      some = s;
+      room = omega (arith, K .len);
+      standing = standing-kept (G .standing) K (λ i p q. ((λ a b. omega arith), (λ a b. omega arith))) (λ i p q. ((λ a b. omega arith), (λ a b. omega arith))) (λ i p q. ((λ a b. omega arith), (λ a b. omega arith)));
+      mapped = mapped-kept (G .mapped) K (λ i p q. ((λ a b. omega arith), (λ a b. omega arith))) (λ i p q. ((λ a b. omega arith), (λ a b. omega arith))) (λ i p q. ((λ a b. omega arith), (λ a b. omega arith)));
+      valences = rw (start-kept G K) (part-kept (G .valences) K (λ i p q. ((λ a b. omega arith), (λ a b. omega arith))));
+    }
+
+-- marks of points only
+pub only-used : (np nq : ℕ) {v w : List ℕ} → Kept (Out (usedAt np nq) np) v w → Kept (Steady np nq) v w
+only-used np nq K = kept-less K (λ i o. o .0)
+
+-- ---- what the bars ask
+
+-- element j of the four is corner j
+pub quad-listed : {np nq : ℕ} {w : List ℕ} (q j : ℕ) → Grounds np nq w → q < nq → j < 4 → getD (part (wasAt np nq + 4 * q) 4 w) j 0 ≡ corner (flatStart np nq w) q j
+quad-listed {np} {nq} {w} q j G h l =
+    let f = G .standing .in-was in
+    let W = part-of (wasAt np nq) (4 * nq) w f in
+    let P = part-of (wasAt np nq + 4 * q) 4 w (omega arith) in
+    let s : wasAt np nq + 4 * q + j ≡ wasAt np nq + (4 * q + j) = omega arith in
+    sym (part-get 0 j P l) ∙ ap (λ (x : ℕ). getD w x 0) s ∙ part-get 0 (4 * q + j) W (omega arith)
+
+pub quad-marking : {np nq : ℕ} {w : List ℕ} (q : ℕ) → Grounds np nq w → q < nq → Marking (wasAt np nq + 4 * q) 4 (usedAt np nq) np (part (wasAt np nq + 4 * q) 4 w) w
+quad-marking {np} {nq} {w} q G h =
+    let r = G .room in
+    let W = part-of (wasAt np nq) (4 * nq) w (G .standing .in-was) in
+    record {
+      at = part-of (wasAt np nq + 4 * q) 4 w (omega (arith, W .fits));
+      known = λ i l. rw (quad-listed q i G h l) (G .standing .sheet .points (4 * q + i) (omega arith));
+      in-used = omega arith;
+      apart = λ i a b c d. omega arith;
+    }
+
+-- ---- the loop over the quads around a point: v is the slice as it came
+
+pub record Barring (np nq x from m : ℕ) (v w : List ℕ) (t : ℕ) : Type 0 where
+  pub t≤ : t ≤ m
+  pub grounds : Grounds np nq w
+  pub begin : orderAt np nq ≤ from
+  pub end : from + m ≤ orderAt np nq + 4 * nq
+  pub list : Part from m (pointCorners (flatStart np nq v) nq x) v
+  pub marks : Part (usedAt np nq) np (tabulate (markedTo (pointCorners (flatStart np nq v) nq x) (flatStart np nq v) (usedIn np nq v) t) np) w
+  pub kept : Kept (Out (usedAt np nq) np) v w
+
+pub barring-start : {np nq x : ℕ} {s : Span} {v : List ℕ} → Grounds np nq v → Spanned np nq x s v → Barring np nq x (s .from) (s .to - s .from) v v 0
+barring-start {np} {nq} {x} {s} {v} G S =
+    let P = part-of (usedAt np nq) np v (omega (arith, G .room)) in
+    let cs = pointCorners (flatStart np nq v) nq x in
+    let l = S .low in
+    record {
+      t≤ = omega arith;
+      grounds = G;
+      begin = S .begin;
+      end = omega (arith, S .end);
+      list = record { fits = omega (arith, S .high); is = S .list };
+      marks = part-as P (is-tab (usedIn np nq v) (markedTo cs (flatStart np nq v) (usedIn np nq v) 0) np (part-len P) (λ u h. rw (some-zero (reaches cs (flatStart np nq v) u))));
+      kept = kept-refl (Out (usedAt np nq) np) v;
+    }
+
+pub record BarTurn (np nq x from m : ℕ) (v w : List ℕ) (t c : ℕ) : Type 0 where
+  pub at< : from + t < length w
+  pub q< : c / 4 < nq
+  pub next : (w′ : List ℕ) → Part (usedAt np nq) np (tabulate (markedIn (flatStart np nq w) (usedIn np nq w) (c / 4)) np) w′ → Kept (Out (usedAt np nq) np) w w′ → Barring np nq x from m v w′ (t + 1)
+
+pub bar-turn : {np nq x from m : ℕ} {v w : List ℕ} {t : ℕ} (c : ℕ) → Grounds np nq v → Barring np nq x from m v w t → t < m → c ≡ getD w (from + t) 0 → BarTurn np nq x from m v w t c
+bar-turn {np} {nq} {x} {from} {m} {v} {w} {t} c G B h e =
+    let r = G .room in
+    let sb = B .begin in
+    let se = B .end in
+    let Q = flatStart np nq v in
+    let cs = pointCorners Q nq x in
+    let P′ : Part from m cs w = part-kept (B .list) (B .kept) (λ i a b. λ p q. omega arith) in
+    let ce : c ≡ getD cs t 0 = e ∙ part-get 0 t P′ h in
+    let l : getD cs t 0 < 4 * nq = corners-listed x G .known t (rw (part-len (B .list)) h) in
+    let same = start-kept G (only-used np nq (B .kept)) in
+    record {
+      at< = omega (arith, P′ .fits);
+      q< = omega arith;
+      next = λ w′ M K. record {
+        t≤ = omega arith;
+        grounds = grounds-kept (B .grounds) (only-used np nq K);
+        begin = B .begin;
+        end = B .end;
+        list = B .list;
+        marks = more-marks cs Q (usedIn np nq v) (usedIn np nq w) t c ce (B .marks .is) (rw same at M);
+        kept = kept-then (B .kept) K (λ i o. (o, o));
+      };
+    }
+
+pub barring-end : {np nq x from m : ℕ} {v w : List ℕ} {t : ℕ} → Barring np nq x from m v w t → m ≤ t
+    → Part (usedAt np nq) np (tabulate (markedNear (flatStart np nq v) (usedIn np nq v) nq x) np) w × Kept (Out (usedAt np nq) np) v w
+barring-end {np} {nq} {x} {from} {m} {v} {w} {t} B h =
+    let e : t ≡ length (pointCorners (flatStart np nq v) nq x) = omega (arith, B .t≤, part-len (B .list)) in
+    (near-marks (flatStart np nq v) (usedIn np nq v) nq x (rw e at (B .marks)), B .kept)
+
+-- ---- the corners of a point in a slice of quads
+pub nameable-lent : {np nq x : ℕ} {s : Span} {w : List ℕ} (n : ℕ) → Grounds np nq w → Spanned np nq x s w → 4 * nq ≤ n → Nameable (midOf (s .from) (s .to - s .from) w) n
+nameable-lent {np} {nq} {x} {s} {w} n G S h = rw (S .list) (record { known = λ i l. let k = corners-listed x G .known i l in omega arith })
+
+pub renamed-lent : {np nq x : ℕ} {s : Span} {w : List ℕ} (a : ℕ) (Q R : List ℕ) → Spanned np nq x s w
+    → R ≡ tabulate (renamedAt (midOf (s .from) (s .to - s .from) w) Q a (length (midOf (s .from) (s .to - s .from) w))) (length Q) → R ≡ renamedQuads (flatStart np nq w) nq x a Q
+unfolding renamedQuads
+renamed-lent {np} {nq} {x} {s} {w} a Q R S h = rw (S .list) at h

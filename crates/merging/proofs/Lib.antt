@@ -4,3 +4,4 @@ pub mod Corners
 pub mod Around
 pub mod Masks
 pub mod Grounds
+pub mod Marks

@@ -82,7 +82,9 @@ Masked np nq labels w = Part 0 np (masksOf np (startOf np nq w) labels) w
 
 -- the span s of w has the corners of the point v at the start
 pub record Spanned (np nq v : ℕ) (s : Span) (w : List ℕ) : Type 0 where
+  pub begin : orderAt np nq ≤ s .from
   pub low : s .from ≤ s .to
+  pub end : s .to ≤ orderAt np nq + 4 * nq
   pub high : s .to ≤ length w
   pub list : part (s .from) (s .to - s .from) w ≡ pointCorners (flatStart np nq w) nq v
 

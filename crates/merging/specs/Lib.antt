@@ -1,3 +1,4 @@
 pub mod Tests
 pub mod State
 pub mod Layout
+pub mod Marks

@@ -4,6 +4,8 @@ ghost use mathlib.Core.Path.{_≡_};
 ghost use Prim.Native.Nat.{ℕ, _+_, _*_, _/_, _<_, _≤_};
 ghost use lib.ListN.{length};
 ghost use Rattle.lists.specs.Every.{every};
+ghost use Rattle.lists.specs.Sort.{tabulate};
+ghost use Rattle.lists.specs.Regions.{part, Part, Out, Kept};
 ghost use Rattle.sheet.specs.Edges.{pointCorners};
 ghost use Rattle.sheet.specs.Quads.{valence};
 ghost use Rattle.sheet.specs.Flat.{corner, quadAt};
@@ -11,7 +13,8 @@ ghost use Rattle.swaps.specs.Claims.{sq};
 ghost use Rattle.merges.specs.Coarse.{hasCorner};
 ghost use Rattle.incidence.specs.Corners.{Cornered};
 ghost use Rattle.merging.specs.Tests.{noOpposite, partOf, masksJoined, sumOfFour, sumOfThree, unmarked, quadFree, freeAt, notFurther, apartFrom, sharesAt, sharesNone, freeAround, noneFurther, sharedOnly, Listed};
-ghost use Rattle.merging.specs.Layout.{wasAt, flatStart, startOf, usedIn, Grounds, Spanned, Face, meetOnly, gainOf, worthIt, allowedIn};
+ghost use Rattle.merging.specs.Layout.{usedAt, flatStart, startOf, usedIn, Grounds, Spanned, Face, meetOnly, gainOf, worthIt, allowedIn};
+ghost use Rattle.merging.specs.Marks.{markedBy, markedIn, markedNear, renamedAt, Marking, Nameable, renamedQuads};
 
 // Regions of the work slice in a pass, in units of points and quads together, behind the masks: the quads at the pass's start, work of the sorts,
 // where the corners by edge begin and the corners, the same by point, how many quads each point has, the barred points, and the quads that are out.
@@ -347,4 +350,74 @@ pub fn allowed(np: usize, nq: usize, f: usize, a: usize, b: usize, c: usize, d: 
         }
     }
     false
+}
+
+// ---- what a merge changes
+
+// Marks, in the np elements at used, the m points at from.
+fn mark_points(from: usize, m: usize, used: usize, np: usize, w: &mut [u32])
+    requires { ⌜ Marking from m used np (part from m (now w)) (now w) ⌝ }
+    ensures { λ _. ⌜ Part used np (tabulate (markedBy (part from m (now (w .entry))) (part used np (now (w .entry))) m) np) (now (w .exit)) ⌝ }
+    ensures { λ _. ⌜ Kept (Out used np) (now (w .entry)) (now (w .exit)) ⌝ }
+{
+    let mut j = 0;
+    while j < m {
+        let v = w[from + j] as usize;
+        w[used + v] = 1;
+        j += 1;
+    }
+}
+
+// Bars the corners of quad q.
+fn bar_quad(np: usize, nq: usize, q: usize, w: &mut [u32])
+    requires { ⌜ Grounds np nq (now w) ⌝ }
+    requires { ⌜ q < nq ⌝ }
+    ensures { λ _. ⌜ Part (usedAt np nq) np (tabulate (markedIn (flatStart np nq (now (w .entry))) (usedIn np nq (now (w .entry))) q) np) (now (w .exit)) ⌝ }
+    ensures { λ _. ⌜ Kept (Out (usedAt np nq) np) (now (w .entry)) (now (w .exit)) ⌝ }
+{
+    let n = np + nq;
+    mark_points(WAS * n + 4 * q, 4, USED * n, np, w);
+}
+
+// Bars the corners of all quads at point v.
+fn bar_around(np: usize, nq: usize, v: usize, w: &mut [u32])
+    requires { ⌜ Grounds np nq (now w) ⌝ }
+    requires { ⌜ v < np ⌝ }
+    ensures { λ _. ⌜ Part (usedAt np nq) np (tabulate (markedNear (flatStart np nq (now (w .entry))) (usedIn np nq (now (w .entry))) nq v) np) (now (w .exit)) ⌝ }
+    ensures { λ _. ⌜ Kept (Out (usedAt np nq) np) (now (w .entry)) (now (w .exit)) ⌝ }
+{
+    let s = corners_of(np, nq, v, w);
+    let from = s.from;
+    let m = s.to - from;
+    let mut t = 0;
+    while t < m {
+        bar_quad(np, nq, lists::at(w, from + t) / 4, w);
+        t += 1;
+    }
+}
+
+// The corners of a list become the point a.
+fn rename_corners(cs: &[u32], a: u32, quads: &mut [u32])
+    requires { ⌜ Nameable (now cs) (length (now quads)) ⌝ }
+    ensures { λ _. ⌜ now (quads .exit) ≡ tabulate (renamedAt (now (cs .entry)) (now (quads .entry)) a (length (now (cs .entry)))) (length (now (quads .entry))) ⌝ }
+{
+    let mut t = 0;
+    while t < cs.len() {
+        quads[cs[t] as usize] = a;
+        t += 1;
+    }
+}
+
+// The corners at c become the point a.
+fn rename(np: usize, nq: usize, c: usize, a: usize, quads: &mut [u32], w: &[u32])
+    requires { ⌜ Grounds np nq (now w) ⌝ }
+    requires { ⌜ c < np ⌝ }
+    requires { ⌜ a < np ⌝ }
+    requires { ⌜ 4 * nq ≤ length (now quads) ⌝ }
+    ensures { λ _. ⌜ now (quads .exit) ≡ renamedQuads (flatStart np nq (now (w .entry))) nq c a (now (quads .entry)) ⌝ }
+{
+    let s = corners_of(np, nq, c, w);
+    let from = s.from;
+    let to = s.to;
+    rename_corners(&w[from..to], a as u32, quads);
 }
