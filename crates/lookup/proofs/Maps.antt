@@ -17,7 +17,7 @@ use Rattle.lists.proofs.Regions.{part-of, part-len, part-get, part-as, part-sub
 use Rattle.lists.proofs.Placing.{Sorted}
 use Rattle.sheet.specs.Quads.{side, isEdge}
 use Rattle.sheet.specs.Flat.{from, to, quadAt, quadsOf}
-use Rattle.sheet.specs.Edges.{smaller, larger, allCorners}
+use Rattle.sheet.specs.Edges.{smaller, larger, allCorners, pointCorners}
 use Rattle.sheet.proofs.Edges.{edge-flat, edge-corners}
 use Rattle.incidence.specs.declared.Key.the-variants.{Smaller, Larger}
 use Rattle.incidence.specs.Corners.{keyOf, Cornered, edgeOrder, cornersAt, firstAt}
@@ -254,16 +254,36 @@ module _ {Q cs : List ℕ} {b : ℕ} where
   pub found-none : {i : ℕ} → Narrowed Q cs b i i → length cs ≤ i → false ≡ ltb 0 (countOf (larger Q) cs b)
   found-none {i} N h = sym (none-counted Q cs b (λ j g e. omega (arith, N .below j (omega arith))))
 
--- ---- the corners of a smaller point
+-- ---- the corners of a point, and of a smaller point
 
--- the corners of the smaller point a are those from s up to e in the order of the edges, and their larger points ascend
-pub record Rising (np nq was starts order a s e : ℕ) (w : List ℕ) : Type 0 where
+-- the places from s up to e of a region have the list l
+pub record RunAt (order s e : ℕ) (l w : List ℕ) : Type 0 where
   pub s≤ : s ≤ e
   pub e≤ : order + e ≤ length w
-  pub in-was : was + 4 * nq ≤ length w
-  pub ascending : Ascending (part was (was + 4 * nq - was) w) (part (order + s) (order + e - (order + s)) w)
-  pub is : (b : ℕ) → a ≤ b → b < np
-      → ltb 0 (countOf (larger (part was (was + 4 * nq - was) w)) (part (order + s) (order + e - (order + s)) w) b) ≡ isEdge (quadsOf nq (part was (4 * nq) w)) a b
+  pub is : part (order + s) (order + e - (order + s)) w ≡ l
+
+-- the elements of the key a in a sorted region stand from where a begins up to where the next key does
+pub run-at : (key : ℕ → ℕ) (xs : List ℕ) {np n starts order s e : ℕ} {w : List ℕ} (a : ℕ) → Part order n (sortBy key np xs) w → Part starts (np + 1) (tabulate (start key xs) (np + 1)) w → a < np
+    → s ≡ getD w (starts + a) 0 → e ≡ getD w (starts + a + 1) 0 → RunAt order s e (bucket key a xs) w
+run-at key xs {np} {n} {starts} {order} {s} {e} {w} a O B h fs fe =
+    let p = start key xs a in
+    let m = length (bucket key a xs) in
+    let b : a < np + 1 = omega arith in
+    let b′ : a + 1 < np + 1 = omega arith in
+    let sh : starts + a + 1 ≡ starts + (a + 1) = omega arith in
+    let es : s ≡ p = fs ∙ part-get 0 a B b ∙ getD-tab (start key xs) (np + 1) a 0 b in
+    let ee : e ≡ p + m = fe ∙ ap (λ (x : ℕ). getD w x 0) sh ∙ part-get 0 (a + 1) B b′ ∙ getD-tab (start key xs) (np + 1) (a + 1) 0 b′ ∙ start-suc key xs a in
+    let len : length (sortBy key np xs) ≡ n = part-len O in
+    let mono : p + m ≤ length (sortBy key np xs) = start-mono key xs a np h in
+    let P : Part (order + p) m (bucket key a xs) w = part-as (part-sub p m O (omega arith)) (part-bucket key xs np a h) in
+    let g : order + (p + m) - (order + p) ≡ m = omega arith in
+    record { s≤ = omega arith; e≤ = omega (arith, P .fits); is = rw (es, ee) (rw g (P .is)) }
+
+-- the corners at the point v
+pub point-run : {np nq was starts order s e : ℕ} {w : List ℕ} (v : ℕ) → Standing np nq was starts order w → v < np
+    → s ≡ getD w (starts + v) 0 → e ≡ getD w (starts + v + 1) 0 → RunAt order s e (pointCorners (part was (4 * nq) w) nq v) w
+unfolding firstAt cornersAt
+point-run {np} {nq} {was} {starts} {order} {s} {e} {w} v M h fs fe = run-at (from (part was (4 * nq) w)) (allCorners nq) v (M .at) (M .begin) h fs fe
 
 module _ (np nq : ℕ) (Q : List ℕ) (a : ℕ) where
   -- the corners of the smaller point a by their larger points
@@ -288,31 +308,28 @@ module _ (np nq : ℕ) (Q : List ℕ) (a : ℕ) where
       (ap (λ (x : List ℕ). ltb 0 (length x)) (bucket-of-sort (larger Q) b np (bucket (smaller Q) a (allCorners nq)) l ∙ sym (edge-corners Q nq a b h))
       ∙ sym (edge-flat Q nq a b h))
 
-pub rising : {np nq was starts order : ℕ} {w : List ℕ} {s e : ℕ} (a : ℕ) → Mapped np nq was starts order w → a < np
-    → s ≡ getD w (starts + a) 0 → e ≡ getD w (starts + a + 1) 0 → Rising np nq was starts order a s e w
+-- the corners of the smaller point a are those from s up to e in the order of the edges, and their larger points ascend
+pub record Rising (np nq was order a s e : ℕ) (w : List ℕ) : Type 0 where
+  pub s≤ : s ≤ e
+  pub e≤ : order + e ≤ length w
+  pub in-was : was + 4 * nq ≤ length w
+  pub ascending : Ascending (part was (was + 4 * nq - was) w) (part (order + s) (order + e - (order + s)) w)
+  pub is : (b : ℕ) → a ≤ b → b < np
+      → ltb 0 (countOf (larger (part was (was + 4 * nq - was) w)) (part (order + s) (order + e - (order + s)) w) b) ≡ isEdge (quadsOf nq (part was (4 * nq) w)) a b
+
+pub rising : {np nq was starts order s e : ℕ} {w : List ℕ} (a : ℕ) → Mapped np nq was starts order w → a < np
+    → s ≡ getD w (starts + a) 0 → e ≡ getD w (starts + a + 1) 0 → Rising np nq was order a s e w
 unfolding firstEdge edgeOrder
-rising {np} {nq} {was} {starts} {order} {w} {s} {e} a M h fs fe =
+rising {np} {nq} {was} {starts} {order} {s} {e} {w} a M h fs fe =
     let Q = part was (4 * nq) w in
-    let key = smaller Q in
-    let xs = sortBy (larger Q) np (allCorners nq) in
-    let p = start key xs a in
-    let m = length (bucket key a xs) in
-    let b : a < np + 1 = omega arith in
-    let b′ : a + 1 < np + 1 = omega arith in
-    let sh : starts + a + 1 ≡ starts + (a + 1) = omega arith in
-    let es : s ≡ p = fs ∙ part-get 0 a (M .begin) b ∙ getD-tab (firstEdge np nq Q) (np + 1) a 0 b in
-    let ee : e ≡ p + m = fe ∙ ap (λ (x : ℕ). getD w x 0) sh ∙ part-get 0 (a + 1) (M .begin) b′ ∙ getD-tab (firstEdge np nq Q) (np + 1) (a + 1) 0 b′ ∙ start-suc key xs a in
-    let len : length (sortBy key np xs) ≡ 4 * nq = part-len (M .at) in
-    let mono : p + m ≤ length (sortBy key np xs) = start-mono key xs a np h in
-    let P : Part (order + p) m (bucket key a xs) w = part-as (part-sub p m (M .at) (omega arith)) (part-bucket key xs np a h) in
-    let g : order + (p + m) - (order + p) ≡ m = omega arith in
+    let R = run-at (smaller Q) (sortBy (larger Q) np (allCorners nq)) a (M .at) (M .begin) h fs fe in
     let f : was + 4 * nq - was ≡ 4 * nq = omega arith in
     record {
-      s≤ = omega arith;
-      e≤ = omega (arith, P .fits);
+      s≤ = R .s≤;
+      e≤ = R .e≤;
       in-was = M .in-was;
-      ascending = rw (es, ee) (rw (g, f) (rw (P .is) (run-ascends np nq Q a (M .sheet))));
-      is = rw (es, ee) (rw (g, f) (rw (P .is) (run-edge np nq Q a)));
+      ascending = rw f (rw (R .is) (run-ascends np nq Q a (M .sheet)));
+      is = rw f (rw (R .is) (run-edge np nq Q a));
     }
 
 -- the other way round

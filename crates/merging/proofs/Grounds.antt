@@ -5,7 +5,7 @@ use Prim.Native.Nat.{ℕ, _+_, _-_, _*_, _/_, _%_, _≤_, _<_}
 use mathlib.Core.List.{List}
 use native.Mathlib.Omega.{arith}
 use lib.Dec.{eqb, leb}
-use lib.ListN.{length, getD}
+use lib.ListN.{length, getD, set}
 use borrow.Author.Tests.{eq-eqb, ne-eqb}
 use borrow.Rule.Slice.PartMut.{midOf}
 use Rattle.lists.specs.Every.{every}
@@ -14,7 +14,7 @@ use Rattle.lists.specs.Regions.{part, Part, Out, Kept}
 use Rattle.lists.proofs.Laws.{getD-tab, is-tab, length-tab, bucket-le}
 use Rattle.lists.proofs.Every.{some-zero}
 use Rattle.lists.proofs.Order.{each-bucket, below-tab}
-use Rattle.lists.proofs.Regions.{part-of, part-len, part-get, part-as, part-kept, kept-refl, kept-then, kept-less}
+use Rattle.lists.proofs.Regions.{part-of, part-len, part-get, part-set, part-set-out, part-as, part-kept, kept-set, kept-refl, kept-then, kept-less}
 use Rattle.sheet.specs.Quads.{Quad, valence, isEdge}
 use Rattle.sheet.specs.Flat.{corner, quadsOf, from, to, before}
 use Rattle.sheet.specs.Edges.{allCorners, pointCorners}
@@ -28,8 +28,8 @@ use Rattle.merging.specs.declared.Span.{Span}
 use Rattle.merging.specs.declared.Sums.{Sums}
 use Rattle.merging.specs.Tests.{masksJoined, freeAt, notFurther, sharesAt, sharesNone, freeAround, noneFurther, sharedOnly, Listed}
 use Rattle.merging.specs.State.{usedOf}
-use Rattle.merging.specs.Layout.{wasAt, startsAt, orderAt, valencesAt, usedAt, removedAt, flatStart, startOf, usedIn, Steady, Grounds, Spanned, Face, noLabels, meetOnly, gainOf, worthIt}
-use Rattle.merging.specs.Marks.{markedIn, reaches, markedTo, markedNear, renamedAt, renamedQuads, Marking, Nameable}
+use Rattle.merging.specs.Layout.{wasAt, startsAt, orderAt, valencesAt, usedAt, removedAt, flatStart, startOf, usedIn, removedIn, Steady, Grounds, Spanned, Face, noLabels, meetOnly, gainOf, worthIt}
+use Rattle.merging.specs.Marks.{markedIn, reaches, markedTo, markedNear, renamedAt, renamedQuads, Marking, Nameable, markedBoth, Merging, Joined}
 use Rattle.merging.proofs.Marks.{near-marks, more-marks}
 use Rattle.merging.proofs.Around.{further-is, further-turned, free-is, share-is, share-turned}
 
@@ -310,3 +310,25 @@ pub renamed-lent : {np nq x : ℕ} {s : Span} {w : List ℕ} (a : ℕ) (Q R : Li
     → R ≡ tabulate (renamedAt (midOf (s .from) (s .to - s .from) w) Q a (length (midOf (s .from) (s .to - s .from) w))) (length Q) → R ≡ renamedQuads (flatStart np nq w) nq x a Q
 unfolding renamedQuads
 renamed-lent {np} {nq} {x} {s} {w} a Q R S h = rw (S .list) at h
+
+-- ---- a merge: u, v and w are the work slice as it came, once the points near a are barred, and those near c; then the quad goes out
+pub joined-of : {np nq f a c : ℕ} {u v w : List ℕ} (Q R : List ℕ) → Grounds np nq u → f < nq → R ≡ renamedQuads (flatStart np nq u) nq c a Q
+    → Part (usedAt np nq) np (tabulate (markedNear (flatStart np nq u) (usedIn np nq u) nq a) np) v → Kept (Out (usedAt np nq) np) u v
+    → Part (usedAt np nq) np (tabulate (markedNear (flatStart np nq v) (usedIn np nq v) nq c) np) w → Kept (Out (usedAt np nq) np) v w
+    → Joined np nq f a c Q u R (set w (removedAt np nq + f) 1)
+joined-of {np} {nq} {f} {a} {c} {u} {v} {w} Q R G h e P K P′ K′ =
+    let r = G .room in
+    let L = kept-then K K′ (λ i o. (o, o)) in
+    let l = L .len in
+    let U : Part (usedAt np nq) np (markedBoth (flatStart np nq u) (usedIn np nq u) np nq a c) w = rw (start-kept G (only-used np nq K), P .is) at P′ in
+    let D = part-kept (part-of (removedAt np nq) nq u (omega arith)) L (λ i p q. λ x y. omega arith) in
+    record {
+      quads = e;
+      used = part-set-out (removedAt np nq + f) 1 U (λ p q. omega arith) .is;
+      removed = part-set f 1 D h .is;
+      kept = kept-set (removedAt np nq + f) 1 (kept-less L (λ i o. o .0)) (λ o. o .1 (omega arith) (omega arith));
+    }
+
+-- where the mark of quad f stands
+pub removed-in : {np nq : ℕ} {v w : List ℕ} (f : ℕ) → Grounds np nq v → Kept (Out (usedAt np nq) np) v w → f < nq → removedAt np nq + f < length w
+removed-in f G K h = omega (arith, G .room, K .len)

@@ -1,15 +1,17 @@
 -- What a merge writes: the marks of the points near it, and the new name of a point in the quads around it.
-use Prim.Native.Nat.{ℕ, _+_, _/_, _≤_, _<_}
+use Prim.Native.Nat.{ℕ, _+_, _*_, _/_, _≤_, _<_}
+use mathlib.Core.Path.{_≡_}
 use mathlib.Core.Bool.{Bool, cond, _&&_}
 use mathlib.Core.List.{List}
 use lib.Dec.{eqb}
-use lib.ListN.{length, getD}
+use lib.ListN.{length, getD, set}
 use Rattle.lists.specs.Sort.{tabulate}
 use Rattle.lists.specs.Every.{some}
-use Rattle.lists.specs.Regions.{Part, Apart}
+use Rattle.lists.specs.Regions.{Part, Apart, Kept}
 use Rattle.sheet.specs.Flat.{quadAt}
 use Rattle.sheet.specs.Edges.{pointCorners}
 use Rattle.merges.specs.Coarse.{hasCorner}
+use Rattle.merging.specs.Layout.{flatStart, usedIn, removedIn, Steady}
 
 -- element i of a list is v
 abbrev pub isAt : List ℕ → ℕ → ℕ → Bool
@@ -57,3 +59,22 @@ pub record Nameable (cs : List ℕ) (n : ℕ) : Type 0 where
 -- the quads R with a at the corners where Q, of n quads, has c
 unfoldable pub renamedQuads : List ℕ → ℕ → ℕ → ℕ → List ℕ → List ℕ
 renamedQuads Q n c a R = tabulate (renamedAt (pointCorners Q n c) R a (length (pointCorners Q n c))) (length R)
+
+-- what a merge of the points a and c of quad f asks of slices of p coordinates and q corners
+pub record Merging (np nq f a c p q : ℕ) : Type 0 where
+  pub f< : f < nq
+  pub a< : a < np
+  pub c< : c < np
+  pub points : 3 * np ≤ p
+  pub quads : 4 * nq ≤ q
+
+-- the marks of the points near a and c
+abbrev pub markedBoth : List ℕ → List ℕ → ℕ → ℕ → ℕ → ℕ → List ℕ
+markedBoth Q U np nq a c = tabulate (markedNear Q (tabulate (markedNear Q U nq a) np) nq c) np
+
+-- what the merge leaves of the quads Q and the work slice w
+pub record Joined (np nq f a c : ℕ) (Q w Q′ w′ : List ℕ) : Type 0 where
+  pub quads : Q′ ≡ renamedQuads (flatStart np nq w) nq c a Q
+  pub used : usedIn np nq w′ ≡ markedBoth (flatStart np nq w) (usedIn np nq w) np nq a c
+  pub removed : removedIn np nq w′ ≡ set (removedIn np nq w) f 1
+  pub kept : Kept (Steady np nq) w w′

@@ -1,12 +1,13 @@
 // The merge of two opposite corners of a quad: the tests of a tried diagonal, and what the merge changes.
 
+use points::Point;
 ghost use mathlib.Core.Path.{_≡_};
 ghost use Prim.Native.Nat.{ℕ, _+_, _*_, _/_, _<_, _≤_};
 ghost use lib.ListN.{length};
 ghost use Rattle.lists.specs.Every.{every};
 ghost use Rattle.lists.specs.Sort.{tabulate};
 ghost use Rattle.lists.specs.Regions.{part, Part, Out, Kept};
-ghost use Rattle.sheet.specs.Edges.{pointCorners};
+ghost use Rattle.points.specs.Points.{withPoint};
 ghost use Rattle.sheet.specs.Quads.{valence};
 ghost use Rattle.sheet.specs.Flat.{corner, quadAt};
 ghost use Rattle.swaps.specs.Claims.{sq};
@@ -14,7 +15,7 @@ ghost use Rattle.merges.specs.Coarse.{hasCorner};
 ghost use Rattle.incidence.specs.Corners.{Cornered};
 ghost use Rattle.merging.specs.Tests.{noOpposite, partOf, masksJoined, sumOfFour, sumOfThree, unmarked, quadFree, freeAt, notFurther, apartFrom, sharesAt, sharesNone, freeAround, noneFurther, sharedOnly, Listed};
 ghost use Rattle.merging.specs.Layout.{usedAt, flatStart, startOf, usedIn, Grounds, Spanned, Face, meetOnly, gainOf, worthIt, allowedIn};
-ghost use Rattle.merging.specs.Marks.{markedBy, markedIn, markedNear, renamedAt, Marking, Nameable, renamedQuads};
+ghost use Rattle.merging.specs.Marks.{markedBy, markedIn, markedNear, renamedAt, Marking, Nameable, renamedQuads, Merging, Joined};
 
 // Regions of the work slice in a pass, in units of points and quads together, behind the masks: the quads at the pass's start, work of the sorts,
 // where the corners by edge begin and the corners, the same by point, how many quads each point has, the barred points, and the quads that are out.
@@ -420,4 +421,28 @@ fn rename(np: usize, nq: usize, c: usize, a: usize, quads: &mut [u32], w: &[u32]
     let from = s.from;
     let to = s.to;
     rename_corners(&w[from..to], a as u32, quads);
+}
+
+// The merge of the corners a and c of quad f at the point p.
+pub fn merge(
+    np: usize,
+    nq: usize,
+    f: usize,
+    a: usize,
+    c: usize,
+    p: Point,
+    points: &mut [f64],
+    quads: &mut [u32],
+    w: &mut [u32],
+)
+    requires { ⌜ Grounds np nq (now w) ⌝ }
+    requires { ⌜ Merging np nq f a c (length (now points)) (length (now quads)) ⌝ }
+    ensures { λ _. ⌜ now (points .exit) ≡ withPoint (now (points .entry)) a p ⌝ }
+    ensures { λ _. ⌜ Joined np nq f a c (now (quads .entry)) (now (w .entry)) (now (quads .exit)) (now (w .exit)) ⌝ }
+{
+    points::put_point(points, a, p);
+    rename(np, nq, c, a, quads, w);
+    bar_around(np, nq, a, w);
+    bar_around(np, nq, c, w);
+    w[REMOVED * (np + nq) + f] = 1;
 }

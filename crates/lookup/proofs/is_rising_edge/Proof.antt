@@ -8,7 +8,7 @@ use Rattle.lookup.proofs.is_rising_edge.Tie as tie
 
 rising-at : (c : tie.After-at2) →
     let a = c .before .before .before .args in
-    Rising (a .np) (a .nq) (a .was) (a .starts) (a .order) (a .a) (c .before .at .result) (c .at2 .result) (a .w .now)
+    Rising (a .np) (a .nq) (a .was) (a .order) (a .a) (c .before .at .result) (c .at2 .result) (a .w .now)
 rising-at c = let p = c .before .before .before .pre in rising _ (p .0) (omega (arith, p .1)) (c .before .at .ensures) (c .at2 .ensures)
 
 add-at : tie.Need-add-at
