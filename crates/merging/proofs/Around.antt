@@ -132,13 +132,13 @@ unfolding usedOf
 used-get n U v h = getD-tab (isMarked U) n v true h
 
 -- a quad at a or c that has v
-record Near (Q : List ℕ) (nq a c v : ℕ) : Type 0 where
-  q : ℕ
-  q< : q < nq
-  ends : (hasCorner (quadAt Q q) a || hasCorner (quadAt Q q) c) ≡ true
-  has : 0 < uses v (quadAt Q q)
+pub record Near (Q : List ℕ) (nq a c v : ℕ) : Type 0 where
+  pub q : ℕ
+  pub q< : q < nq
+  pub ends : (hasCorner (quadAt Q q) a || hasCorner (quadAt Q q) c) ≡ true
+  pub has : 0 < uses v (quadAt Q q)
 
-near-find : (Q : List ℕ) (nq a c v : ℕ) → near (quadsOf nq Q) a c v ≡ true → Near Q nq a c v
+pub near-find : (Q : List ℕ) (nq a c v : ℕ) → near (quadsOf nq Q) a c v ≡ true → Near Q nq a c v
 unfolding quadsOf
 near-find Q nq a c v e = go (upto-find f nq (rw (sum-tab weigh (quadAt Q) nq) at (ltb-true 0 (sum weigh (tabulate (quadAt Q) nq)) e)))
   where

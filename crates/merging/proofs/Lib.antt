@@ -5,3 +5,4 @@ pub mod Around
 pub mod Masks
 pub mod Grounds
 pub mod Marks
+pub mod States
