@@ -578,7 +578,7 @@ pub record MKept (labels : List ℕ) (n c : ℕ) (S S′ : List Slot) : Type 0 w
   pub four : (j : ℕ) (q : Quad) → getD S′ j out ≡ slot q → Differ q
 
 -- To bar more keeps the invariant.
-minv-more : (S0 : List Quad) (S : List Slot) (U U₁ : ℕ → Type 0) → ((v : ℕ) → U v → U₁ v) → MInv S0 S U → MInv S0 S U₁
+pub minv-more : (S0 : List Quad) (S : List Slot) (U U₁ : ℕ → Type 0) → ((v : ℕ) → U v → U₁ v) → MInv S0 S U → MInv S0 S U₁
 minv-more S0 S U U₁ f inv = record { len = inv .len; same = λ v n j l h. inv .same v (λ u. n (f v u)) j l h }
 
 pub merges-kept : (S0 : List Quad) (labels : List ℕ) (n : ℕ) (S : List Slot) (U : ℕ → Type 0) (S′ : List Slot) (c : ℕ) → Merges S0 labels S U S′ c → MInv S0 S U → ((j : ℕ) → j < length S0 → Differ (getD S0 j noneQuad))

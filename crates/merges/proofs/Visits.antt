@@ -12,14 +12,15 @@ use lib.ListN.{length, getD, replicate}
 use borrow.Author.Tests.{lt-ltb, eqb-true, leb-true, ne-eqb}
 use Rattle.sheet.specs.Quads.{uses, isEdge, hasLabel, Quad, quad, is, sum, corners, at, valence, side, touches}
 use Rattle.sheet.specs.Sheet.{Sheet}
-use Rattle.swaps.specs.Claims.{Low, Below}
+use Rattle.swaps.specs.Claims.{Low, Below, Differ}
 use Rattle.swaps.specs.Swaps.{choose, takeOr, turn, noneQuad}
 use Rattle.swaps.proofs.Passes.{Has}
 use Rattle.swaps.proofs.Swap.{sum-at}
 use Rattle.swaps.proofs.Sweep.{no-edge, choose-some, none-some, cond-some, not-true, and-true}
 use Rattle.swaps.proofs.Weigh.{at-point-le, is-le, side-at-end}
 use Rattle.merges.specs.Coarse.{MergeFits, Position, shareOnly, noFurther, nearFree, freshMerge, mergedState, hasCorner, MergeState, mark, near, masksJoin, sumBefore, sumAfter, mayMerge, tryFace, visit, mergePass}
-use Rattle.merges.specs.Merges.{Slot, out, slot}
+use Rattle.merges.specs.Merges.{Slot, out, slot, merged}
+use Rattle.merges.proofs.MergePass.{MInv, Merged, merge-kept, minv-more}
 use Rattle.merges.proofs.Joins.{Mergeable, BarPoints, Merges, done, merge}
 use Rattle.lists.proofs.Every.{or-split, every-at, and-left}
 
@@ -165,15 +166,18 @@ module _ (n : ℕ) (S0 : List Quad) (labels : List ℕ) (fits : MergeFits) (posi
                   (either (touches S0 labels a (2 * j)) (touches S0 labels c (2 * j)) h) (either (touches S0 labels a (2 * j + 1)) (touches S0 labels c (2 * j + 1)) k))
 
   -- a step of a pass, as Merges has it
-  record MStep (st t : MergeState) : Type 1 where
-    counted : t .count ≡ suc (st .count)
-    before-it : (S′ : List Slot) (c : ℕ) → Merges S0 labels (t .slots) (Used (t .used)) S′ c → Merges S0 labels (st .slots) (Used (st .used)) S′ (suc c)
+  pub record MStep (st t : MergeState) : Type 1 where
+    pub counted : t .count ≡ suc (st .count)
+    pub keeps : ((j : ℕ) → j < length S0 → Differ (getD S0 j noneQuad)) → MInv S0 (st .slots) (Used (st .used)) → MInv S0 (t .slots) (Used (t .used))
+    pub before-it : (S′ : List Slot) (c : ℕ) → Merges S0 labels (t .slots) (Used (t .used)) S′ c → Merges S0 labels (st .slots) (Used (st .used)) S′ (suc c)
 
   take-merge : (st : MergeState) (f a b c d : ℕ) (face : Quad) (from : ℕ) → getD (st .slots) f out ≡ slot face → turn from face ≡ quad a b c d
       → not (getD (st .used) a true) ≡ true → not (getD (st .used) b true) ≡ true → not (getD (st .used) c true) ≡ true → not (getD (st .used) d true) ≡ true
       → mayMerge n S0 labels fits position st f a b c d ≡ true → MStep st (mergedState n S0 labels fits position st f a c)
   take-merge st f a b c d face from e t ua ub uc ud y = record {
     counted = refl;
+    keeps = λ fine i. minv-more S0 (merged (st .slots) f a c) (BarPoints S0 (Used (st .used)) a c) (Used (mark (st .used) (near S0 a c) 0)) more
+        (merge-kept labels S0 (st .slots) (Used (st .used)) i fine f a b c d (mergeable st f a b c d face from e t ua ub uc ud y) .inv);
     before-it = λ S′ x rest. merge f a b c d (mergeable st f a b c d face from e t ua ub uc ud y) more rest;
   }
     where
@@ -181,7 +185,7 @@ module _ (n : ℕ) (S0 : List Quad) (labels : List ℕ) (fits : MergeFits) (posi
       more v (inl h) = mark-more (st .used) (near S0 a c) 0 v (inl h)
       more v (inr (j, l, h, hv)) = mark-more (st .used) (near S0 a c) 0 v (inr (ap (near S0 a c) (omega arith) ∙ near-of S0 a c v j l h hv))
 
-  face-step : (st t : MergeState) (f : ℕ) (s : Slot) → getD (st .slots) f out ≡ s → tryFace n S0 labels fits position st f s ≡ some t → MStep st t
+  pub face-step : (st t : MergeState) (f : ℕ) (s : Slot) → getD (st .slots) f out ≡ s → tryFace n S0 labels fits position st f s ≡ some t → MStep st t
   face-step st t f out q e = absurd (none-some e)
   face-step st t f (slot (quad q0 q1 q2 q3)) q e = tested (cond-some _ _ e)
     where

@@ -1,0 +1,2 @@
+-- `Choices` has the choice between the diagonals of a quad.
+pub mod Choices

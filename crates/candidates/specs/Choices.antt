@@ -1,0 +1,88 @@
+-- The search for the merge in a quad: its two diagonals, one after the other.
+use Prim.Native.Nat.{ℕ, zero, suc, _+_, _-_, _*_, _%_, _≤_, _<_, max}
+use mathlib.Core.Path.{_≡_}
+use mathlib.Core.Bool.{Bool, true, cond, _&&_}
+use mathlib.Core.Option.{Option, none, some}
+use mathlib.Core.List.{List, []}
+use lib.Dec.{ltb}
+use lib.Ieee.{Float}
+use lib.ListN.{length, getD, take}
+use Rattle.lists.specs.Every.{every}
+use Rattle.points.specs.declared.Point.{Point}
+use Rattle.points.specs.Points.{pointAt, halfwayP}
+use Rattle.field.specs.declared.Field.{Field}
+use Rattle.band.specs.declared.Band.{Band}
+use Rattle.projection.specs.declared.Projected.{Projected}
+use Rattle.projection.specs.declared.Projected.the-variants.{Onto, Refused}
+use Rattle.projection.specs.Project.{longestMove, lookCount, projectWith}
+use Rattle.sheet.specs.Quads.{Quad, quad}
+use Rattle.sheet.specs.Flat.{corner}
+use Rattle.sheet.specs.Sheet.{Sheet}
+use Rattle.merges.specs.Merges.{Slot, out, slot}
+use Rattle.merges.specs.Coarse.{MergeState, MergeFits, Position, mayMerge, mergedState, sumBefore, sumAfter}
+use Rattle.fits.specs.MergeFits.{mergeAt, staysAt}
+use Rattle.merging.specs.Layout.{flatStart, startOf, allowedIn, gainOf, Grounds, Face}
+use Rattle.candidates.specs.declared.Candidate.{Candidate}
+use Rattle.candidates.specs.declared.Choice.{Choice}
+use Rattle.candidates.specs.declared.Choice.the-variants.{None, Take}
+use Rattle.candidates.specs.declared.Diagonal.{Diagonal}
+
+-- diagonal k of quad f, whose corners are those of the flat list Q
+unfoldable pub diagonalOf : List ℕ → ℕ → ℕ → Diagonal
+diagonalOf Q f k = record { face = f; a = corner Q f k; b = corner Q f (k + 1); c = corner Q f (k + 2); d = corner Q f ((k + 3) % 4) }
+
+-- of two candidates the second only if it gains more: "the higher gain wins, the first on a tie"
+unfoldable pub betterOf : Choice → Candidate → Choice
+betterOf None y = Take y
+betterOf (Take x) y = cond (ltb (x .gain) (y .gain)) (Take y) (Take x)
+
+-- ---- as the code finds them
+
+-- where a diagonal's merge lands: refused where the rule does not allow it
+unfoldable pub landingOf : ℕ → ℕ → Diagonal → Band → Float → List Float → List ℕ → Projected
+landingOf np nq g b len P w =
+    cond (allowedIn np nq (g .face) (g .a) (g .b) (g .c) (g .d) w)
+    (projectWith b len longestMove lookCount (halfwayP (pointAt P (g .a)) (pointAt P (g .c))) (max (getD w (g .a) 0) (getD w (g .c) 0))) Refused
+
+-- the quads at the point v stay
+abbrev pub stayAround : ℕ → ℕ → Diagonal → Field → Float → Point → List Float → List ℕ → List ℕ → ℕ → Bool
+stayAround np nq g f len p P labels w v = every (staysAt f len (pointAt P) labels (flatStart np nq w) (mergeAt (g .face) (g .a) (g .c) p) v) nq
+
+-- the candidate of a diagonal
+abbrev pub candidateOf : ℕ → ℕ → Diagonal → Point → List ℕ → Candidate
+candidateOf np nq g p w =
+    record { gain = (gainOf np nq (g .a) (g .b) (g .c) (g .d) w) .before - (gainOf np nq (g .a) (g .b) (g .c) (g .d) w) .after; a = g .a; c = g .c; to = p }
+
+-- the better of what was found and a diagonal whose merge lands at p
+unfoldable pub weighedOf : ℕ → ℕ → Diagonal → Field → Float → Point → List Float → List ℕ → List ℕ → Choice → Choice
+weighedOf np nq g f len p P labels w best =
+    cond (stayAround np nq g f len p P labels w (g .a) && stayAround np nq g f len p P labels w (g .c)) (betterOf best (candidateOf np nq g p w)) best
+
+-- what a diagonal makes of what was found
+abbrev pub afterLanding : ℕ → ℕ → Diagonal → Field → Float → List Float → List ℕ → List ℕ → Choice → Projected → Choice
+afterLanding np nq g f len P labels w best (Onto p) = weighedOf np nq g f len p P labels w best
+afterLanding np nq g f len P labels w best Refused = best
+
+-- the choice after the first k diagonals of quad f
+unfoldable pub foundTo : ℕ → ℕ → Band → Float → List Float → List ℕ → List ℕ → List ℕ → ℕ → ℕ → Choice
+foundTo np nq b len P Q labels w f zero = None
+foundTo np nq b len P Q labels w f (suc k) =
+    afterLanding np nq (diagonalOf Q f k) (b .field) len P labels w (foundTo np nq b len P Q labels w f k) (landingOf np nq (diagonalOf Q f k) b len P w)
+
+-- what the merge of a diagonal asks
+pub record Tried (np nq : ℕ) (g : Diagonal) (w : List ℕ) : Type 0 where
+  pub face : Face np nq (g .a) (g .b) (g .c) (g .d) w
+  pub mask-a : getD w (g .a) 0 < 256
+  pub mask-c : getD w (g .c) 0 < 256
+
+-- what the search in quad f asks: both diagonals can be tried
+pub record Searching (np nq f : ℕ) (Q w : List ℕ) : Type 0 where
+  pub f< : f < nq
+  pub first : Tried np nq (diagonalOf Q f 0) w
+  pub second : Tried np nq (diagonalOf Q f 1) w
+
+-- slices of p coordinates, q corners and l labels hold the sheet
+pub record Holding (np nq p q l : ℕ) : Type 0 where
+  pub points : 3 * np ≤ p
+  pub quads : 4 * nq ≤ q
+  pub labels : nq ≤ l
