@@ -32,6 +32,14 @@ allowed-gains np nq f a b c d w e =
     leb-true (sumAfter np (startOf np nq w) noLabels a b c d) (sumBefore np (startOf np nq w) noLabels a b c d)
     (and-right (masksJoined (getD w a 0) (getD w c 0) && leb 4 (valence (startOf np nq w) b) && leb 4 (valence (startOf np nq w) d)) _ h)
 
+-- and the masks join
+pub allowed-joins : (np nq f a b c d : ℕ) (w : List ℕ) → allowedIn np nq f a b c d w ≡ true → masksJoined (getD w a 0) (getD w c 0) ≡ true
+unfolding allowedIn worthIt
+allowed-joins np nq f a b c d w e =
+    let h = and-left (masksJoined (getD w a 0) (getD w c 0) && leb 4 (valence (startOf np nq w) b) && leb 4 (valence (startOf np nq w) d)
+        && leb (sumAfter np (startOf np nq w) noLabels a b c d) (sumBefore np (startOf np nq w) noLabels a b c d)) _ e in
+    and-left _ _ (and-left _ _ (and-left (masksJoined (getD w a 0) (getD w c 0) && leb 4 (valence (startOf np nq w) b) && leb 4 (valence (startOf np nq w) d)) _ h))
+
 -- ---- the search
 
 pub tried-at : {np nq f : ℕ} {Q w : List ℕ} (k : ℕ) → Searching np nq f Q w → k < 2 → Tried np nq (diagonalOf Q f k) w

@@ -1,2 +1,3 @@
--- `Choices` has the choice between the diagonals of a quad.
+-- `Choices` has the choice between the diagonals of a quad, `Rule` that it is the rule's.
 pub mod Choices
+pub mod Rule

@@ -18,9 +18,10 @@ use Rattle.projection.specs.Project.{longestMove, lookCount, projectWith}
 use Rattle.sheet.specs.Quads.{Quad, quad}
 use Rattle.sheet.specs.Flat.{corner}
 use Rattle.sheet.specs.Sheet.{Sheet}
-use Rattle.merges.specs.Merges.{Slot, out, slot}
-use Rattle.merges.specs.Coarse.{MergeState, MergeFits, Position, mayMerge, mergedState, sumBefore, sumAfter}
-use Rattle.fits.specs.MergeFits.{mergeAt, staysAt}
+use Rattle.merges.specs.Merges.{out}
+use Rattle.merges.specs.Coarse.{MergeState, MergeFits, Position, tryFace}
+use Rattle.swaps.specs.Swaps.{takeOr}
+use Rattle.fits.specs.MergeFits.{mergeAt, staysAt, mergeFits, mergePosition}
 use Rattle.merging.specs.Layout.{flatStart, startOf, allowedIn, gainOf, Grounds, Face}
 use Rattle.candidates.specs.declared.Candidate.{Candidate}
 use Rattle.candidates.specs.declared.Choice.{Choice}
@@ -86,3 +87,21 @@ pub record Holding (np nq p q l : ℕ) : Type 0 where
   pub points : 3 * np ≤ p
   pub quads : 4 * nq ≤ q
   pub labels : nq ≤ l
+
+-- ---- in the words of the rule
+
+-- the quads and labels at the pass's start, as the parameters of the rule read them
+abbrev pub startSheet : ℕ → ℕ → List ℕ → List ℕ → Sheet
+startSheet np nq labels w = record { points = []; quads = startOf np nq w; labels = take nq labels }
+
+-- the rule's part that reads the points, and its position
+abbrev pub fitsIn : Band → ℕ → ℕ → List ℕ → List ℕ → MergeFits
+fitsIn b np nq labels w = mergeFits b (startSheet np nq labels w)
+
+abbrev pub positionIn : Band → ℕ → ℕ → List ℕ → List ℕ → Position
+positionIn b np nq labels w = mergePosition b (startSheet np nq labels w)
+
+-- the state after the visit of quad f
+abbrev pub visited : Band → ℕ → ℕ → List ℕ → List ℕ → ℕ → MergeState → MergeState
+visited b np nq labels w f st =
+    takeOr st (tryFace np (startOf np nq w) (take nq labels) (fitsIn b np nq labels w) (positionIn b np nq labels w) st f (getD (st .slots) f out))
