@@ -20,7 +20,8 @@ use Rattle.swaps.proofs.Sweep.{no-edge, choose-some, none-some, cond-some, not-
 use Rattle.swaps.proofs.Weigh.{at-point-le, is-le, side-at-end}
 use Rattle.merges.specs.Coarse.{MergeFits, Position, shareOnly, noFurther, nearFree, freshMerge, mergedState, hasCorner, MergeState, mark, near, masksJoin, sumBefore, sumAfter, mayMerge, tryFace, visit, mergePass}
 use Rattle.merges.specs.Merges.{Slot, out, slot, merged}
-use Rattle.merges.proofs.MergePass.{MInv, Merged, merge-kept, minv-more}
+use Rattle.merges.specs.Invariant.{MInv, Used}
+use Rattle.merges.proofs.MergePass.{Merged, merge-kept, minv-more}
 use Rattle.merges.proofs.Joins.{Mergeable, BarPoints, Merges, done, merge}
 use Rattle.lists.proofs.Every.{or-split, every-at, and-left}
 
@@ -33,9 +34,6 @@ unfolding Low
 high-none v l [] labels h k = refl
 high-none v l (q ∷ S) [] h k = refl
 high-none v l (q ∷ S) (x ∷ labels) (p, h) k = omega (arith, ap (λ b. cond b (corners (at v (λ p n. 1)) q) 0) (ne-eqb x l (λ e. omega arith)), high-none v l S labels h k)
-
-unfoldable pub Used : List Bool → ℕ → Type 0
-Used us v = getD us v true ≡ true
 
 mark-more : (us : List Bool) (f : ℕ → Bool) (i v : ℕ) → (Used us v) ⊎ (f (i + v) ≡ true) → Used (mark us f i) v
 unfolding Used

@@ -29,8 +29,9 @@ use Rattle.incidence.proofs.Marks.{uses-at}
 use Rattle.swaps.specs.Swaps.{noneQuad}
 use Rattle.merges.specs.Merges.{Slot, out, slot, rename, renameQuad, renameSlot, merged}
 use Rattle.merges.specs.Coarse.{hasCorner, near, mark, MergeState, MergeFits, Position, mergedState}
-use Rattle.merges.proofs.MergePass.{MInv, weigh, slot-inj}
-use Rattle.merges.proofs.Visits.{Used, near-of}
+use Rattle.merges.specs.Invariant.{MInv, Used, weigh}
+use Rattle.merges.proofs.MergePass.{slot-inj}
+use Rattle.merges.proofs.Visits.{near-of}
 use Rattle.merging.specs.Tests.{unmarked}
 use Rattle.merging.specs.State.{isMarked, usedOf, slotAt, slotsOf, stateOf}
 use Rattle.merging.specs.Layout.{flatStart, startOf, usedIn, removedIn, removedAt, Grounds}
