@@ -102,7 +102,7 @@ module _ (np nq : ℕ) (b : Band) (P : List Float) (labels w : List ℕ) (G : Gr
     to = mergePosition b (startSheet np nq labels w) (pointsOf np P) (g .a) (g .c);
   }
 
-  abbrev mayAt : Diagonal → Bool
+  abbrev pub mayAt : Diagonal → Bool
   mayAt g = mayMerge np (startOf np nq w) (take nq labels) (fitsIn b np nq labels w) (positionIn b np nq labels w) (record { slots = S; used = usedOf np (usedIn np nq w); points = pointsOf np P; count = k }) (g .face) (g .a) (g .b) (g .c) (g .d)
 
   diagonal-is : (g : Diagonal) (best : Choice) → g .a < np → g .c < np

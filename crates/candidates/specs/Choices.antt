@@ -9,7 +9,7 @@ use lib.Ieee.{Float}
 use lib.ListN.{length, getD, take}
 use Rattle.lists.specs.Every.{every}
 use Rattle.points.specs.declared.Point.{Point}
-use Rattle.points.specs.Points.{pointAt, halfwayP}
+use Rattle.points.specs.Points.{pointAt, withPoint, halfwayP}
 use Rattle.field.specs.declared.Field.{Field}
 use Rattle.band.specs.declared.Band.{Band}
 use Rattle.projection.specs.declared.Projected.{Projected}
@@ -20,9 +20,16 @@ use Rattle.sheet.specs.Flat.{corner}
 use Rattle.sheet.specs.Sheet.{Sheet}
 use Rattle.merges.specs.Merges.{out}
 use Rattle.merges.specs.Coarse.{MergeState, MergeFits, Position, tryFace}
-use Rattle.swaps.specs.Swaps.{takeOr}
+use Rattle.swaps.specs.Claims.{Low, Below, Differ}
+use Rattle.swaps.specs.Swaps.{noneQuad, takeOr}
+use Rattle.merges.specs.Invariant.{MInv, Used}
+use Rattle.incidence.specs.Corners.{Cornered}
+use Rattle.lists.specs.Regions.{Kept}
+use Rattle.merging.specs.Tests.{unmarked, quadFree}
+use Rattle.merging.specs.Marks.{Merging, Joined}
+use Rattle.merging.specs.State.{usedOf, slotsOf, stateOf}
 use Rattle.fits.specs.MergeFits.{mergeAt, staysAt, mergeFits, mergePosition}
-use Rattle.merging.specs.Layout.{flatStart, startOf, allowedIn, gainOf, Grounds, Face}
+use Rattle.merging.specs.Layout.{flatStart, startOf, usedIn, removedIn, Steady, allowedIn, gainOf, Grounds, Masked, Face}
 use Rattle.candidates.specs.declared.Candidate.{Candidate}
 use Rattle.candidates.specs.declared.Choice.{Choice}
 use Rattle.candidates.specs.declared.Choice.the-variants.{None, Take}
@@ -105,3 +112,59 @@ positionIn b np nq labels w = mergePosition b (startSheet np nq labels w)
 abbrev pub visited : Band → ℕ → ℕ → List ℕ → List ℕ → ℕ → MergeState → MergeState
 visited b np nq labels w f st =
     takeOr st (tryFace np (startOf np nq w) (take nq labels) (fitsIn b np nq labels w) (positionIn b np nq labels w) st f (getD (st .slots) f out))
+
+-- ---- a visit
+
+-- what holds during a pass: slices of p coordinates, the quads Q now, and the work slice
+pub record Passing (np nq : ℕ) (labels : List ℕ) (p : ℕ) (Q w : List ℕ) : Type 0 where
+  pub grounds : Grounds np nq w
+  pub masked : Masked np nq (take nq labels) w
+  pub labelled : nq ≤ length labels
+  pub points : 3 * np ≤ p
+  pub sheet : Cornered np nq Q
+  pub low : Low (take nq labels)
+  pub below : Below np (startOf np nq w)
+  pub differ : (j : ℕ) → j < length (startOf np nq w) → Differ (getD (startOf np nq w) j noneQuad)
+  pub inv : MInv (startOf np nq w) (slotsOf nq Q (removedIn np nq w)) (Used (usedOf np (usedIn np nq w)))
+
+-- the state that the slices have
+abbrev pub stateIn : ℕ → ℕ → List Float → List ℕ → List ℕ → ℕ → MergeState
+stateIn np nq P Q w k = stateOf np nq P Q (removedIn np nq w) (usedIn np nq w) k
+
+-- the visit of quad f, with r merges, leaves the rule's state
+pub record VisitedFace (b : Band) (np nq : ℕ) (labels : List ℕ) (f r : ℕ) (P : List Float) (Q w : List ℕ) (P′ : List Float) (Q′ w′ : List ℕ) : Type 0 where
+  pub state : (k : ℕ) → stateIn np nq P′ Q′ w′ (k + r) ≡ visited b np nq labels w f (stateIn np nq P Q w k)
+  pub passing : Passing np nq labels (length P′) Q′ w′
+  pub kept : Kept (Steady np nq) w w′
+  pub most : r ≤ 1
+  pub len-points : length P′ ≡ length P
+  pub len-quads : length Q′ ≡ length Q
+
+-- ---- its parts
+
+-- quad f is still here, and none of its corners is barred
+unfoldable pub triedIn : ℕ → ℕ → ℕ → List ℕ → List ℕ → Bool
+triedIn np nq f Q w = unmarked (removedIn np nq w) f && quadFree Q (usedIn np nq w) f
+
+-- what a choice asks before it is taken
+abbrev pub Takeable : ℕ → ℕ → ℕ → Choice → ℕ → ℕ → Type 0
+Takeable np nq f None p q = Unit {0}
+Takeable np nq f (Take m) p q = Merging np nq f (m .a) (m .c) p q
+
+-- what stays as it is
+pub record Same (r : ℕ) (P : List Float) (Q w : List ℕ) (P′ : List Float) (Q′ w′ : List ℕ) : Type 0 where
+  pub none : r ≡ 0
+  pub points : P′ ≡ P
+  pub quads : Q′ ≡ Q
+  pub work : w′ ≡ w
+
+-- what a merge leaves
+pub record Made (np nq f : ℕ) (m : Candidate) (r : ℕ) (P : List Float) (Q w : List ℕ) (P′ : List Float) (Q′ w′ : List ℕ) : Type 0 where
+  pub one : r ≡ 1
+  pub points : P′ ≡ withPoint P (m .a) (m .to)
+  pub joined : Joined np nq f (m .a) (m .c) Q w Q′ w′
+
+-- what a choice leaves
+abbrev pub Taken : ℕ → ℕ → ℕ → Choice → ℕ → List Float → List ℕ → List ℕ → List Float → List ℕ → List ℕ → Type 0
+Taken np nq f None r P Q w P′ Q′ w′ = Same r P Q w P′ Q′ w′
+Taken np nq f (Take m) r P Q w P′ Q′ w′ = Made np nq f m r P Q w P′ Q′ w′

@@ -9,9 +9,12 @@ ghost use mathlib.Core.Path.{_≡_};
 ghost use Prim.Native.Nat.{ℕ, _+_, _*_, _<_, _≤_, max};
 ghost use lib.ListN.{length};
 ghost use Rattle.merging.specs.Layout.{Grounds};
-ghost use Rattle.candidates.specs.Choices.{diagonalOf, betterOf, landingOf, stayAround, weighedOf, foundTo, Tried, Searching, Holding};
+ghost use Rattle.candidates.specs.Choices.{diagonalOf, betterOf, landingOf, stayAround, weighedOf, foundTo, Tried, Searching, Holding, triedIn, Takeable, Taken, Passing, VisitedFace};
 ghost use Rattle.merging.specs.Layout.{allowedIn};
 ghost use mathlib.Core.Bool.{true};
+ghost use Rattle.band.specs.Bands.{lengthOf};
+ghost use Rattle.incidence.specs.Corners.{Cornered};
+
 
 // A diagonal of a quad: the corners a and c that a merge makes one, and the other two.
 pub struct Diagonal {
@@ -198,4 +201,56 @@ pub fn search(
         best = weighed(np, nq, g, field, len, p, points, labels, w, best);
     }
     best
+}
+
+// Quad f is still here, and none of its corners is barred.
+fn is_tried(np: usize, nq: usize, f: usize, quads: &[u32], w: &[u32]) -> bool
+    requires { ⌜ Grounds np nq (now w) ⌝ }
+    requires { ⌜ Cornered np nq (now quads) ⌝ }
+    requires { ⌜ f < nq ⌝ }
+    ensures { λ r. ⌜ r ≡ triedIn np nq f (now (quads .entry)) (now (w .entry)) ⌝ }
+{
+    let n = np + nq;
+    let used = merging::USED * n;
+    let here = lists::at(w, merging::REMOVED * n + f) == 0;
+    here & merging::quad_free(np, nq, quads, &w[used..used + np], f)
+}
+
+// Makes the merge that was chosen in quad f, if one was; answers how many merges that is.
+fn take(np: usize, nq: usize, f: usize, choice: Choice, points: &mut [f64], quads: &mut [u32], w: &mut [u32]) -> usize
+    requires { ⌜ Grounds np nq (now w) ⌝ }
+    requires { ⌜ Takeable np nq f choice (length (now points)) (length (now quads)) ⌝ }
+    ensures { λ r. ⌜ Taken np nq f choice r (now (points .entry)) (now (quads .entry)) (now (w .entry)) (now (points .exit)) (now (quads .exit)) (now (w .exit)) ⌝ }
+{
+    match choice {
+        Choice::None => 0,
+        Choice::Take(m) => {
+            merging::merge(np, nq, f, m.a, m.c, m.to, points, quads, w);
+            1
+        }
+    }
+}
+
+// Visits quad f: makes the merge that the rule takes there, if any; answers how many merges that is.
+pub fn visit(
+    np: usize,
+    nq: usize,
+    f: usize,
+    b: Band,
+    len: f64,
+    points: &mut [f64],
+    quads: &mut [u32],
+    labels: &[u8],
+    w: &mut [u32],
+) -> usize
+    requires { ⌜ Passing np nq (now labels) (length (now points)) (now quads) (now w) ⌝ }
+    requires { ⌜ f < nq ⌝ }
+    requires { ⌜ len ≡ lengthOf b ⌝ }
+    ensures { λ r. ⌜ VisitedFace b np nq (now (labels .entry)) f r (now (points .entry)) (now (quads .entry)) (now (w .entry)) (now (points .exit)) (now (quads .exit)) (now (w .exit)) ⌝ }
+{
+    if is_tried(np, nq, f, quads, w) {
+        let choice = search(np, nq, f, b, len, points, quads, labels, w);
+        return take(np, nq, f, choice, points, quads, w);
+    }
+    0
 }

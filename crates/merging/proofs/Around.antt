@@ -115,7 +115,7 @@ further-turned n S labels f a c = every-ext _ _ (length S) (λ j h. ap (λ b. eq
 -- ---- not "a diagonal where a quad at either end has one", a barred corner
 
 -- each corner of a free quad is unmarked
-free-corner : (Q U : List ℕ) (q j : ℕ) → quadFree Q U q ≡ true → j < 4 → unmarked U (corner Q q j) ≡ true
+pub free-corner : (Q U : List ℕ) (q j : ℕ) → quadFree Q U q ≡ true → j < 4 → unmarked U (corner Q q j) ≡ true
 unfolding quadFree
 free-corner Q U q zero e h = and-left _ _ (and-left _ _ (and-left _ _ e))
 free-corner Q U q (suc zero) e h = and-right (unmarked U (corner Q q 0)) _ (and-left _ _ (and-left _ _ e))

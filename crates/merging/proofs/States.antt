@@ -140,7 +140,7 @@ nth-corner Q j (suc (suc (suc zero))) h = refl
 nth-corner Q j (suc (suc (suc (suc i)))) h = absurd (omega arith)
 
 -- equal quads have equal corners
-corner-same : (Q R : List ℕ) (j i : ℕ) → i < 4 → quadAt Q j ≡ quadAt R j → corner Q j i ≡ corner R j i
+pub corner-same : (Q R : List ℕ) (j i : ℕ) → i < 4 → quadAt Q j ≡ quadAt R j → corner Q j i ≡ corner R j i
 corner-same Q R j i h e = sym (nth-corner Q j i h) ∙ (ap (nth i) e ∙ nth-corner R j i h)
 
 pub slot-get : (nq : ℕ) (Q R : List ℕ) (j : ℕ) → j < nq → getD (slotsOf nq Q R) j out ≡ slotAt Q R j
