@@ -1,8 +1,6 @@
 // The leaf functions for tests that link them: a field comes as its kind and ten numbers, a box as six bounds.
 
 use band::Band;
-use field::Coefficients;
-use field::Field;
 use points::Point;
 use projection::LONGEST_MOVE;
 use projection::LOOKS;
@@ -10,65 +8,14 @@ use projection::Projected;
 use sheet::Counts;
 use sheet::Verdict;
 ghost use mathlib.Core.Path.{_≡_};
-ghost use Prim.Native.Nat.{_≤_};
-ghost use lib.ListN.{length};
 ghost use Rattle.numeric.specs.Root.{sqrtOf};
-ghost use Rattle.leaves.specs.Doors.{coefficientsOf, fieldOf, valueAt};
+ghost use Rattle.leaves.specs.Doors.{valueAt};
 
 // Accepted.
 const ACCEPTED: u32 = 0;
 
 // A projection fails.
 const ASTRAY: u32 = 9;
-
-// The first ten numbers of a slice.
-fn coefficients(k: &[f64]) -> Coefficients
-    requires { ⌜ 10 ≤ length (now k) ⌝ }
-    ensures { λ r. ⌜ r ≡ coefficientsOf (now (k .entry)) ⌝ }
-{
-    Coefficients {
-        k0: k[0],
-        k1: k[1],
-        k2: k[2],
-        k3: k[3],
-        k4: k[4],
-        k5: k[5],
-        k6: k[6],
-        k7: k[7],
-        k8: k[8],
-        k9: k[9],
-    }
-}
-
-// The field of a kind: 0 is a plane, 1 a ball, any other a quadric.
-fn field_of(kind: u32, k: Coefficients) -> Field
-    ensures { λ r. ⌜ r ≡ fieldOf kind k ⌝ }
-{
-    if kind == 0 {
-        return Field::Plane(k.k0, k.k1, k.k2, k.k3);
-    }
-    if kind == 1 {
-        return Field::Ball(k.k0, k.k1, k.k2, k.k3);
-    }
-    Field::Quadric(k)
-}
-
-// The band of a field and the bounds low x, y, z and high x, y, z.
-fn band_of(kind: u32, numbers: &[f64], bounds: &[f64], lower: f64, upper: f64) -> Band
-    requires { ⌜ 10 ≤ length (now numbers) ⌝ }
-    requires { ⌜ 6 ≤ length (now bounds) ⌝ }
-{
-    let low = points::point_at(bounds, 0);
-    let high = points::point_at(bounds, 1);
-    let field = field_of(kind, coefficients(numbers));
-    Band {
-        low,
-        high,
-        lower,
-        upper,
-        field,
-    }
-}
 
 // Writes a point to out.
 fn put(out: &mut [f64], p: Point) -> u32 {
@@ -95,7 +42,10 @@ pub extern "C" fn leaf_value(kind: u32, numbers: &[f64], x: f64, y: f64, z: f64)
     if numbers.len() < 10 {
         return 0.0 / 0.0;
     }
-    field::value(field_of(kind, coefficients(numbers)), Point { x, y, z })
+    field::value(
+        exports::field_of(kind, exports::coefficients(numbers)),
+        Point { x, y, z },
+    )
 }
 
 // Writes the gradient of a band's field to out.
@@ -114,7 +64,7 @@ pub extern "C" fn leaf_gradient(
     if numbers.len() < 10 || bounds.len() < 6 {
         return sheet::SHORT;
     }
-    let b = band_of(kind, numbers, bounds, lower, upper);
+    let b = exports::band_of(kind, numbers, bounds, lower, upper);
     let f = b.field;
     put(out, band::gradient(f, band::length(b), Point { x, y, z }))
 }
@@ -136,7 +86,7 @@ pub extern "C" fn leaf_normal(
     if numbers.len() < 10 || bounds.len() < 6 {
         return sheet::SHORT;
     }
-    let b = band_of(kind, numbers, bounds, lower, upper);
+    let b = exports::band_of(kind, numbers, bounds, lower, upper);
     let f = b.field;
     put(
         out,
@@ -161,7 +111,7 @@ pub extern "C" fn leaf_project(
     if numbers.len() < 10 || bounds.len() < 6 {
         return sheet::SHORT;
     }
-    let b = band_of(kind, numbers, bounds, lower, upper);
+    let b = exports::band_of(kind, numbers, bounds, lower, upper);
     let len = band::length(b);
     let r = projection::project(b, len, LONGEST_MOVE, LOOKS, Point { x, y, z }, mask);
     let Projected::Onto(p) = r else {
@@ -182,7 +132,7 @@ pub extern "C" fn leaf_validate(
     if numbers.len() < 10 || bounds.len() < 6 {
         return sheet::SHORT;
     }
-    if band::validate(band_of(kind, numbers, bounds, lower, upper)) {
+    if band::validate(exports::band_of(kind, numbers, bounds, lower, upper)) {
         return ACCEPTED;
     }
     sheet::BOX
@@ -224,6 +174,6 @@ pub extern "C" fn leaf_constraints(
     if numbers.len() < 10 || bounds.len() < 6 {
         return sheet::SHORT;
     }
-    let b = band_of(kind, numbers, bounds, lower, upper);
+    let b = exports::band_of(kind, numbers, bounds, lower, upper);
     tested(b, points, quads, labels, masks)
 }

@@ -1,2 +1,3 @@
--- `Exports` has the laws of `specs/Exports.antt`.
+-- `Exports` has the laws of `specs/Exports.antt`, `Assessments` those of `specs/Assessments.antt`.
 pub mod Exports
+pub mod Assessments

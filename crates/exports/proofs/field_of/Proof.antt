@@ -1,8 +1,8 @@
--- `leaves::field_of` meets its contract: each return is the case of `fieldOf` that its tests leave. Assumes nothing.
+-- `exports::field_of` meets its contract. Assumes nothing.
 use borrow.Author.Tests.{eq-eqb, ne-eqb}
-use Rattle.leaves.specs.Doors.{fieldOf}
-use Rattle.leaves.proofs.field_of.Statement.{statement}
-use Rattle.leaves.proofs.field_of.Tie as tie
+use Rattle.exports.specs.Given.{fieldOf}
+use Rattle.exports.proofs.field_of.Statement.{statement}
+use Rattle.exports.proofs.field_of.Tie as tie
 
 returns : tie.Need-returns
 unfolding fieldOf

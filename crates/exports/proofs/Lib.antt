@@ -1,0 +1,2 @@
+-- `Given`: what the test of a given band leaves.
+pub mod Given
