@@ -4,7 +4,7 @@ use mathlib.Core.Logic.{_⊎_, inl, inr, ⊎-elim}
 use mathlib.Core.Option.{Option, none}
 use mathlib.Core.Bool.{Bool, true, false, cond, _&&_, false≢true}
 use Prim.Native.Nat.{ℕ, zero, suc, _+_, _-_, _*_, _≤_, _<_}
-use mathlib.Core.List.{List}
+use mathlib.Core.List.{List, []}
 use native.Mathlib.Omega.{arith}
 use native.Mathlib.Nat.{add-zero}
 use native.Mathlib.Numerals.{add-one}
@@ -16,7 +16,7 @@ use Rattle.lists.specs.Sort.{tabulate}
 use Rattle.lists.specs.Regions.{Kept}
 use Rattle.lists.proofs.Every.{and-left, and-right}
 use Rattle.lists.proofs.Laws.{getD-tab, length-tab}
-use Rattle.lists.proofs.Regions.{part-kept, part-get, part-of, kept-refl}
+use Rattle.lists.proofs.Regions.{part-kept, part-get, part-of, kept-refl, kept-then}
 use Rattle.points.specs.declared.Point.{Point}
 use Rattle.points.specs.Points.{withPoint}
 use Rattle.band.specs.declared.Band.{Band}
@@ -36,10 +36,11 @@ use Rattle.merges.specs.Merges.{Slot, out, slot}
 use Rattle.merges.specs.Coarse.{MergeState, mergedState, tryFace}
 use Rattle.merges.specs.Invariant.{MInv, Used}
 use Rattle.merges.proofs.Visits.{MStep, face-step}
+use Rattle.fits.specs.MergeFits.{mergeFits, mergePosition}
 use Rattle.merging.specs.Tests.{unmarked, quadFree}
 use Rattle.merging.specs.State.{usedOf, slotAt, slotsOf, stateOf}
 use borrow.Rule.Slice.PartMut.{midOf}
-use Rattle.merging.specs.Layout.{usedAt, removedAt, flatStart, startOf, usedIn, removedIn, Grounds, Masked, Face}
+use Rattle.merging.specs.Layout.{usedAt, removedAt, flatStart, startOf, usedIn, removedIn, Steady, Grounds, Masked, Face}
 use Rattle.merging.specs.Marks.{isAt, renamedAt, renamedQuads, Merging, Joined}
 use Rattle.merging.proofs.Around.{quad-get, free-corner}
 use Rattle.merging.proofs.Grounds.{lent-used, start-kept, grounds-kept}
@@ -47,7 +48,7 @@ use Rattle.merging.proofs.States.{slot-get, stands, state-merged, corner-same}
 use Rattle.candidates.specs.declared.Candidate.{Candidate}
 use Rattle.candidates.specs.declared.Choice.{Choice}
 use Rattle.candidates.specs.declared.Choice.the-variants.{None, Take}
-use Rattle.candidates.specs.Choices.{diagonalOf, betterOf, foundTo, Tried, Searching, fitsIn, positionIn, visited, Passing, stateIn, VisitedFace, triedIn, Takeable, Same, Made, Taken}
+use Rattle.candidates.specs.Choices.{diagonalOf, betterOf, foundTo, Tried, Searching, fitsIn, positionIn, visited, Passing, stateIn, VisitedFace, visitsFrom, VisitedAll, triedIn, Takeable, Same, Made, Taken}
 use Rattle.candidates.proofs.Rule.{mask-at, ruleCandidate, mayAt, applied, found-is, face-is, face-barred}
 
 -- ---- the corners of a tried quad
@@ -302,3 +303,68 @@ module _ (b : Band) (np nq f : ℕ) (P : List Float) (labels Q w : List ℕ) (R 
 -- the search by the length of the band
 pub by-length : (b : Band) (np nq f : ℕ) (P : List Float) (labels Q w : List ℕ) (len : Float) (x : Choice) → len ≡ lengthOf b → x ≡ foundTo np nq b len P Q labels w f 2 → x ≡ foundTo np nq b (lengthOf b) P Q labels w f 2
 by-length b np nq f P labels Q w len x e h = h ∙ ap (λ l. foundTo np nq b l P Q labels w f 2) e
+
+-- ---- the quads in order: P0, Q0 and w0 are the slices as they came
+
+pub record Visiting (b : Band) (np nq : ℕ) (labels : List ℕ) (P0 : List Float) (Q0 w0 : List ℕ) (P : List Float) (Q w : List ℕ) (f count : ℕ) : Type 0 where
+  pub f≤ : f ≤ nq
+  pub most : count ≤ f
+  pub passing : Passing np nq labels (length P) Q w
+  pub kept : Kept (Steady np nq) w0 w
+  pub state : (k : ℕ) → visitsFrom b np nq labels w0 (nq - f) f (stateIn np nq P Q w (k + count)) ≡ visitsFrom b np nq labels w0 nq 0 (stateIn np nq P0 Q0 w0 k)
+  pub len-points : length P ≡ length P0
+  pub len-quads : length Q ≡ length Q0
+
+sub-zero : (n : ℕ) → n - 0 ≡ n
+sub-zero n = omega arith
+
+pub visiting-start : {np nq : ℕ} {labels : List ℕ} (b : Band) (P : List Float) (Q w : List ℕ) → Passing np nq labels (length P) Q w → Visiting b np nq labels P Q w P Q w 0 0
+visiting-start {np} {nq} {labels} b P Q w R = record {
+  f≤ = omega arith;
+  most = omega arith;
+  passing = R;
+  kept = kept-refl (Steady np nq) w;
+  state = λ k. ap (λ (x : ℕ). visitsFrom b np nq labels w x 0 (stateIn np nq P Q w (k + 0))) (sub-zero nq) ∙ ap (λ (x : ℕ). visitsFrom b np nq labels w nq 0 (stateIn np nq P Q w x)) (add-zero k);
+  len-points = refl;
+  len-quads = refl;
+}
+
+pub visiting-turn : {b : Band} {np nq : ℕ} {labels : List ℕ} {P0 : List Float} {Q0 w0 : List ℕ} {P : List Float} {Q w : List ℕ} {f count r : ℕ} {P′ : List Float} {Q′ w′ : List ℕ} → Grounds np nq w0
+    → Visiting b np nq labels P0 Q0 w0 P Q w f count → f < nq → VisitedFace b np nq labels f r P Q w P′ Q′ w′ → Visiting b np nq labels P0 Q0 w0 P′ Q′ w′ (f + 1) (count + r)
+visiting-turn {b} {np} {nq} {labels} {P0} {Q0} {w0} {P} {Q} {w} {f} {count} {r} {P′} {Q′} {w′} G I h F = record {
+  f≤ = omega arith;
+  most = omega (arith, I .most, F .most);
+  passing = F .passing;
+  kept = kept-then (I .kept) (F .kept) (λ i o. (o, o));
+  state = λ k. moved k ∙ I .state k;
+  len-points = F .len-points ∙ I .len-points;
+  len-quads = F .len-quads ∙ I .len-quads;
+}
+  where
+    same : startOf np nq w ≡ startOf np nq w0
+    same = ap (quadsOf nq) (start-kept G (I .kept))
+
+    less : (n f : ℕ) → f < n → n - f ≡ suc (n - (f + 1))
+    less n f h = omega arith
+
+    sums : (k : ℕ) → k + (count + r) ≡ k + count + r
+    sums k = omega arith
+
+    moved : (k : ℕ) → visitsFrom b np nq labels w0 (nq - (f + 1)) (f + 1) (stateIn np nq P′ Q′ w′ (k + (count + r))) ≡ visitsFrom b np nq labels w0 (nq - f) f (stateIn np nq P Q w (k + count))
+    moved k = ap (λ (x : ℕ). visitsFrom b np nq labels w0 (nq - (f + 1)) (f + 1) (stateIn np nq P′ Q′ w′ x)) (sums k)
+        ∙ (ap (visitsFrom b np nq labels w0 (nq - (f + 1)) (f + 1)) (F .state (k + count)
+        ∙ ap (λ S. takeOr (stateIn np nq P Q w (k + count)) (tryFace np S (take nq labels) (mergeFits b (record { points = []; quads = S; labels = take nq labels })) (mergePosition b (record { points = []; quads = S; labels = take nq labels })) (stateIn np nq P Q w (k + count)) f (getD ((stateIn np nq P Q w (k + count)) .slots) f out))) same)
+        ∙ (ap (λ (x : ℕ). visitsFrom b np nq labels w0 (nq - (f + 1)) x (visited b np nq labels w0 f (stateIn np nq P Q w (k + count)))) (add-one f)
+        ∙ sym (ap (λ (x : ℕ). visitsFrom b np nq labels w0 x f (stateIn np nq P Q w (k + count))) (less nq f h))))
+
+pub visiting-end : {b : Band} {np nq : ℕ} {labels : List ℕ} {P0 : List Float} {Q0 w0 : List ℕ} {P : List Float} {Q w : List ℕ} {f count : ℕ} → Visiting b np nq labels P0 Q0 w0 P Q w f count → nq ≤ f
+    → VisitedAll b np nq labels count P0 Q0 w0 P Q w
+visiting-end {b} {np} {nq} {labels} {P0} {Q0} {w0} {P} {Q} {w} {f} {count} I h = record {
+  state = λ k. sym (ap (λ (x : ℕ). visitsFrom b np nq labels w0 x f (stateIn np nq P Q w (k + count))) (none nq f h)) ∙ I .state k;
+  passing = I .passing;
+  kept = I .kept;
+  most = omega (arith, I .most, I .f≤);
+}
+  where
+    none : (n f : ℕ) → n ≤ f → n - f ≡ 0
+    none n f h = omega arith

@@ -19,7 +19,7 @@ use Rattle.sheet.specs.Quads.{Quad, quad}
 use Rattle.sheet.specs.Flat.{corner}
 use Rattle.sheet.specs.Sheet.{Sheet}
 use Rattle.merges.specs.Merges.{out}
-use Rattle.merges.specs.Coarse.{MergeState, MergeFits, Position, tryFace}
+use Rattle.merges.specs.Coarse.{MergeState, MergeFits, Position, tryFace, visit}
 use Rattle.swaps.specs.Claims.{Low, Below, Differ}
 use Rattle.swaps.specs.Swaps.{noneQuad, takeOr}
 use Rattle.merges.specs.Invariant.{MInv, Used}
@@ -168,3 +168,16 @@ pub record Made (np nq f : ℕ) (m : Candidate) (r : ℕ) (P : List Float) (Q w 
 abbrev pub Taken : ℕ → ℕ → ℕ → Choice → ℕ → List Float → List ℕ → List ℕ → List Float → List ℕ → List ℕ → Type 0
 Taken np nq f None r P Q w P′ Q′ w′ = Same r P Q w P′ Q′ w′
 Taken np nq f (Take m) r P Q w P′ Q′ w′ = Made np nq f m r P Q w P′ Q′ w′
+
+-- ---- the quads in order
+
+-- the state after the visits of the m quads from quad f on
+abbrev pub visitsFrom : Band → ℕ → ℕ → List ℕ → List ℕ → ℕ → ℕ → MergeState → MergeState
+visitsFrom b np nq labels w m f st = visit np (startOf np nq w) (take nq labels) (fitsIn b np nq labels w) (positionIn b np nq labels w) m f st
+
+-- the visits of all quads, with r merges, leave the rule's state
+pub record VisitedAll (b : Band) (np nq : ℕ) (labels : List ℕ) (r : ℕ) (P : List Float) (Q w : List ℕ) (P′ : List Float) (Q′ w′ : List ℕ) : Type 0 where
+  pub state : (k : ℕ) → stateIn np nq P′ Q′ w′ (k + r) ≡ visitsFrom b np nq labels w nq 0 (stateIn np nq P Q w k)
+  pub passing : Passing np nq labels (length P′) Q′ w′
+  pub kept : Kept (Steady np nq) w w′
+  pub most : r ≤ nq

@@ -9,7 +9,7 @@ ghost use mathlib.Core.Path.{_≡_};
 ghost use Prim.Native.Nat.{ℕ, _+_, _*_, _<_, _≤_, max};
 ghost use lib.ListN.{length};
 ghost use Rattle.merging.specs.Layout.{Grounds};
-ghost use Rattle.candidates.specs.Choices.{diagonalOf, betterOf, landingOf, stayAround, weighedOf, foundTo, Tried, Searching, Holding, triedIn, Takeable, Taken, Passing, VisitedFace};
+ghost use Rattle.candidates.specs.Choices.{diagonalOf, betterOf, landingOf, stayAround, weighedOf, foundTo, Tried, Searching, Holding, triedIn, Takeable, Taken, Passing, VisitedFace, VisitedAll};
 ghost use Rattle.merging.specs.Layout.{allowedIn};
 ghost use mathlib.Core.Bool.{true};
 ghost use Rattle.band.specs.Bands.{lengthOf};
@@ -253,4 +253,28 @@ pub fn visit(
         return take(np, nq, f, choice, points, quads, w);
     }
     0
+}
+
+// Visits the quads in order; answers how many merges were made.
+pub fn visit_all(
+    np: usize,
+    nq: usize,
+    b: Band,
+    len: f64,
+    points: &mut [f64],
+    quads: &mut [u32],
+    labels: &[u8],
+    w: &mut [u32],
+) -> usize
+    requires { ⌜ Passing np nq (now labels) (length (now points)) (now quads) (now w) ⌝ }
+    requires { ⌜ len ≡ lengthOf b ⌝ }
+    ensures { λ r. ⌜ VisitedAll b np nq (now (labels .entry)) r (now (points .entry)) (now (quads .entry)) (now (w .entry)) (now (points .exit)) (now (quads .exit)) (now (w .exit)) ⌝ }
+{
+    let mut count = 0;
+    let mut f = 0;
+    while f < nq {
+        count += visit(np, nq, f, b, len, points, quads, labels, w);
+        f += 1;
+    }
+    count
 }
