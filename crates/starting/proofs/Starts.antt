@@ -1,0 +1,63 @@
+-- The maps of a sheet, one region after the other. Assumes nothing.
+use mathlib.Core.Path.{_≡_, refl, sym, ap, _∙_}
+use Prim.Native.Nat.{ℕ, _+_, _*_, _≤_, _<_}
+use mathlib.Core.List.{List}
+use native.Mathlib.Omega.{arith}
+use lib.ListN.{length, take}
+use Rattle.lists.specs.Sort.{tabulate}
+use Rattle.lists.specs.Regions.{Part, Out, Out3, Apart, Kept, Three}
+use Rattle.lists.proofs.Regions.{part-kept, part-as, kept-then}
+use Rattle.sheet.specs.Quads.{valence}
+use Rattle.sheet.specs.Flat.{quadsOf}
+use Rattle.incidence.specs.Corners.{Cornered, edgeOrder, cornersAt, firstAt}
+use Rattle.lookup.specs.Maps.{firstEdge}
+use Rattle.lookup.proofs.Maps.{mapped, standing, quads-take}
+use Rattle.merging.specs.Layout.{wasAt, edgeStartsAt, edgesAt, startsAt, orderAt, valencesAt, flatStart, startOf, Grounds}
+use Rattle.starting.specs.Starts.{Mappable, Mapped, InFront}
+
+-- where the sorts work
+abbrev pub firstAtOf : ℕ → ℕ → ℕ
+firstAtOf np nq = 5 * (np + nq)
+
+-- the regions that the sorts ask for, in any slice as long
+pub edge-room : {np nq : ℕ} {Q u : List ℕ} (w : List ℕ) → Mappable np nq Q u → length w ≡ length u → Three (firstAtOf np nq) (4 * nq) (edgeStartsAt np nq) (np + 1) (edgesAt np nq) (4 * nq) w
+edge-room {np} {nq} {Q} {u} w M e =
+    let r = M .room in let s = M .some in
+    record { in-a = omega arith; in-b = omega arith; in-c = omega arith; ab = λ i a b c d. omega arith; ac = λ i a b c d. omega arith; bc = λ i a b c d. omega arith }
+
+pub point-room : {np nq : ℕ} {Q u : List ℕ} (w : List ℕ) → Mappable np nq Q u → length w ≡ length u → Three (firstAtOf np nq) (4 * nq) (startsAt np nq) (np + 1) (orderAt np nq) (4 * nq) w
+point-room {np} {nq} {Q} {u} w M e =
+    let r = M .room in let s = M .some in
+    record { in-a = omega arith; in-b = omega arith; in-c = omega arith; ab = λ i a b c d. omega arith; ac = λ i a b c d. omega arith; bc = λ i a b c d. omega arith }
+
+pub valence-room : {np nq m : ℕ} {Q u : List ℕ} → Mappable np nq Q u → m ≡ length u → (valencesAt np nq + np ≤ m) × Apart (startsAt np nq) (np + 1) (valencesAt np nq) np
+valence-room {np} {nq} {m} {Q} {u} M e = let r = M .room in let s = M .some in (omega arith, λ i a b c d. omega arith)
+
+-- what the four calls leave, one after the other
+pub mapped-all : {np nq : ℕ} {u v x y w : List ℕ} (Q : List ℕ) → Mappable np nq Q u
+    → Part (wasAt np nq) (4 * nq) (take (4 * nq) Q) v → Kept (Out (wasAt np nq) (4 * nq)) u v
+    → Part (edgesAt np nq) (4 * nq) (edgeOrder np nq Q) x → Part (edgeStartsAt np nq) (np + 1) (tabulate (firstEdge np nq Q) (np + 1)) x
+    → Kept (Out3 (firstAtOf np nq) (4 * nq) (edgeStartsAt np nq) (np + 1) (edgesAt np nq) (4 * nq)) v x
+    → Part (startsAt np nq) (np + 1) (tabulate (firstAt nq Q) (np + 1)) y → Part (orderAt np nq) (4 * nq) (cornersAt np nq Q) y
+    → Kept (Out3 (firstAtOf np nq) (4 * nq) (startsAt np nq) (np + 1) (orderAt np nq) (4 * nq)) x y
+    → Part (valencesAt np nq) np (tabulate (valence (quadsOf nq Q)) np) w → Kept (Out (valencesAt np nq) np) y w
+    → Mapped np nq Q u w
+mapped-all {np} {nq} {u} {v} {x} {y} {w} Q M P K E ES K2 S O K3 N K4 =
+    let r = M .room in
+    let s = M .some in
+    let l = K .len in let l2 = K2 .len in let l3 = K3 .len in let l4 = K4 .len in
+    let W : Part (wasAt np nq) (4 * nq) (take (4 * nq) Q) w = part-kept (part-kept (part-kept P K2 (λ i p q. ((λ a b. omega arith), ((λ a b. omega arith), (λ a b. omega arith))))) K3 (λ i p q. ((λ a b. omega arith), ((λ a b. omega arith), (λ a b. omega arith))))) K4 (λ i p q. λ a b. omega arith) in
+    let same : startOf np nq w ≡ quadsOf nq Q = ap (quadsOf nq) (W .is) ∙ quads-take nq Q in
+    record {
+      grounds = record {
+        few = M .few;
+        some = s;
+        room = omega arith;
+        standing = standing (M .sheet) W (part-kept O K4 (λ i p q. λ a b. omega arith)) (part-kept S K4 (λ i p q. λ a b. omega arith));
+        mapped = mapped (M .sheet) W (part-kept (part-kept E K3 (λ i p q. ((λ a b. omega arith), ((λ a b. omega arith), (λ a b. omega arith))))) K4 (λ i p q. λ a b. omega arith)) (part-kept (part-kept ES K3 (λ i p q. ((λ a b. omega arith), ((λ a b. omega arith), (λ a b. omega arith))))) K4 (λ i p q. λ a b. omega arith));
+        valences = rw same N;
+      };
+      quads = W;
+      kept = kept-then (kept-then (kept-then K K2 (λ i (h : i < wasAt np nq). ((λ a b. omega arith), ((λ a b. omega arith), ((λ a b. omega arith), (λ a b. omega arith)))))) K3 (λ i (h : i < wasAt np nq). (h, ((λ a b. omega arith), ((λ a b. omega arith), (λ a b. omega arith)))))) K4
+          (λ i h. (h, (λ a b. omega arith)));
+    }
