@@ -1,14 +1,20 @@
 -- The maps of a sheet, one region after the other. Assumes nothing.
 use mathlib.Core.Path.{_≡_, refl, sym, ap, _∙_}
-use Prim.Native.Nat.{ℕ, _+_, _*_, _≤_, _<_}
+use Prim.Native.Nat.{ℕ, _+_, _-_, _*_, _≤_, _<_}
+use mathlib.Core.Bool.{true}
 use mathlib.Core.List.{List}
 use native.Mathlib.Omega.{arith}
-use lib.ListN.{length, take}
+use lib.ListN.{length, take, replicate}
+use borrow.Rule.Slice.PartMut.{midOf, putMid}
+use Rattle.lists.specs.Every.{every}
 use Rattle.lists.specs.Sort.{tabulate}
 use Rattle.lists.specs.Regions.{Part, Out, Out3, Apart, Kept, Three}
-use Rattle.lists.proofs.Regions.{part-kept, part-as, kept-then}
-use Rattle.sheet.specs.Quads.{valence}
-use Rattle.sheet.specs.Flat.{quadsOf}
+use Rattle.lists.proofs.Regions.{Lent, lent, length-lent, part-kept, part-as, kept-then}
+use Rattle.lists.proofs.Laws.{length-tab}
+use Rattle.sheet.specs.Quads.{valence, maskOf}
+use Rattle.sheet.specs.Flat.{quadsOf, maskIn}
+use Rattle.sheet.specs.Tests.{goodQuadAt}
+use Rattle.sheet.specs.Sheet.{masksOf}
 use Rattle.incidence.specs.Corners.{Cornered, edgeOrder, cornersAt, firstAt}
 use Rattle.lookup.specs.Maps.{firstEdge}
 use Rattle.lookup.proofs.Maps.{mapped, standing, quads-take}
@@ -61,3 +67,23 @@ mapped-all {np} {nq} {u} {v} {x} {y} {w} Q M P K E ES K2 S O K3 N K4 =
       kept = kept-then (kept-then (kept-then K K2 (λ i (h : i < wasAt np nq). ((λ a b. omega arith), ((λ a b. omega arith), ((λ a b. omega arith), (λ a b. omega arith)))))) K3 (λ i (h : i < wasAt np nq). (h, ((λ a b. omega arith), ((λ a b. omega arith), (λ a b. omega arith)))))) K4
           (λ i h. (h, (λ a b. omega arith)));
     }
+
+-- ---- masks
+
+pub masks-ready : (Q labels : List ℕ) (nq : ℕ) (u v : List ℕ) → length v ≡ length u → v ≡ replicate (length u) 0 → every (goodQuadAt (length u) Q labels) nq ≡ true
+    → (every (goodQuadAt (length v) Q labels) nq ≡ true) × (v ≡ replicate (length v) 0)
+masks-ready Q labels nq u v l e h = rw l (h, e)
+
+pub masks-are : (Q labels : List ℕ) (nq : ℕ) (u v w : List ℕ) → length v ≡ length u → w ≡ tabulate (maskIn Q labels nq) (length v) → w ≡ masksOf (length u) (quadsOf nq Q) (take nq labels)
+unfolding masksOf
+masks-are Q labels nq u v w l h = rw l at h
+
+pub masks-lent : (np nq : ℕ) (Q labels w y : List ℕ) → np ≤ length w → y ≡ masksOf (length (midOf 0 (0 + np - 0) w)) (quadsOf nq Q) (take nq labels)
+    → Part 0 np (masksOf np (quadsOf nq Q) (take nq labels)) (putMid 0 (0 + np - 0) w y) × Kept (Out 0 np) w (putMid 0 (0 + np - 0) w y)
+unfolding masksOf
+masks-lent np nq Q labels w y h e =
+    let n : length (midOf 0 (0 + np - 0) w) ≡ np = length-lent 0 np w (omega arith) in
+    let d : y ≡ tabulate (maskOf (quadsOf nq Q) (take nq labels)) np = rw n at e in
+    let l : length y ≡ np = ap length d ∙ length-tab (maskOf (quadsOf nq Q) (take nq labels)) np in
+    let L = lent 0 np w y (omega arith) l in
+    (part-as (L .part) d, L .kept)
