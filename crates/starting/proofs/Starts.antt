@@ -9,7 +9,7 @@ use borrow.Rule.Slice.PartMut.{midOf, putMid}
 use Rattle.lists.specs.Every.{every}
 use Rattle.lists.specs.Sort.{tabulate}
 use Rattle.lists.specs.Regions.{Part, Out, Out3, Apart, Kept, Three}
-use Rattle.lists.proofs.Regions.{Lent, lent, length-lent, part-kept, part-as, kept-then}
+use Rattle.lists.proofs.Regions.{Lent, lent, lent-all, length-lent, part-kept, part-as, kept-then}
 use Rattle.lists.proofs.Laws.{length-tab}
 use Rattle.sheet.specs.Quads.{valence, maskOf}
 use Rattle.sheet.specs.Flat.{quadsOf, maskIn}
@@ -18,8 +18,9 @@ use Rattle.sheet.specs.Sheet.{masksOf}
 use Rattle.incidence.specs.Corners.{Cornered, edgeOrder, cornersAt, firstAt}
 use Rattle.lookup.specs.Maps.{firstEdge}
 use Rattle.lookup.proofs.Maps.{mapped, standing, quads-take}
-use Rattle.merging.specs.Layout.{wasAt, edgeStartsAt, edgesAt, startsAt, orderAt, valencesAt, flatStart, startOf, Grounds}
-use Rattle.starting.specs.Starts.{Mappable, Mapped, InFront}
+use Rattle.merging.specs.Layout.{wasAt, edgeStartsAt, edgesAt, startsAt, orderAt, valencesAt, usedAt, removedAt, flatStart, startOf, Steady, Grounds}
+use Rattle.merging.proofs.Grounds.{grounds-kept}
+use Rattle.starting.specs.Starts.{Mappable, Mapped, InFront, Startable, Started}
 
 -- where the sorts work
 abbrev pub firstAtOf : ℕ → ℕ → ℕ
@@ -87,3 +88,43 @@ masks-lent np nq Q labels w y h e =
     let l : length y ≡ np = ap length d ∙ length-tab (maskOf (quadsOf nq Q) (take nq labels)) np in
     let L = lent 0 np w y (omega arith) l in
     (part-as (L .part) d, L .kept)
+
+-- ---- the whole start: u, v, x, y, w are the slice as it came, with masks, with maps, without barred points, without quads that are out
+
+pub mappable-kept : {np nq : ℕ} {Q u v : List ℕ} → Mappable np nq Q u → length v ≡ length u → Mappable np nq Q v
+mappable-kept {np} {nq} {Q} {u} {v} M e = record { sheet = M .sheet; few = M .few; some = M .some; room = omega (arith, M .room) }
+
+pub started : {np nq : ℕ} {u v x y w : List ℕ} (Q labels : List ℕ) → Startable np nq Q labels u → Part 0 np (masksOf np (quadsOf nq Q) (take nq labels)) v → Kept (Out 0 np) u v → Mapped np nq Q v x
+    → Part (usedAt np nq) np (replicate np 0) y → Kept (Out (usedAt np nq) np) x y → Part (removedAt np nq) nq (replicate nq 0) w → Kept (Out (removedAt np nq) nq) y w → Started np nq Q labels w
+started {np} {nq} {u} {v} {x} {y} {w} Q labels S P K M U K2 R K3 =
+    let r = M .grounds .room in
+    let L : Kept (Steady np nq) x w = kept-then K2 K3 (λ i o. (o .0, o .1)) in
+    let G = grounds-kept (M .grounds) L in
+    let W : Part (wasAt np nq) (4 * nq) (take (4 * nq) Q) w = part-kept (M .quads) L (λ i p q. ((λ a b. omega arith), (λ a b. omega arith))) in
+    let same : startOf np nq w ≡ quadsOf nq Q = ap (quadsOf nq) (W .is) ∙ quads-take nq Q in
+    let N : Part 0 np (masksOf np (quadsOf nq Q) (take nq labels)) w = part-kept (part-kept P (M .kept) (λ i p q. omega arith)) L (λ i p q. ((λ a b. omega arith), (λ a b. omega arith))) in
+    record {
+      grounds = G;
+      quads = W;
+      masked = rw same N;
+      used = part-kept U K3 (λ i p q. λ a b. omega arith) .is;
+      removed = R .is;
+    }
+
+-- the same as the two clears leave it
+pub used-cleared : {np nq : ℕ} {Q v x : List ℕ} (y : List ℕ) → Mapped np nq Q v x → y ≡ replicate (length (midOf (usedAt np nq) (usedAt np nq + np - usedAt np nq) x)) 0
+    → Lent (usedAt np nq) np x (replicate np 0) (putMid (usedAt np nq) (usedAt np nq + np - usedAt np nq) x y)
+used-cleared {np} {nq} {Q} {v} {x} y M e = lent-all 0 (usedAt np nq) np x y (omega (arith, M .grounds .room)) e
+
+pub removed-room : {np nq : ℕ} {Q v x : List ℕ} (y : List ℕ) → Mapped np nq Q v x → y ≡ replicate (length (midOf (usedAt np nq) (usedAt np nq + np - usedAt np nq) x)) 0
+    → removedAt np nq + nq ≤ length (putMid (usedAt np nq) (usedAt np nq + np - usedAt np nq) x y)
+removed-room {np} {nq} {Q} {v} {x} y M e = omega (arith, M .grounds .room, used-cleared y M e .kept .len)
+
+pub start-cleared : {np nq : ℕ} {u v x : List ℕ} (Q labels y z : List ℕ) → Startable np nq Q labels u → Part 0 np (masksOf np (quadsOf nq Q) (take nq labels)) v → Kept (Out 0 np) u v → Mapped np nq Q v x
+    → y ≡ replicate (length (midOf (usedAt np nq) (usedAt np nq + np - usedAt np nq) x)) 0
+    → z ≡ replicate (length (midOf (removedAt np nq) (removedAt np nq + nq - removedAt np nq) (putMid (usedAt np nq) (usedAt np nq + np - usedAt np nq) x y))) 0
+    → Started np nq Q labels (putMid (removedAt np nq) (removedAt np nq + nq - removedAt np nq) (putMid (usedAt np nq) (usedAt np nq + np - usedAt np nq) x y) z)
+start-cleared {np} {nq} {u} {v} {x} Q labels y z S P K M e f =
+    let L = used-cleared y M e in
+    let N = lent-all 0 (removedAt np nq) nq (putMid (usedAt np nq) (usedAt np nq + np - usedAt np nq) x y) z (removed-room y M e) f in
+    started Q labels S P K M (L .part) (L .kept) (N .part) (N .kept)

@@ -9,7 +9,7 @@ ghost use Rattle.lists.specs.Regions.{Part, Out, Kept};
 ghost use Rattle.sheet.specs.Flat.{quadsOf, Holds};
 ghost use Rattle.sheet.specs.Tests.{goodQuadAt};
 ghost use Rattle.sheet.specs.Sheet.{masksOf};
-ghost use Rattle.starting.specs.Starts.{Mappable, Mapped};
+ghost use Rattle.starting.specs.Starts.{Mappable, Mapped, Startable, Started};
 
 // The quads, their corners by edge and by point, and how many quads each point has, in the work slice.
 pub fn map_sheet(np: usize, nq: usize, quads: &[u32], w: &mut [u32])
@@ -45,4 +45,18 @@ pub fn mask_sheet(np: usize, nq: usize, quads: &[u32], labels: &[u8], w: &mut [u
 {
     let at = 0;
     fresh_masks(nq, quads, labels, &mut w[at..at + np]);
+}
+
+// What a pass starts with: masks and maps, no barred point, no quad out.
+pub fn prepare(np: usize, nq: usize, quads: &[u32], labels: &[u8], w: &mut [u32])
+    requires { ⌜ Startable np nq (now quads) (now labels) (now w) ⌝ }
+    ensures { λ _. ⌜ Started np nq (now (quads .entry)) (now (labels .entry)) (now (w .exit)) ⌝ }
+{
+    let n = np + nq;
+    let used = merging::USED * n;
+    let removed = merging::REMOVED * n;
+    mask_sheet(np, nq, quads, labels, w);
+    map_sheet(np, nq, quads, w);
+    lists::clear(&mut w[used..used + np]);
+    lists::clear(&mut w[removed..removed + nq]);
 }
