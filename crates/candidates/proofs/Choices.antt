@@ -28,7 +28,7 @@ pub allowed-gains : (np nq f a b c d : ℕ) (w : List ℕ) → allowedIn np nq f
 unfolding allowedIn worthIt gainOf
 allowed-gains np nq f a b c d w e =
     let h = and-left (masksJoined (getD w a 0) (getD w c 0) && leb 4 (valence (startOf np nq w) b) && leb 4 (valence (startOf np nq w) d)
-        && leb (sumAfter np (startOf np nq w) noLabels a b c d) (sumBefore np (startOf np nq w) noLabels a b c d)) _ e in
+    && leb (sumAfter np (startOf np nq w) noLabels a b c d) (sumBefore np (startOf np nq w) noLabels a b c d)) _ e in
     leb-true (sumAfter np (startOf np nq w) noLabels a b c d) (sumBefore np (startOf np nq w) noLabels a b c d)
     (and-right (masksJoined (getD w a 0) (getD w c 0) && leb 4 (valence (startOf np nq w) b) && leb 4 (valence (startOf np nq w) d)) _ h)
 
@@ -37,7 +37,7 @@ pub allowed-joins : (np nq f a b c d : ℕ) (w : List ℕ) → allowedIn np nq f
 unfolding allowedIn worthIt
 allowed-joins np nq f a b c d w e =
     let h = and-left (masksJoined (getD w a 0) (getD w c 0) && leb 4 (valence (startOf np nq w) b) && leb 4 (valence (startOf np nq w) d)
-        && leb (sumAfter np (startOf np nq w) noLabels a b c d) (sumBefore np (startOf np nq w) noLabels a b c d)) _ e in
+    && leb (sumAfter np (startOf np nq w) noLabels a b c d) (sumBefore np (startOf np nq w) noLabels a b c d)) _ e in
     and-left _ _ (and-left _ _ (and-left (masksJoined (getD w a 0) (getD w c 0) && leb 4 (valence (startOf np nq w) b) && leb 4 (valence (startOf np nq w) d)) _ h))
 
 -- ---- the search

@@ -15,7 +15,6 @@ ghost use mathlib.Core.Bool.{true};
 ghost use Rattle.band.specs.Bands.{lengthOf};
 ghost use Rattle.incidence.specs.Corners.{Cornered};
 
-
 // A diagonal of a quad: the corners a and c that a merge makes one, and the other two.
 pub struct Diagonal {
     pub face: usize,
@@ -49,7 +48,13 @@ fn diagonal_at(quads: &[u32], f: usize, k: usize) -> Diagonal
     let b = sheet::corner_at(quads, f, k + 1);
     let c = sheet::corner_at(quads, f, k + 2);
     let d = sheet::corner_at(quads, f, (k + 3) % 4);
-    Diagonal { face: f, a, b, c, d }
+    Diagonal {
+        face: f,
+        a,
+        b,
+        c,
+        d,
+    }
 }
 
 // The greater of two masks.
@@ -65,7 +70,15 @@ fn joined(a: usize, c: usize) -> u8
 }
 
 // Where the merge of a diagonal lands; refused where the rule does not allow it.
-fn landing(np: usize, nq: usize, g: Diagonal, b: Band, len: f64, points: &[f64], w: &[u32]) -> Projected
+fn landing(
+    np: usize,
+    nq: usize,
+    g: Diagonal,
+    b: Band,
+    len: f64,
+    points: &[f64],
+    w: &[u32],
+) -> Projected
     requires { ⌜ Grounds np nq (now w) ⌝ }
     requires { ⌜ Tried np nq g (now w) ⌝ }
     requires { ⌜ 3 * np ≤ length (now points) ⌝ }
@@ -217,7 +230,15 @@ fn is_tried(np: usize, nq: usize, f: usize, quads: &[u32], w: &[u32]) -> bool
 }
 
 // Makes the merge that was chosen in quad f, if one was; answers how many merges that is.
-fn take(np: usize, nq: usize, f: usize, choice: Choice, points: &mut [f64], quads: &mut [u32], w: &mut [u32]) -> usize
+fn take(
+    np: usize,
+    nq: usize,
+    f: usize,
+    choice: Choice,
+    points: &mut [f64],
+    quads: &mut [u32],
+    w: &mut [u32],
+) -> usize
     requires { ⌜ Grounds np nq (now w) ⌝ }
     requires { ⌜ Takeable np nq f choice (length (now points)) (length (now quads)) ⌝ }
     ensures { λ r. ⌜ Taken np nq f choice r (now (points .entry)) (now (quads .entry)) (now (w .entry)) (now (points .exit)) (now (quads .exit)) (now (w .exit)) ⌝ }

@@ -160,8 +160,10 @@ pub free-is : (np nq : ℕ) (labels Q U : List ℕ) (a c : ℕ) → Cornered np 
     ≡ nearFree np (quadsOf nq Q) labels (usedOf np U) a c
 free-is np nq labels Q U a c C = rw (around-every (quadFree Q U) Q nq a, around-every (quadFree Q U) Q nq c) (bool-iff _ _
     (λ e. every-on _ 0 np (every-zero _) (omega arith) (λ v _ h. there (and-left _ _ e) (and-right (every (λ q. not (hasCorner (quadAt Q q) a) || quadFree Q U q) nq) _ e) v h (near (quadsOf nq Q) a c v) refl))
-    (λ e. rw (every-on (λ q. not (hasCorner (quadAt Q q) a) || quadFree Q U q) 0 nq (every-zero _) (omega arith) (λ q _ h. back e q a h (λ k. inl k) (hasCorner (quadAt Q q) a) refl),
-    every-on (λ q. not (hasCorner (quadAt Q q) c) || quadFree Q U q) 0 nq (every-zero _) (omega arith) (λ q _ h. back e q c h (λ k. inr k) (hasCorner (quadAt Q q) c) refl)) refl))
+    (λ e. rw (
+      every-on (λ q. not (hasCorner (quadAt Q q) a) || quadFree Q U q) 0 nq (every-zero _) (omega arith) (λ q _ h. back e q a h (λ k. inl k) (hasCorner (quadAt Q q) a) refl),
+      every-on (λ q. not (hasCorner (quadAt Q q) c) || quadFree Q U q) 0 nq (every-zero _) (omega arith) (λ q _ h. back e q c h (λ k. inr k) (hasCorner (quadAt Q q) c) refl),
+    ) refl))
   where
     implied : {x y : Bool} → (not x || y) ≡ true → x ≡ true → y ≡ true
     implied {x} {y} e k = rw k at e
@@ -173,9 +175,9 @@ free-is np nq labels Q U a c C = rw (around-every (quadFree Q U) Q nq a, around-
         let N = near-find Q nq a c v k in
         let F = uses-find Q (N .q) v (N .has) in
         let fr : quadFree Q U (N .q) ≡ true = ⊎-elim
-            (λ x. implied (every-at (λ q. not (hasCorner (quadAt Q q) a) || quadFree Q U q) nq (N .q) ea (N .q<)) x)
-            (λ x. implied (every-at (λ q. not (hasCorner (quadAt Q q) c) || quadFree Q U q) nq (N .q) ec (N .q<)) x)
-            (or-split (hasCorner (quadAt Q (N .q)) a) (hasCorner (quadAt Q (N .q)) c) (N .ends)) in
+        (λ x. implied (every-at (λ q. not (hasCorner (quadAt Q q) a) || quadFree Q U q) nq (N .q) ea (N .q<)) x)
+        (λ x. implied (every-at (λ q. not (hasCorner (quadAt Q q) c) || quadFree Q U q) nq (N .q) ec (N .q<)) x)
+        (or-split (hasCorner (quadAt Q (N .q)) a) (hasCorner (quadAt Q (N .q)) c) (N .ends)) in
         let un : unmarked U v ≡ true = ap (unmarked U) (sym (F .at)) ∙ free-corner Q U (N .q) (F .j) fr (F .j<) in
         rw (used-get np U v h, un) refl
 
@@ -187,7 +189,7 @@ free-is np nq labels Q U a c C = rw (around-every (quadFree Q U) Q nq a, around-
         let v< : corner Q q j < np = C .points (4 * q + j) (omega arith) in
         let g = quad-get nq Q q h in
         let near-v : near (quadsOf nq Q) a c (corner Q q j) ≡ true = near-of (quadsOf nq Q) a c (corner Q q j) q (rw (length-quads nq Q) h)
-            (rw g (which (ltb-true 0 _ k))) (rw g (uses-at Q q (corner Q q j) j l refl)) in
+        (rw g (which (ltb-true 0 _ k))) (rw g (uses-at Q q (corner Q q j) j l refl)) in
         unmark (unmarked U (corner Q q j)) (rw (near-v, used-get np U (corner Q q j) v<) at (every-at (λ v. not (near (quadsOf nq Q) a c v && getD (usedOf np U) v true)) np (corner Q q j) e v<)))
       where
         unmark : (b : Bool) → not (true && not b) ≡ true → b ≡ true

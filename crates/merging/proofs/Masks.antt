@@ -53,15 +53,66 @@ bits t = record {
 opposite-is : (t u : ℕ → Bool) → noOpposite (pack t) (pack u) ≡ every (λ j. not ((t (2 * j) || u (2 * j)) && (t (2 * j + 1) || u (2 * j + 1)))) 4
 unfolding noOpposite every
 opposite-is t u = let x = bits t in let y = bits u in
-    rw (x .b0, x .b1, x .b2, x .b3, x .b4, x .b5, x .b6, x .b7, y .b0, y .b1, y .b2, y .b3, y .b4, y .b5, y .b6, y .b7,
-    none-set (t 0) (u 0), none-set (t 1) (u 1), none-set (t 2) (u 2), none-set (t 3) (u 3), none-set (t 4) (u 4), none-set (t 5) (u 5), none-set (t 6) (u 6), none-set (t 7) (u 7),
-    not-both (t 0 || u 0) (t 1 || u 1), not-both (t 2 || u 2) (t 3 || u 3), not-both (t 4 || u 4) (t 5 || u 5), not-both (t 6 || u 6) (t 7 || u 7)) refl
+    rw (
+      x .b0,
+      x .b1,
+      x .b2,
+      x .b3,
+      x .b4,
+      x .b5,
+      x .b6,
+      x .b7,
+      y .b0,
+      y .b1,
+      y .b2,
+      y .b3,
+      y .b4,
+      y .b5,
+      y .b6,
+      y .b7,
+      none-set (t 0) (u 0),
+      none-set (t 1) (u 1),
+      none-set (t 2) (u 2),
+      none-set (t 3) (u 3),
+      none-set (t 4) (u 4),
+      none-set (t 5) (u 5),
+      none-set (t 6) (u 6),
+      none-set (t 7) (u 7),
+      not-both (t 0 || u 0) (t 1 || u 1),
+      not-both (t 2 || u 2) (t 3 || u 3),
+      not-both (t 4 || u 4) (t 5 || u 5),
+      not-both (t 6 || u 6) (t 7 || u 7),
+    ) refl
 
 part-is : (t u : ℕ → Bool) → partOf (pack t) (pack u) ≡ every (λ l. not (t l) || u l) 8
 unfolding partOf every
 part-is t u = let x = bits t in let y = bits u in
-    rw (x .b0, x .b1, x .b2, x .b3, x .b4, x .b5, x .b6, x .b7, y .b0, y .b1, y .b2, y .b3, y .b4, y .b5, y .b6, y .b7,
-    le-bit (t 0) (u 0), le-bit (t 1) (u 1), le-bit (t 2) (u 2), le-bit (t 3) (u 3), le-bit (t 4) (u 4), le-bit (t 5) (u 5), le-bit (t 6) (u 6), le-bit (t 7) (u 7)) refl
+    rw (
+      x .b0,
+      x .b1,
+      x .b2,
+      x .b3,
+      x .b4,
+      x .b5,
+      x .b6,
+      x .b7,
+      y .b0,
+      y .b1,
+      y .b2,
+      y .b3,
+      y .b4,
+      y .b5,
+      y .b6,
+      y .b7,
+      le-bit (t 0) (u 0),
+      le-bit (t 1) (u 1),
+      le-bit (t 2) (u 2),
+      le-bit (t 3) (u 3),
+      le-bit (t 4) (u 4),
+      le-bit (t 5) (u 5),
+      le-bit (t 6) (u 6),
+      le-bit (t 7) (u 7),
+    ) refl
 
 pub masks-join : (n : ℕ) (S : List Quad) (labels : List ℕ) (a c : ℕ) → masksJoined (maskOf S labels a) (maskOf S labels c) ≡ masksJoin n S labels a c
 unfolding masksJoined maskOf

@@ -213,7 +213,13 @@ fn near_free(np: usize, nq: usize, v: usize, w: &[u32]) -> bool
     let to = s.to;
     let was = WAS * n;
     let used = USED * n;
-    corners_free(np, nq, &w[from..to], &w[was..was + 4 * nq], &w[used..used + np])
+    corners_free(
+        np,
+        nq,
+        &w[from..to],
+        &w[was..was + 4 * nq],
+        &w[used..used + np],
+    )
 }
 
 // No quad at point v has the corner u, but quad f.
@@ -300,7 +306,16 @@ fn valence_at(np: usize, nq: usize, v: usize, w: &[u32]) -> usize
 }
 
 // The points a and c have no further quad than f in common, and only the two corners b and d as neighbours; the walk is round the point with fewer quads.
-fn meet_only(np: usize, nq: usize, f: usize, a: usize, b: usize, c: usize, d: usize, w: &[u32]) -> bool
+fn meet_only(
+    np: usize,
+    nq: usize,
+    f: usize,
+    a: usize,
+    b: usize,
+    c: usize,
+    d: usize,
+    w: &[u32],
+) -> bool
     requires { ⌜ Grounds np nq (now w) ⌝ }
     requires { ⌜ a < np ⌝ }
     requires { ⌜ c < np ⌝ }
@@ -340,7 +355,16 @@ fn worth(np: usize, nq: usize, a: usize, b: usize, c: usize, d: usize, w: &[u32]
 }
 
 // Whether the rule allows the merge of the corners a and c of quad f = (a, b, c, d), as far as it does not read the points.
-pub fn allowed(np: usize, nq: usize, f: usize, a: usize, b: usize, c: usize, d: usize, w: &[u32]) -> bool
+pub fn allowed(
+    np: usize,
+    nq: usize,
+    f: usize,
+    a: usize,
+    b: usize,
+    c: usize,
+    d: usize,
+    w: &[u32],
+) -> bool
     requires { ⌜ Grounds np nq (now w) ⌝ }
     requires { ⌜ Face np nq a b c d (now w) ⌝ }
     ensures { λ r. ⌜ r ≡ allowedIn np nq f a b c d (now (w .entry)) ⌝ }

@@ -20,7 +20,15 @@ pub fn map_sheet(np: usize, nq: usize, quads: &[u32], w: &mut [u32])
     let first = merging::FIRST * n;
     let starts = merging::STARTS * n;
     lookup::copy_quads(nq, quads, merging::WAS * n, w);
-    lookup::edge_map(np, nq, quads, first, merging::EDGE_STARTS * n, merging::EDGES * n, w);
+    lookup::edge_map(
+        np,
+        nq,
+        quads,
+        first,
+        merging::EDGE_STARTS * n,
+        merging::EDGES * n,
+        w,
+    );
     incidence::quads_at(np, nq, quads, first, starts, merging::ORDER * n, w);
     incidence::valences(np, nq, quads, starts, merging::VALENCES * n, w);
 }

@@ -1,13 +1,10 @@
-use native.Mathlib.Omega.{arith}
+-- `candidates::better` meets its contract. Assumes nothing.
 use borrow.Author.Needs.{needs}
 use mathlib.Core.Path.{refl}
-use Rattle.lists.proofs.Every.{tests}
 use borrow.Author.Tests.{lt-ltb, le-ltb}
 use Rattle.candidates.specs.Choices.{betterOf}
 use Rattle.candidates.proofs.better.Statement.{statement}
 use Rattle.candidates.proofs.better.Tie as tie
-use Rattle.candidates.proofs.better.Reads as reads
-use Rattle.candidates.proofs.better.Lts as lts
 
 enum-told : tie.Need-enum-told
 enum-told c = search needs

@@ -1,12 +1,9 @@
-use native.Mathlib.Omega.{arith}
+-- `candidates::diagonal_at` meets its contract. Assumes nothing.
 use borrow.Author.Needs.{needs}
 use mathlib.Core.Path.{refl}
 use Rattle.candidates.specs.Choices.{diagonalOf}
 use Rattle.candidates.proofs.diagonal_at.Statement.{statement}
 use Rattle.candidates.proofs.diagonal_at.Tie as tie
-use Rattle.candidates.proofs.diagonal_at.Reads as reads
-use Rattle.candidates.proofs.diagonal_at.Lts as lts
-use Rattle.sheet.proofs.corner_at.Reads as corner-at-reads
 
 corner-at-requires : tie.Need-corner-at-requires
 corner-at-requires c κs = search needs

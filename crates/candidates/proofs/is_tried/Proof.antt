@@ -1,20 +1,12 @@
-use native.Mathlib.Omega.{arith}
+-- `candidates::is_tried` meets its contract. Assumes nothing.
 use borrow.Author.Needs.{needs}
-use mathlib.Core.Path.{_∙_}
-use Rattle.merging.specs.Layout.{Grounds}
-use Rattle.merging.proofs.Grounds.{length-lent-used}
-use Rattle.candidates.specs.Choices.{triedIn}
+use Rattle.merging.specs.Layout.{Grounds, usedAt}
+use Rattle.merging.proofs.Grounds.{length-lent-used, removed-in}
 use Rattle.candidates.proofs.Steps.{tried-is}
 use Rattle.lists.specs.Regions.{Out}
 use Rattle.lists.proofs.Regions.{kept-refl}
-use Rattle.merging.specs.Layout.{usedAt}
-use Rattle.merging.proofs.Grounds.{removed-in}
 use Rattle.candidates.proofs.is_tried.Statement.{statement}
 use Rattle.candidates.proofs.is_tried.Tie as tie
-use Rattle.candidates.proofs.is_tried.Reads as reads
-use Rattle.candidates.proofs.is_tried.Lts as lts
-use Rattle.lists.proofs.at.Reads as at-reads
-use Rattle.merging.proofs.quad_free.Reads as quad-free-reads
 
 add-n : tie.Need-add-n
 add-n c = search needs

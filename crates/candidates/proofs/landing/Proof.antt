@@ -1,16 +1,10 @@
+-- `candidates::landing` meets its contract. Assumes nothing.
 use native.Mathlib.Omega.{arith}
-use borrow.Author.Needs.{needs}
 use mathlib.Core.Path.{refl}
 use Rattle.merging.specs.Layout.{Grounds, Face}
 use Rattle.candidates.specs.Choices.{landingOf, Tried}
 use Rattle.candidates.proofs.landing.Statement.{statement}
 use Rattle.candidates.proofs.landing.Tie as tie
-use Rattle.candidates.proofs.landing.Reads as reads
-use Rattle.candidates.proofs.landing.Lts as lts
-use Rattle.candidates.proofs.joined.Reads as joined-reads
-use Rattle.fits.proofs.new_position.Reads as new-position-reads
-use Rattle.lists.proofs.at.Reads as at-reads
-use Rattle.merging.proofs.allowed.Reads as allowed-reads
 
 allowed-requires : tie.Need-allowed-requires
 allowed-requires c κs = (c .before .before .pre .0, c .before .before .pre .1 .0 .face)

@@ -1,18 +1,12 @@
+-- `candidates::search` meets its contract. Assumes nothing.
 use native.Mathlib.Omega.{arith}
 use borrow.Author.Needs.{needs}
-use mathlib.Core.Path.{_≡_, sym, refl, _∙_}
+use mathlib.Core.Path.{_≡_, sym, _∙_}
 use Prim.Native.Nat.{_≤_, _-_}
-use Rattle.candidates.specs.Choices.{foundTo, Tried, Holding}
-use Rattle.candidates.proofs.Choices.{tried-at, landed, found-none, found-refused, found-onto}
-use Rattle.candidates.specs.Choices.{Searching}
-use Rattle.candidates.proofs.Choices.{tried-of}
+use Rattle.candidates.specs.Choices.{foundTo, Tried, Holding, Searching}
+use Rattle.candidates.proofs.Choices.{landed, found-none, found-refused, found-onto, tried-of}
 use Rattle.candidates.proofs.search.Statement.{statement}
 use Rattle.candidates.proofs.search.Tie as tie
-use Rattle.candidates.proofs.search.Reads as reads
-use Rattle.candidates.proofs.search.Lts as lts
-use Rattle.candidates.proofs.diagonal_at.Reads as diagonal-at-reads
-use Rattle.candidates.proofs.landing.Reads as landing-reads
-use Rattle.candidates.proofs.weighed.Reads as weighed-reads
 
 abbrev Inv-loop : tie.InvT-loop
 Inv-loop np nq f b len points quads labels w field best₀ k₀ best k = (k ≤ 2) × (best ≡ foundTo np nq b len points quads labels w f k)

@@ -1,12 +1,8 @@
-use native.Mathlib.Omega.{arith}
+-- `candidates::take` meets its contract. Assumes nothing.
 use borrow.Author.Needs.{needs}
-use mathlib.Core.Path.{refl}
 use Rattle.candidates.proofs.Steps.{takeable-at, taken-none, taken-made}
 use Rattle.candidates.proofs.take.Statement.{statement}
 use Rattle.candidates.proofs.take.Tie as tie
-use Rattle.candidates.proofs.take.Reads as reads
-use Rattle.candidates.proofs.take.Lts as lts
-use Rattle.merging.proofs.merge.Reads as merge-reads
 
 enum-told : tie.Need-enum-told
 enum-told c = search needs

@@ -1,16 +1,10 @@
-use native.Mathlib.Omega.{arith}
+-- `candidates::visit` meets its contract. Assumes nothing.
 use borrow.Author.Needs.{needs}
 use Rattle.candidates.specs.Choices.{Passing, Holding, VisitedFace}
-use Rattle.candidates.proofs.Steps.{searching-of, takeable-of, visit-none, visit-taken}
+use Rattle.candidates.proofs.Steps.{searching-of, takeable-of, visit-none, visit-taken, by-length}
 use mathlib.Core.Path.{sym, _∙_}
-use Rattle.candidates.proofs.Steps.{by-length}
 use Rattle.candidates.proofs.visit.Statement.{statement}
 use Rattle.candidates.proofs.visit.Tie as tie
-use Rattle.candidates.proofs.visit.Reads as reads
-use Rattle.candidates.proofs.visit.Lts as lts
-use Rattle.candidates.proofs.is_tried.Reads as is-tried-reads
-use Rattle.candidates.proofs.search.Reads as search-reads
-use Rattle.candidates.proofs.take.Reads as take-reads
 
 is-tried-requires : tie.Need-is-tried-requires
 is-tried-requires c κs = let s = c .before .before .before .before .before .before in (s .pre .0 .grounds, (s .pre .0 .sheet, s .pre .1 .0))

@@ -1,13 +1,10 @@
+-- `candidates::visit_all` meets its contract. Assumes nothing.
 use native.Mathlib.Omega.{arith}
-use borrow.Author.Needs.{needs}
 use Prim.Native.Nat.{_-_}
 use Rattle.candidates.specs.Choices.{Passing, VisitedFace}
 use Rattle.candidates.proofs.Steps.{Visiting, visiting-start, visiting-turn, visiting-end}
 use Rattle.candidates.proofs.visit_all.Statement.{statement}
 use Rattle.candidates.proofs.visit_all.Tie as tie
-use Rattle.candidates.proofs.visit_all.Reads as reads
-use Rattle.candidates.proofs.visit_all.Lts as lts
-use Rattle.candidates.proofs.visit.Reads as visit-reads
 
 abbrev Inv-loop : tie.InvT-loop
 Inv-loop np nq b len points₀ quads₀ labels w₀ count₀ f₀ points quads w count f = Visiting b np nq labels points₀ quads₀ w₀ points quads w f count

@@ -1,16 +1,11 @@
-use native.Mathlib.Omega.{arith}
+-- `candidates::weighed` meets its contract. Assumes nothing.
 use borrow.Author.Needs.{needs}
 use mathlib.Core.Path.{refl}
-use Rattle.merging.specs.Layout.{Face, gainOf}
+use Rattle.merging.specs.Layout.{Face}
 use Rattle.candidates.specs.Choices.{weighedOf, Tried}
 use Rattle.candidates.proofs.Choices.{allowed-gains}
 use Rattle.candidates.proofs.weighed.Statement.{statement}
 use Rattle.candidates.proofs.weighed.Tie as tie
-use Rattle.candidates.proofs.weighed.Reads as reads
-use Rattle.candidates.proofs.weighed.Lts as lts
-use Rattle.candidates.proofs.better.Reads as better-reads
-use Rattle.candidates.proofs.stay_around.Reads as stay-around-reads
-use Rattle.merging.proofs.sums_of.Reads as sums-of-reads
 
 stay-around-requires : tie.Need-stay-around-requires
 stay-around-requires c κs = let s = c .before .before .before in (s .pre .0, (s .pre .1 .1 .0, (s .pre .1 .1 .1 .0, s .pre .1 .0 .face .a<)))

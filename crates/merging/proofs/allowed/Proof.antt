@@ -1,15 +1,10 @@
-use native.Mathlib.Omega.{arith}
+-- `merging::allowed` meets its contract. Assumes nothing.
 use borrow.Author.Needs.{needs}
 use mathlib.Core.Path.{refl}
 use Rattle.merging.specs.Layout.{Face, allowedIn}
 use Rattle.merging.proofs.Grounds.{free-both}
 use Rattle.merging.proofs.allowed.Statement.{statement}
 use Rattle.merging.proofs.allowed.Tie as tie
-use Rattle.merging.proofs.allowed.Reads as reads
-use Rattle.merging.proofs.allowed.Lts as lts
-use Rattle.merging.proofs.meet_only.Reads as meet-only-reads
-use Rattle.merging.proofs.near_free.Reads as near-free-reads
-use Rattle.merging.proofs.worth.Reads as worth-reads
 
 worth-requires : tie.Need-worth-requires
 worth-requires c κs = search needs

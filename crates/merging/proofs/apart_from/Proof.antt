@@ -1,13 +1,9 @@
-use native.Mathlib.Omega.{arith}
+-- `merging::apart_from` meets its contract. Assumes nothing.
 use borrow.Author.Needs.{needs}
 use mathlib.Core.Path.{refl}
 use borrow.Author.Tests.{eq-eqb, ne-eqb}
-use mathlib.Core.Bool.{or-true}
 use Rattle.merging.proofs.apart_from.Statement.{statement}
 use Rattle.merging.proofs.apart_from.Tie as tie
-use Rattle.merging.proofs.apart_from.Reads as reads
-use Rattle.merging.proofs.apart_from.Lts as lts
-use Rattle.lookup.proofs.is_edge.Reads as is-edge-reads
 
 returns : tie.Need-returns
 returns c = rw (eq-eqb _ _ (c .if1 .taken)) refl

@@ -1,17 +1,12 @@
+-- `merging::bar_around` meets its contract. Assumes nothing.
 use native.Mathlib.Omega.{arith}
 use borrow.Author.Needs.{needs}
 use mathlib.Core.Path.{refl}
-use Prim.Native.Nat.{_+_, _-_}
-use lib.ListN.{getD}
+use Prim.Native.Nat.{_-_}
 use Rattle.merging.specs.Layout.{Spanned}
 use Rattle.merging.proofs.Grounds.{Barring, barring-start, BarTurn, bar-turn, barring-end}
 use Rattle.merging.proofs.bar_around.Statement.{statement}
 use Rattle.merging.proofs.bar_around.Tie as tie
-use Rattle.merging.proofs.bar_around.Reads as reads
-use Rattle.merging.proofs.bar_around.Lts as lts
-use Rattle.lists.proofs.at.Reads as at-reads
-use Rattle.merging.proofs.bar_quad.Reads as bar-quad-reads
-use Rattle.merging.proofs.corners_of.Reads as corners-of-reads
 
 abbrev Inv-loop : tie.InvT-loop
 Inv-loop np nq v w₀ from m t₀ w t = Barring np nq v from m w₀ w t

@@ -1,16 +1,12 @@
-use native.Mathlib.Omega.{arith}
+-- `merging::bar_quad` meets its contract. Assumes nothing.
 use borrow.Author.Needs.{needs}
-use Rattle.merging.specs.Layout.{flatStart, usedIn}
+use Rattle.merging.specs.Layout.{flatStart, usedIn, wasAt}
 use Rattle.merging.proofs.Grounds.{quad-marking, quad-listed}
 use Rattle.merging.proofs.Marks.{quad-marks}
 use Prim.Native.Nat.{_+_, _*_}
 use Rattle.lists.specs.Regions.{part}
-use Rattle.merging.specs.Layout.{wasAt}
 use Rattle.merging.proofs.bar_quad.Statement.{statement}
 use Rattle.merging.proofs.bar_quad.Tie as tie
-use Rattle.merging.proofs.bar_quad.Reads as reads
-use Rattle.merging.proofs.bar_quad.Lts as lts
-use Rattle.merging.proofs.mark_points.Reads as mark-points-reads
 
 add-n : tie.Need-add-n
 add-n c = search needs

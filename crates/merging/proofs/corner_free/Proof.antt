@@ -1,13 +1,9 @@
+-- `merging::corner_free` meets its contract. Assumes nothing.
 use native.Mathlib.Omega.{arith}
-use borrow.Author.Needs.{needs}
 use Rattle.merging.proofs.Corners.{Within, within}
 use mathlib.Core.Path.{refl}
 use Rattle.merging.proofs.corner_free.Statement.{statement}
 use Rattle.merging.proofs.corner_free.Tie as tie
-use Rattle.merging.proofs.corner_free.Reads as reads
-use Rattle.merging.proofs.corner_free.Lts as lts
-use Rattle.lists.proofs.at.Reads as at-reads
-use Rattle.sheet.proofs.corner_at.Reads as corner-at-reads
 
 corner-at-requires : tie.Need-corner-at-requires
 corner-at-requires c κs = within _ _ (c .before .before .pre .0) (c .before .before .pre .1 .1 .0) (c .before .before .pre .1 .1 .1) .room

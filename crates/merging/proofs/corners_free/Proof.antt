@@ -1,20 +1,16 @@
+-- `merging::corners_free` meets its contract. Assumes nothing.
 use native.Mathlib.Omega.{arith}
 use borrow.Author.Needs.{needs}
-use mathlib.Core.Path.{_≡_, sym, refl, ap, _∙_}
+use mathlib.Core.Path.{_≡_, sym}
 use mathlib.Core.Bool.{true}
-use Prim.Native.Nat.{_≤_, _-_, _/_}
-use lib.ListN.{length, getD}
+use Prim.Native.Nat.{_≤_, _-_}
+use lib.ListN.{length}
 use Rattle.lists.specs.Every.{every}
 use Rattle.lists.proofs.Every.{every-zero, every-suc, every-fails}
 use Rattle.merging.specs.Tests.{freeAt}
-use Rattle.merging.proofs.Corners.{Turn, listed-turn}
-use Rattle.merging.proofs.Corners.{free-turn}
+use Rattle.merging.proofs.Corners.{Turn, listed-turn, free-turn}
 use Rattle.merging.proofs.corners_free.Statement.{statement}
 use Rattle.merging.proofs.corners_free.Tie as tie
-use Rattle.merging.proofs.corners_free.Reads as reads
-use Rattle.merging.proofs.corners_free.Lts as lts
-use Rattle.lists.proofs.at.Reads as at-reads
-use Rattle.merging.proofs.quad_free.Reads as quad-free-reads
 
 abbrev Inv-loop : tie.InvT-loop
 Inv-loop np nq cs quads used t₀ t = (t ≤ length cs) × (every (freeAt cs quads used) t ≡ true)

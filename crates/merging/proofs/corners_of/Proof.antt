@@ -1,12 +1,10 @@
+-- `merging::corners_of` meets its contract. Assumes nothing.
 use native.Mathlib.Omega.{arith}
 use borrow.Author.Needs.{needs}
 use Rattle.incidence.proofs.Marks.{Around}
 use Rattle.merging.proofs.Grounds.{corners-around, spanned}
 use Rattle.merging.proofs.corners_of.Statement.{statement}
 use Rattle.merging.proofs.corners_of.Tie as tie
-use Rattle.merging.proofs.corners_of.Reads as reads
-use Rattle.merging.proofs.corners_of.Lts as lts
-use Rattle.lists.proofs.at.Reads as at-reads
 
 add-n : tie.Need-add-n
 add-n c = search needs

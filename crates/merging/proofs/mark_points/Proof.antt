@@ -1,3 +1,4 @@
+-- `merging::mark_points` meets its contract. Assumes nothing.
 use native.Mathlib.Omega.{arith}
 use borrow.Author.Needs.{needs}
 use mathlib.Core.Path.{refl}
@@ -7,8 +8,6 @@ use Rattle.lists.specs.Regions.{part}
 use Rattle.merging.proofs.Marks.{Pointing, pointing-start, PointTurn, point-turn, pointing-end}
 use Rattle.merging.proofs.mark_points.Statement.{statement}
 use Rattle.merging.proofs.mark_points.Tie as tie
-use Rattle.merging.proofs.mark_points.Reads as reads
-use Rattle.merging.proofs.mark_points.Lts as lts
 
 abbrev Inv-loop : tie.InvT-loop
 Inv-loop from m used np w₀ j₀ w j = Pointing (part from m w₀) (part used np w₀) from m used np w₀ w j

@@ -1,12 +1,8 @@
-use native.Mathlib.Omega.{arith}
+-- `merging::masks_join` meets its contract. Assumes nothing.
 use borrow.Author.Needs.{needs}
 use Rattle.merging.specs.Tests.{masksJoined}
 use Rattle.merging.proofs.masks_join.Statement.{statement}
 use Rattle.merging.proofs.masks_join.Tie as tie
-use Rattle.merging.proofs.masks_join.Reads as reads
-use Rattle.merging.proofs.masks_join.Lts as lts
-use Rattle.merging.proofs.no_opposite.Reads as no-opposite-reads
-use Rattle.merging.proofs.part_of.Reads as part-of-reads
 
 no-opposite-requires : tie.Need-no-opposite-requires
 no-opposite-requires c κs = search needs

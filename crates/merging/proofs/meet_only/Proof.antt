@@ -1,13 +1,8 @@
-use native.Mathlib.Omega.{arith}
+-- `merging::meet_only` meets its contract. Assumes nothing.
 use borrow.Author.Needs.{needs}
 use Rattle.merging.proofs.Grounds.{meet-first, meet-second}
 use Rattle.merging.proofs.meet_only.Statement.{statement}
 use Rattle.merging.proofs.meet_only.Tie as tie
-use Rattle.merging.proofs.meet_only.Reads as reads
-use Rattle.merging.proofs.meet_only.Lts as lts
-use Rattle.merging.proofs.no_further.Reads as no-further-reads
-use Rattle.merging.proofs.share_only.Reads as share-only-reads
-use Rattle.merging.proofs.valence_at.Reads as valence-at-reads
 
 valence-at-requires : tie.Need-valence-at-requires
 valence-at-requires c κs = search needs

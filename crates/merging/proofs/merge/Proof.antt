@@ -1,19 +1,12 @@
+-- `merging::merge` meets its contract. Assumes nothing.
 use native.Mathlib.Omega.{arith}
 use borrow.Author.Needs.{needs}
-use mathlib.Core.Path.{_∙_}
-use lib.ListN.{length-set}
-use Rattle.merging.specs.Marks.{Merging}
+use Rattle.merging.specs.Marks.{Merging, Joined}
 use Rattle.merging.proofs.Grounds.{only-used, grounds-kept, joined-of, removed-in}
 use Rattle.merging.specs.Layout.{Grounds}
-use Rattle.merging.specs.Marks.{Joined}
 use Rattle.lists.proofs.Regions.{kept-then}
 use Rattle.merging.proofs.merge.Statement.{statement}
 use Rattle.merging.proofs.merge.Tie as tie
-use Rattle.merging.proofs.merge.Reads as reads
-use Rattle.merging.proofs.merge.Lts as lts
-use Rattle.merging.proofs.bar_around.Reads as bar-around-reads
-use Rattle.merging.proofs.rename.Reads as rename-reads
-use Rattle.points.proofs.put_point.Reads as put-point-reads
 
 put-point-requires : tie.Need-put-point-requires
 put-point-requires c κs = let m = c .before .before .before .before .pre .1 in let a = m .a< in let p = m .points in omega arith

@@ -1,12 +1,8 @@
-use native.Mathlib.Omega.{arith}
+-- `merging::near_free` meets its contract. Assumes nothing.
 use borrow.Author.Needs.{needs}
 use Rattle.merging.proofs.Grounds.{listed-lent, length-lent-used, free-lent}
 use Rattle.merging.proofs.near_free.Statement.{statement}
 use Rattle.merging.proofs.near_free.Tie as tie
-use Rattle.merging.proofs.near_free.Reads as reads
-use Rattle.merging.proofs.near_free.Lts as lts
-use Rattle.merging.proofs.corners_free.Reads as corners-free-reads
-use Rattle.merging.proofs.corners_of.Reads as corners-of-reads
 
 add-n : tie.Need-add-n
 add-n c = search needs

@@ -1,12 +1,8 @@
-use native.Mathlib.Omega.{arith}
+-- `merging::no_further` meets its contract. Assumes nothing.
 use borrow.Author.Needs.{needs}
 use Rattle.merging.proofs.Grounds.{listed-lent, further-lent}
 use Rattle.merging.proofs.no_further.Statement.{statement}
 use Rattle.merging.proofs.no_further.Tie as tie
-use Rattle.merging.proofs.no_further.Reads as reads
-use Rattle.merging.proofs.no_further.Lts as lts
-use Rattle.merging.proofs.corners_of.Reads as corners-of-reads
-use Rattle.merging.proofs.none_further.Reads as none-further-reads
 
 corners-of-requires : tie.Need-corners-of-requires
 corners-of-requires c κs = search needs

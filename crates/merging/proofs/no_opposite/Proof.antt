@@ -1,10 +1,8 @@
-use native.Mathlib.Omega.{arith}
+-- `merging::no_opposite` meets its contract. Assumes nothing.
 use borrow.Author.Needs.{needs}
 use Rattle.merging.specs.Tests.{noOpposite}
 use Rattle.merging.proofs.no_opposite.Statement.{statement}
 use Rattle.merging.proofs.no_opposite.Tie as tie
-use Rattle.merging.proofs.no_opposite.Reads as reads
-use Rattle.merging.proofs.no_opposite.Lts as lts
 
 add-result : tie.Need-add-result
 add-result c = search needs

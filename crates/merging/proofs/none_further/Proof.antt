@@ -1,3 +1,4 @@
+-- `merging::none_further` meets its contract. Assumes nothing.
 use native.Mathlib.Omega.{arith}
 use borrow.Author.Needs.{needs}
 use mathlib.Core.Path.{_≡_, sym}
@@ -10,10 +11,6 @@ use Rattle.merging.specs.Tests.{notFurther}
 use Rattle.merging.proofs.Corners.{Turn, listed-turn, further-turn}
 use Rattle.merging.proofs.none_further.Statement.{statement}
 use Rattle.merging.proofs.none_further.Tie as tie
-use Rattle.merging.proofs.none_further.Reads as reads
-use Rattle.merging.proofs.none_further.Lts as lts
-use Rattle.lists.proofs.at.Reads as at-reads
-use Rattle.merging.proofs.has_corner.Reads as has-corner-reads
 
 abbrev Inv-loop : tie.InvT-loop
 Inv-loop np nq cs quads f v t₀ t = (t ≤ length cs) × (every (notFurther cs quads f v) t ≡ true)

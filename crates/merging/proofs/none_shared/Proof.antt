@@ -1,3 +1,4 @@
+-- `merging::none_shared` meets its contract. Assumes nothing.
 use native.Mathlib.Omega.{arith}
 use borrow.Author.Needs.{needs}
 use mathlib.Core.Path.{_≡_, sym}
@@ -12,10 +13,6 @@ use Rattle.merging.proofs.Corners.{Turn, listed-turn}
 use Rattle.merging.proofs.Grounds.{shares-turn}
 use Rattle.merging.proofs.none_shared.Statement.{statement}
 use Rattle.merging.proofs.none_shared.Tie as tie
-use Rattle.merging.proofs.none_shared.Reads as reads
-use Rattle.merging.proofs.none_shared.Lts as lts
-use Rattle.lists.proofs.at.Reads as at-reads
-use Rattle.merging.proofs.shares_none.Reads as shares-none-reads
 
 abbrev Inv-loop : tie.InvT-loop
 Inv-loop np nq cs b d v w t₀ t = (t ≤ length cs) × (every (sharesNone cs (flatStart np nq w) (startOf np nq w) b d v) t ≡ true)

@@ -1,10 +1,8 @@
-use native.Mathlib.Omega.{arith}
+-- `merging::part_of` meets its contract. Assumes nothing.
 use borrow.Author.Needs.{needs}
 use Rattle.merging.specs.Tests.{partOf}
 use Rattle.merging.proofs.part_of.Statement.{statement}
 use Rattle.merging.proofs.part_of.Tie as tie
-use Rattle.merging.proofs.part_of.Reads as reads
-use Rattle.merging.proofs.part_of.Lts as lts
 
 returns : tie.Need-returns
 unfolding partOf

@@ -1,11 +1,8 @@
-use native.Mathlib.Omega.{arith}
+-- `merging::quad_free` meets its contract. Assumes nothing.
 use borrow.Author.Needs.{needs}
 use Rattle.merging.specs.Tests.{quadFree}
 use Rattle.merging.proofs.quad_free.Statement.{statement}
 use Rattle.merging.proofs.quad_free.Tie as tie
-use Rattle.merging.proofs.quad_free.Reads as reads
-use Rattle.merging.proofs.quad_free.Lts as lts
-use Rattle.merging.proofs.corner_free.Reads as corner-free-reads
 
 corner-free-requires : tie.Need-corner-free-requires
 corner-free-requires c κs = search needs

@@ -1,13 +1,10 @@
+-- `merging::rename` meets its contract. Assumes nothing.
 use native.Mathlib.Omega.{arith}
 use borrow.Author.Needs.{needs}
 use Rattle.merging.specs.Layout.{Grounds}
 use Rattle.merging.proofs.Grounds.{nameable-lent, renamed-lent}
 use Rattle.merging.proofs.rename.Statement.{statement}
 use Rattle.merging.proofs.rename.Tie as tie
-use Rattle.merging.proofs.rename.Reads as reads
-use Rattle.merging.proofs.rename.Lts as lts
-use Rattle.merging.proofs.corners_of.Reads as corners-of-reads
-use Rattle.merging.proofs.rename_corners.Reads as rename-corners-reads
 
 corners-of-requires : tie.Need-corners-of-requires
 corners-of-requires c κs = search needs

@@ -1,3 +1,4 @@
+-- `merging::rename_corners` meets its contract. Assumes nothing.
 use native.Mathlib.Omega.{arith}
 use borrow.Author.Needs.{needs}
 use mathlib.Core.Path.{refl}
@@ -6,8 +7,6 @@ use lib.ListN.{length, getD}
 use Rattle.merging.proofs.Marks.{Naming, naming-start, NameTurn, name-turn, naming-end}
 use Rattle.merging.proofs.rename_corners.Statement.{statement}
 use Rattle.merging.proofs.rename_corners.Tie as tie
-use Rattle.merging.proofs.rename_corners.Reads as reads
-use Rattle.merging.proofs.rename_corners.Lts as lts
 
 abbrev Inv-loop : tie.InvT-loop
 Inv-loop cs a quads₀ t₀ quads t = Naming cs quads₀ a quads t

@@ -1,12 +1,8 @@
-use native.Mathlib.Omega.{arith}
+-- `merging::share_only` meets its contract. Assumes nothing.
 use borrow.Author.Needs.{needs}
 use Rattle.merging.proofs.Grounds.{listed-start, shared-lent}
 use Rattle.merging.proofs.share_only.Statement.{statement}
 use Rattle.merging.proofs.share_only.Tie as tie
-use Rattle.merging.proofs.share_only.Reads as reads
-use Rattle.merging.proofs.share_only.Lts as lts
-use Rattle.merging.proofs.corners_of.Reads as corners-of-reads
-use Rattle.merging.proofs.none_shared.Reads as none-shared-reads
 
 corners-of-requires : tie.Need-corners-of-requires
 corners-of-requires c κs = search needs

@@ -1,13 +1,10 @@
+-- `merging::shares_none` meets its contract. Assumes nothing.
 use native.Mathlib.Omega.{arith}
 use borrow.Author.Needs.{needs}
 use Rattle.merging.proofs.Grounds.{Ends, ends-at}
 use mathlib.Core.Path.{refl}
 use Rattle.merging.proofs.shares_none.Statement.{statement}
 use Rattle.merging.proofs.shares_none.Tie as tie
-use Rattle.merging.proofs.shares_none.Reads as reads
-use Rattle.merging.proofs.shares_none.Lts as lts
-use Rattle.lists.proofs.at.Reads as at-reads
-use Rattle.merging.proofs.apart_from.Reads as apart-from-reads
 
 add-was : tie.Need-add-was
 add-was c = search needs

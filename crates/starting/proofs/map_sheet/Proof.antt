@@ -1,3 +1,4 @@
+-- `starting::map_sheet` meets its contract. Assumes nothing.
 use native.Mathlib.Omega.{arith}
 use borrow.Author.Needs.{needs}
 use mathlib.Core.Path.{_∙_}
@@ -6,12 +7,6 @@ use Rattle.starting.specs.Starts.{Mappable, Mapped}
 use Rattle.starting.proofs.Starts.{edge-room, point-room, valence-room, mapped-all}
 use Rattle.starting.proofs.map_sheet.Statement.{statement}
 use Rattle.starting.proofs.map_sheet.Tie as tie
-use Rattle.starting.proofs.map_sheet.Reads as reads
-use Rattle.starting.proofs.map_sheet.Lts as lts
-use Rattle.incidence.proofs.quads_at.Reads as quads-at-reads
-use Rattle.incidence.proofs.valences.Reads as valences-reads
-use Rattle.lookup.proofs.copy_quads.Reads as copy-quads-reads
-use Rattle.lookup.proofs.edge_map.Reads as edge-map-reads
 
 add-n : tie.Need-add-n
 add-n c = search needs

@@ -1,12 +1,10 @@
+-- `starting::mask_sheet` meets its contract. Assumes nothing.
 use native.Mathlib.Omega.{arith}
 use borrow.Author.Needs.{needs}
 use Rattle.lists.proofs.Regions.{length-lent}
 use Rattle.starting.proofs.Starts.{masks-lent}
 use Rattle.starting.proofs.mask_sheet.Statement.{statement}
 use Rattle.starting.proofs.mask_sheet.Tie as tie
-use Rattle.starting.proofs.mask_sheet.Reads as reads
-use Rattle.starting.proofs.mask_sheet.Lts as lts
-use Rattle.starting.proofs.fresh_masks.Reads as fresh-masks-reads
 
 add-fresh-masks : tie.Need-add-fresh-masks
 add-fresh-masks c = search needs

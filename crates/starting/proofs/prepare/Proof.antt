@@ -1,14 +1,10 @@
+-- `starting::prepare` meets its contract. Assumes nothing.
 use native.Mathlib.Omega.{arith}
 use borrow.Author.Needs.{needs}
 use Rattle.starting.specs.Starts.{Mappable, Mapped, Startable}
 use Rattle.starting.proofs.Starts.{mappable-kept, removed-room, start-cleared}
 use Rattle.starting.proofs.prepare.Statement.{statement}
 use Rattle.starting.proofs.prepare.Tie as tie
-use Rattle.starting.proofs.prepare.Reads as reads
-use Rattle.starting.proofs.prepare.Lts as lts
-use Rattle.lists.proofs.clear.Reads as clear-reads
-use Rattle.starting.proofs.map_sheet.Reads as map-sheet-reads
-use Rattle.starting.proofs.mask_sheet.Reads as mask-sheet-reads
 
 add-n : tie.Need-add-n
 add-n c = search needs
