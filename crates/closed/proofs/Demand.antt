@@ -29,9 +29,10 @@ use Rattle.swaps.proofs.Runs.{Ran, run-keeps, run-ends, run-again}
 use Rattle.merges.specs.Merges.{Slot, out, slot, live, liveLabels, order, renumber, nonePoint, gathered}
 use Rattle.merges.specs.Coarse.{MergeFits, Position, mergePass, compact, nextSheet, coarseRun}
 use Rattle.merges.proofs.Joins.{sqUsed, squaredUsed, inUse, Merges}
-use Rattle.merges.proofs.MergePass.{weigh, slot-in, slot-inj, sq-used-pos, MInv, MKept, merges-kept, MAccepted, merges-accepted, slotTouches, SlotsNoClash, touches-live, live-length}
+use Rattle.merges.specs.Invariant.{MInv, Used, weigh}
+use Rattle.merges.proofs.MergePass.{slot-in, slot-inj, sq-used-pos, MKept, merges-kept, MAccepted, merges-accepted, slotTouches, SlotsNoClash, touches-live, live-length}
 use Rattle.merges.proofs.Renumber.{renumber-rings, renumber-proper, renumber-below, renumber-used, renumber-squared, renumber-points, renumber-length, renumber-clash, of-order}
-use Rattle.merges.proofs.Visits.{Used, pass-merges}
+use Rattle.merges.proofs.Visits.{pass-merges}
 use Rattle.merges.proofs.Points.{all-gathered, pass-placed}
 use Rattle.closed.specs.Clean.{SameEuler, squaredOf, withQuads, refined}
 use Rattle.closed.proofs.Finer.{all-at}

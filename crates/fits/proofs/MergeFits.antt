@@ -136,10 +136,10 @@ pack-wider t u h =
     omega arith
 
 -- it "equals one of the two", so it is the greater number
-pub joined-max : (n : ℕ) (S : List Quad) (labels : List ℕ) (fits : MergeFits) (position : Position) (a c : ℕ) → masksJoin n S labels fits position a c ≡ true
+pub joined-max : (n : ℕ) (S : List Quad) (labels : List ℕ) (a c : ℕ) → masksJoin n S labels a c ≡ true
     → joinedMask S labels a c ≡ max (maskOf S labels a) (maskOf S labels c)
 unfolding joinedMask maskOf
-joined-max n S labels fits position a c e =
+joined-max n S labels a c e =
     let t = hasLabel S labels a in
     let u = hasLabel S labels c in
     ⊎-elim

@@ -93,7 +93,7 @@ pub record Uses (Q : List ℕ) (q v : ℕ) : Type 0 where
   pub j< : j < 4
   pub at : corner Q q j ≡ v
 
-uses-find : (Q : List ℕ) (q v : ℕ) → 0 < uses v (quadAt Q q) → Uses Q q v
+pub uses-find : (Q : List ℕ) (q v : ℕ) → 0 < uses v (quadAt Q q) → Uses Q q v
 uses-find Q q v = go _ _ _ _ refl refl refl refl
   where
     go : (a b c d : Bool) → eqb (corner Q q 0) v ≡ a → eqb (corner Q q 1) v ≡ b → eqb (corner Q q 2) v ≡ c → eqb (corner Q q 3) v ≡ d
@@ -104,7 +104,7 @@ uses-find Q q v = go _ _ _ _ refl refl refl refl
     go false false false true ea eb ec ed h = record { j = 3; j< = omega arith; at = eqb-true _ v ed }
     go false false false false ea eb ec ed h = absurd (omega arith)
 
-uses-at : (Q : List ℕ) (q v j : ℕ) → j < 4 → corner Q q j ≡ v → 0 < uses v (quadAt Q q)
+pub uses-at : (Q : List ℕ) (q v j : ℕ) → j < 4 → corner Q q j ≡ v → 0 < uses v (quadAt Q q)
 uses-at Q q v j h e = below4 j h (eq-eqb (corner Q q j) v e)
   where
     below4 : (j : ℕ) → j < 4 → eqb (corner Q q j) v ≡ true → 0 < uses v (quadAt Q q)

@@ -23,13 +23,9 @@ use Rattle.swaps.proofs.Swap.{sum-set, sum-at}
 use Rattle.swaps.proofs.SwapPass.{here}
 use Rattle.swaps.proofs.Weigh.{at-same, at-diff, is-le, at-le, corners-le, side-at-end, flip}
 use Rattle.merges.specs.Merges.{rename, renameQuad, Slot, out, slot, live, liveLabels, renameSlot, merged}
+use Rattle.merges.specs.Invariant.{weigh, MInv}
 use Rattle.merges.proofs.Joins.{sqUsed, squaredUsed, inUse, Mergeable, BarPoints, Merges, done, merge}
 use Rattle.merges.proofs.Merge.{ren-same, ren-diff, merge-rings, val-a, val-b, val-c, val-d, merge-below, merge-sum}
-
--- A weight of quads at the slots.
-abbrev pub weigh : (Quad → ℕ) → Slot → ℕ
-weigh F out = 0
-weigh F (slot q) = F q
 
 pub sum-live : (F : Quad → ℕ) (S : List Slot) → sum F (live S) ≡ sum (weigh F) S
 sum-live F [] = refl
@@ -80,11 +76,6 @@ no-corner (quad x y z w) v g h = omega (
 
 pub has-dec : (q : Quad) (v : ℕ) → Dec (Has q v)
 has-dec q v = decLt 0 (corners (at v (λ p n. 1)) q)
-
--- The pass's invariant: a quad that has, or had, an unbarred corner stands as it stood at the start.
-pub record MInv (S0 : List Quad) (S : List Slot) (U : ℕ → Type 0) : Type 0 where
-  pub len : length S ≡ length S0
-  pub same : (v : ℕ) → ¬ U v → (j : ℕ) → j < length S0 → (0 < weigh (corners (at v (λ p n. 1))) (getD S j out)) ⊎ Has (getD S0 j noneQuad) v → getD S j out ≡ slot (getD S0 j noneQuad)
 
 -- So what stands at an unbarred point is what stood there.
 pub place-free : (S0 : List Quad) (S : List Slot) (U : ℕ → Type 0) → MInv S0 S U → (v : ℕ) → ¬ U v → (g : ℕ → ℕ → ℕ) → (j : ℕ) → j < length S0 → weigh (corners (at v g)) (getD S j out) ≡ corners (at v g) (getD S0 j noneQuad)
@@ -578,7 +569,7 @@ pub record MKept (labels : List ℕ) (n c : ℕ) (S S′ : List Slot) : Type 0 w
   pub four : (j : ℕ) (q : Quad) → getD S′ j out ≡ slot q → Differ q
 
 -- To bar more keeps the invariant.
-minv-more : (S0 : List Quad) (S : List Slot) (U U₁ : ℕ → Type 0) → ((v : ℕ) → U v → U₁ v) → MInv S0 S U → MInv S0 S U₁
+pub minv-more : (S0 : List Quad) (S : List Slot) (U U₁ : ℕ → Type 0) → ((v : ℕ) → U v → U₁ v) → MInv S0 S U → MInv S0 S U₁
 minv-more S0 S U U₁ f inv = record { len = inv .len; same = λ v n j l h. inv .same v (λ u. n (f v u)) j l h }
 
 pub merges-kept : (S0 : List Quad) (labels : List ℕ) (n : ℕ) (S : List Slot) (U : ℕ → Type 0) (S′ : List Slot) (c : ℕ) → Merges S0 labels S U S′ c → MInv S0 S U → ((j : ℕ) → j < length S0 → Differ (getD S0 j noneQuad))

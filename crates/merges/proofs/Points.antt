@@ -54,8 +54,8 @@ module _ (n : ℕ) (S0 : List Quad) (labels : List ℕ) (fits : MergeFits) (posi
     where
       -- what the rule asks beside `fits`
       allowed : Bool
-      allowed = masksJoin n S0 labels fits position a c && leb 4 (valence S0 b) && leb 4 (valence S0 d) && shareOnly n S0 labels fits position a b c d
-          && noFurther n S0 labels fits position f a c && nearFree n S0 labels fits position (st .used) a c && leb (sumAfter n S0 labels fits position a b c d) (sumBefore n S0 labels fits position a b c d)
+      allowed = masksJoin n S0 labels a c && leb 4 (valence S0 b) && leb 4 (valence S0 d) && shareOnly n S0 labels a b c d
+          && noFurther n S0 labels f a c && nearFree n S0 labels (st .used) a c && leb (sumAfter n S0 labels a b c d) (sumBefore n S0 labels a b c d)
 
   face-placed : (st t : MergeState) (f : ℕ) (s : Slot) → Placed st → tryFace n S0 labels fits position st f s ≡ some t → Placed t
   face-placed st t f out p e = absurd (none-some e)
@@ -71,7 +71,7 @@ module _ (n : ℕ) (S0 : List Quad) (labels : List ℕ) (fits : MergeFits) (posi
       second = mayMerge n S0 labels fits position st f q1 q2 q3 q0
 
       gains : Bool
-      gains = ltb (sumBefore n S0 labels fits position q0 q1 q2 q3 - sumAfter n S0 labels fits position q0 q1 q2 q3) (sumBefore n S0 labels fits position q1 q2 q3 q0 - sumAfter n S0 labels fits position q1 q2 q3 q0)
+      gains = ltb (sumBefore n S0 labels q0 q1 q2 q3 - sumAfter n S0 labels q0 q1 q2 q3) (sumBefore n S0 labels q1 q2 q3 q0 - sumAfter n S0 labels q1 q2 q3 q0)
 
       one : MergeState
       one = mergedState n S0 labels fits position st f q0 q2

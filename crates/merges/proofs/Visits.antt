@@ -12,14 +12,16 @@ use lib.ListN.{length, getD, replicate}
 use borrow.Author.Tests.{lt-ltb, eqb-true, leb-true, ne-eqb}
 use Rattle.sheet.specs.Quads.{uses, isEdge, hasLabel, Quad, quad, is, sum, corners, at, valence, side, touches}
 use Rattle.sheet.specs.Sheet.{Sheet}
-use Rattle.swaps.specs.Claims.{Low, Below}
+use Rattle.swaps.specs.Claims.{Low, Below, Differ}
 use Rattle.swaps.specs.Swaps.{choose, takeOr, turn, noneQuad}
 use Rattle.swaps.proofs.Passes.{Has}
 use Rattle.swaps.proofs.Swap.{sum-at}
 use Rattle.swaps.proofs.Sweep.{no-edge, choose-some, none-some, cond-some, not-true, and-true}
 use Rattle.swaps.proofs.Weigh.{at-point-le, is-le, side-at-end}
 use Rattle.merges.specs.Coarse.{MergeFits, Position, shareOnly, noFurther, nearFree, freshMerge, mergedState, hasCorner, MergeState, mark, near, masksJoin, sumBefore, sumAfter, mayMerge, tryFace, visit, mergePass}
-use Rattle.merges.specs.Merges.{Slot, out, slot}
+use Rattle.merges.specs.Merges.{Slot, out, slot, merged}
+use Rattle.merges.specs.Invariant.{MInv, Used}
+use Rattle.merges.proofs.MergePass.{Merged, merge-kept, minv-more}
 use Rattle.merges.proofs.Joins.{Mergeable, BarPoints, Merges, done, merge}
 use Rattle.lists.proofs.Every.{or-split, every-at, and-left}
 
@@ -32,9 +34,6 @@ unfolding Low
 high-none v l [] labels h k = refl
 high-none v l (q ∷ S) [] h k = refl
 high-none v l (q ∷ S) (x ∷ labels) (p, h) k = omega (arith, ap (λ b. cond b (corners (at v (λ p n. 1)) q) 0) (ne-eqb x l (λ e. omega arith)), high-none v l S labels h k)
-
-unfoldable pub Used : List Bool → ℕ → Type 0
-Used us v = getD us v true ≡ true
 
 mark-more : (us : List Bool) (f : ℕ → Bool) (i v : ℕ) → (Used us v) ⊎ (f (i + v) ≡ true) → Used (mark us f i) v
 unfolding Used
@@ -57,7 +56,7 @@ mark-more (b ∷ us) f i (suc v) h = mark-more us f (suc i) v (shift h)
     shift (inr h) = inr (ap f (omega arith) ∙ h)
 
 -- a corner of a quad at a or c is near
-near-of : (S : List Quad) (a c v j : ℕ) → j < length S → Has (getD S j noneQuad) a ⊎ Has (getD S j noneQuad) c → Has (getD S j noneQuad) v → near S a c v ≡ true
+pub near-of : (S : List Quad) (a c v j : ℕ) → j < length S → Has (getD S j noneQuad) a ⊎ Has (getD S j noneQuad) c → Has (getD S j noneQuad) v → near S a c v ≡ true
 near-of S a c v j l h hv = lt-ltb 0 (sum (λ q. cond (hasCorner q a || hasCorner q c) (uses v q) 0) S) (omega (arith, sum-at (λ q. cond (hasCorner q a || hasCorner q c) (uses v q) 0) S j noneQuad l, ap (λ b. cond b (uses v (getD S j noneQuad)) 0) (at-either h), hv))
   where
     at-either : Has (getD S j noneQuad) a ⊎ Has (getD S j noneQuad) c → (hasCorner (getD S j noneQuad) a || hasCorner (getD S j noneQuad) c) ≡ true
@@ -104,9 +103,9 @@ module _ (n : ℕ) (S0 : List Quad) (labels : List ℕ) (fits : MergeFits) (posi
   unfolding Used
   mergeable st f a b c d face from e t ua ub uc ud y = go (and8 _ _ _ _ _ _ _ _ y)
     where
-      go : (masksJoin n S0 labels fits position a c ≡ true) × (leb 4 (valence S0 b) ≡ true) × (leb 4 (valence S0 d) ≡ true) × (shareOnly n S0 labels fits position a b c d ≡ true)
-          × (noFurther n S0 labels fits position f a c ≡ true) × (nearFree n S0 labels fits position (st .used) a c ≡ true)
-          × (leb (sumAfter n S0 labels fits position a b c d) (sumBefore n S0 labels fits position a b c d) ≡ true) × (fits (st .points) (st .slots) f a c ≡ true)
+      go : (masksJoin n S0 labels a c ≡ true) × (leb 4 (valence S0 b) ≡ true) × (leb 4 (valence S0 d) ≡ true) × (shareOnly n S0 labels a b c d ≡ true)
+          × (noFurther n S0 labels f a c ≡ true) × (nearFree n S0 labels (st .used) a c ≡ true)
+          × (leb (sumAfter n S0 labels a b c d) (sumBefore n S0 labels a b c d) ≡ true) × (fits (st .points) (st .slots) f a c ≡ true)
           → Mergeable S0 labels (st .slots) (λ v. getD (st .used) v true ≡ true) f a b c d
       go (mj, fb, fd, sh, nm, un, ga, fi) = record {
         face = face;
@@ -165,15 +164,18 @@ module _ (n : ℕ) (S0 : List Quad) (labels : List ℕ) (fits : MergeFits) (posi
                   (either (touches S0 labels a (2 * j)) (touches S0 labels c (2 * j)) h) (either (touches S0 labels a (2 * j + 1)) (touches S0 labels c (2 * j + 1)) k))
 
   -- a step of a pass, as Merges has it
-  record MStep (st t : MergeState) : Type 1 where
-    counted : t .count ≡ suc (st .count)
-    before-it : (S′ : List Slot) (c : ℕ) → Merges S0 labels (t .slots) (Used (t .used)) S′ c → Merges S0 labels (st .slots) (Used (st .used)) S′ (suc c)
+  pub record MStep (st t : MergeState) : Type 1 where
+    pub counted : t .count ≡ suc (st .count)
+    pub keeps : ((j : ℕ) → j < length S0 → Differ (getD S0 j noneQuad)) → MInv S0 (st .slots) (Used (st .used)) → MInv S0 (t .slots) (Used (t .used))
+    pub before-it : (S′ : List Slot) (c : ℕ) → Merges S0 labels (t .slots) (Used (t .used)) S′ c → Merges S0 labels (st .slots) (Used (st .used)) S′ (suc c)
 
   take-merge : (st : MergeState) (f a b c d : ℕ) (face : Quad) (from : ℕ) → getD (st .slots) f out ≡ slot face → turn from face ≡ quad a b c d
       → not (getD (st .used) a true) ≡ true → not (getD (st .used) b true) ≡ true → not (getD (st .used) c true) ≡ true → not (getD (st .used) d true) ≡ true
       → mayMerge n S0 labels fits position st f a b c d ≡ true → MStep st (mergedState n S0 labels fits position st f a c)
   take-merge st f a b c d face from e t ua ub uc ud y = record {
     counted = refl;
+    keeps = λ fine i. minv-more S0 (merged (st .slots) f a c) (BarPoints S0 (Used (st .used)) a c) (Used (mark (st .used) (near S0 a c) 0)) more
+        (merge-kept labels S0 (st .slots) (Used (st .used)) i fine f a b c d (mergeable st f a b c d face from e t ua ub uc ud y) .inv);
     before-it = λ S′ x rest. merge f a b c d (mergeable st f a b c d face from e t ua ub uc ud y) more rest;
   }
     where
@@ -181,7 +183,7 @@ module _ (n : ℕ) (S0 : List Quad) (labels : List ℕ) (fits : MergeFits) (posi
       more v (inl h) = mark-more (st .used) (near S0 a c) 0 v (inl h)
       more v (inr (j, l, h, hv)) = mark-more (st .used) (near S0 a c) 0 v (inr (ap (near S0 a c) (omega arith) ∙ near-of S0 a c v j l h hv))
 
-  face-step : (st t : MergeState) (f : ℕ) (s : Slot) → getD (st .slots) f out ≡ s → tryFace n S0 labels fits position st f s ≡ some t → MStep st t
+  pub face-step : (st t : MergeState) (f : ℕ) (s : Slot) → getD (st .slots) f out ≡ s → tryFace n S0 labels fits position st f s ≡ some t → MStep st t
   face-step st t f out q e = absurd (none-some e)
   face-step st t f (slot (quad q0 q1 q2 q3)) q e = tested (cond-some _ _ e)
     where
@@ -198,11 +200,11 @@ module _ (n : ℕ) (S0 : List Quad) (labels : List ℕ) (fits : MergeFits) (posi
       x2 = mergedState n S0 labels fits position st f q1 q3
 
       tested : ((not (getD (st .used) q0 true) && not (getD (st .used) q1 true) && not (getD (st .used) q2 true) && not (getD (st .used) q3 true)) ≡ true)
-          × (choose b1 b2 (ltb (sumBefore n S0 labels fits position q0 q1 q2 q3 - sumAfter n S0 labels fits position q0 q1 q2 q3) (sumBefore n S0 labels fits position q1 q2 q3 q0 - sumAfter n S0 labels fits position q1 q2 q3 q0)) x1 x2 ≡ some t) → MStep st t
+          × (choose b1 b2 (ltb (sumBefore n S0 labels q0 q1 q2 q3 - sumAfter n S0 labels q0 q1 q2 q3) (sumBefore n S0 labels q1 q2 q3 q0 - sumAfter n S0 labels q1 q2 q3 q0)) x1 x2 ≡ some t) → MStep st t
       tested (a, c) = free (and4 _ _ _ _ a)
         where
           free : (not (getD (st .used) q0 true) ≡ true) × (not (getD (st .used) q1 true) ≡ true) × (not (getD (st .used) q2 true) ≡ true) × (not (getD (st .used) q3 true) ≡ true) → MStep st t
-          free (u0, u1, u2, u3) = chosen (choose-some b1 b2 (ltb (sumBefore n S0 labels fits position q0 q1 q2 q3 - sumAfter n S0 labels fits position q0 q1 q2 q3) (sumBefore n S0 labels fits position q1 q2 q3 q0 - sumAfter n S0 labels fits position q1 q2 q3 q0)) x1 x2 t c)
+          free (u0, u1, u2, u3) = chosen (choose-some b1 b2 (ltb (sumBefore n S0 labels q0 q1 q2 q3 - sumAfter n S0 labels q0 q1 q2 q3) (sumBefore n S0 labels q1 q2 q3 q0 - sumAfter n S0 labels q1 q2 q3 q0)) x1 x2 t c)
             where
               chosen : ((b1 ≡ true) × (x1 ≡ t)) ⊎ ((b2 ≡ true) × (x2 ≡ t)) → MStep st t
               chosen (inl (y, p)) = subst (λ u. MStep st u) p (take-merge st f q0 q1 q2 q3 (quad q0 q1 q2 q3) 0 q refl u0 u1 u2 u3 y)

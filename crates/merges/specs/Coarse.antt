@@ -42,8 +42,8 @@ MergeFits = List Point → List Slot → ℕ → ℕ → ℕ → Bool
 abbrev pub Position : Type 0
 Position = List Point → ℕ → ℕ → Point
 
--- A pass over the n points and the quads S0.
-module _ (n : ℕ) (S0 : List Quad) (labels : List ℕ) (fits : MergeFits) (position : Position) where
+-- What the rule asks of the n points and the quads S0 at a pass's start.
+module _ (n : ℕ) (S0 : List Quad) (labels : List ℕ) where
   -- "The joined mask has no opposite pair and equals one of the two."
   abbrev pub masksJoin : ℕ → ℕ → Bool
   masksJoin a c =
@@ -70,11 +70,13 @@ module _ (n : ℕ) (S0 : List Quad) (labels : List ℕ) (fits : MergeFits) (posi
   abbrev pub nearFree : List Bool → ℕ → ℕ → Bool
   nearFree used a c = every (λ v. not (near S0 a c v && getD used v true)) n
 
+-- A pass over them.
+module _ (n : ℕ) (S0 : List Quad) (labels : List ℕ) (fits : MergeFits) (position : Position) where
   -- May the corners a and c of quad f = (a, b, c, d) be merged? "Both other corners need at least 4 quads each"; "a gain of 0 is enough".
   abbrev pub mayMerge : MergeState → ℕ → ℕ → ℕ → ℕ → ℕ → Bool
   mayMerge st f a b c d =
-      masksJoin a c && leb 4 (valence S0 b) && leb 4 (valence S0 d) && shareOnly a b c d && noFurther f a c && nearFree (st .used) a c
-      && leb (sumAfter a b c d) (sumBefore a b c d) && fits (st .points) (st .slots) f a c
+      masksJoin n S0 labels a c && leb 4 (valence S0 b) && leb 4 (valence S0 d) && shareOnly n S0 labels a b c d && noFurther n S0 labels f a c && nearFree n S0 labels (st .used) a c
+      && leb (sumAfter n S0 labels a b c d) (sumBefore n S0 labels a b c d) && fits (st .points) (st .slots) f a c
 
   -- the state after the merge of the corners a and c of quad f
   abbrev pub mergedState : MergeState → ℕ → ℕ → ℕ → MergeState
@@ -90,7 +92,7 @@ module _ (n : ℕ) (S0 : List Quad) (labels : List ℕ) (fits : MergeFits) (posi
   tryFace st f out = none
   tryFace st f (slot (quad q0 q1 q2 q3)) =
       cond (not (getD (st .used) q0 true) && not (getD (st .used) q1 true) && not (getD (st .used) q2 true) && not (getD (st .used) q3 true))
-      (choose (mayMerge st f q0 q1 q2 q3) (mayMerge st f q1 q2 q3 q0) (ltb (sumBefore q0 q1 q2 q3 - sumAfter q0 q1 q2 q3) (sumBefore q1 q2 q3 q0 - sumAfter q1 q2 q3 q0))
+      (choose (mayMerge st f q0 q1 q2 q3) (mayMerge st f q1 q2 q3 q0) (ltb (sumBefore n S0 labels q0 q1 q2 q3 - sumAfter n S0 labels q0 q1 q2 q3) (sumBefore n S0 labels q1 q2 q3 q0 - sumAfter n S0 labels q1 q2 q3 q0))
       (mergedState st f q0 q2) (mergedState st f q1 q3))
       none
 

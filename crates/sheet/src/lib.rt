@@ -225,7 +225,7 @@ fn mark_corners(quads: &[u32], labels: &[u8], q: usize, masks: &mut [u32])
 }
 
 // The masks of all points, in a slice of zeros.
-fn mark_quads(nq: usize, quads: &[u32], labels: &[u8], masks: &mut [u32])
+pub fn mark_quads(nq: usize, quads: &[u32], labels: &[u8], masks: &mut [u32])
     requires { ⌜ Holds nq (now quads) (now labels) ⌝ }
     requires { ⌜ every (goodQuadAt (length (now masks)) (now quads) (now labels)) nq ≡ true ⌝ }
     requires { ⌜ now masks ≡ replicate (length (now masks)) 0 ⌝ }

@@ -1,0 +1,301 @@
+// The search for the merge in a quad: its two diagonals are tried, and the one that gains more is taken.
+
+use band::Band;
+use field::Field;
+use fits::Merge;
+use points::Point;
+use projection::Projected;
+ghost use mathlib.Core.Path.{_≡_};
+ghost use Prim.Native.Nat.{ℕ, _+_, _*_, _<_, _≤_, max};
+ghost use lib.ListN.{length};
+ghost use Rattle.merging.specs.Layout.{Grounds};
+ghost use Rattle.candidates.specs.Choices.{diagonalOf, betterOf, landingOf, stayAround, weighedOf, foundTo, Tried, Searching, Holding, triedIn, Takeable, Taken, Passing, VisitedFace, VisitedAll};
+ghost use Rattle.merging.specs.Layout.{allowedIn};
+ghost use mathlib.Core.Bool.{true};
+ghost use Rattle.band.specs.Bands.{lengthOf};
+ghost use Rattle.incidence.specs.Corners.{Cornered};
+
+// A diagonal of a quad: the corners a and c that a merge makes one, and the other two.
+pub struct Diagonal {
+    pub face: usize,
+    pub a: usize,
+    pub b: usize,
+    pub c: usize,
+    pub d: usize,
+}
+
+// A merge that the rule allows: what it gains, the corners that become one, and where.
+pub struct Candidate {
+    pub gain: usize,
+    pub a: usize,
+    pub c: usize,
+    pub to: Point,
+}
+
+// What a search finds.
+pub enum Choice {
+    None,
+    Take(Candidate),
+}
+
+// Diagonal k of quad f.
+fn diagonal_at(quads: &[u32], f: usize, k: usize) -> Diagonal
+    requires { ⌜ 4 * f + 3 < length (now quads) ⌝ }
+    requires { ⌜ k < 2 ⌝ }
+    ensures { λ r. ⌜ r ≡ diagonalOf (now (quads .entry)) f k ⌝ }
+{
+    let a = sheet::corner_at(quads, f, k);
+    let b = sheet::corner_at(quads, f, k + 1);
+    let c = sheet::corner_at(quads, f, k + 2);
+    let d = sheet::corner_at(quads, f, (k + 3) % 4);
+    Diagonal {
+        face: f,
+        a,
+        b,
+        c,
+        d,
+    }
+}
+
+// The greater of two masks.
+fn joined(a: usize, c: usize) -> u8
+    requires { ⌜ a < 256 ⌝ }
+    requires { ⌜ c < 256 ⌝ }
+    ensures { λ r. ⌜ r ≡ max a c ⌝ }
+{
+    if a <= c {
+        return c as u8;
+    }
+    a as u8
+}
+
+// Where the merge of a diagonal lands; refused where the rule does not allow it.
+fn landing(
+    np: usize,
+    nq: usize,
+    g: Diagonal,
+    b: Band,
+    len: f64,
+    points: &[f64],
+    w: &[u32],
+) -> Projected
+    requires { ⌜ Grounds np nq (now w) ⌝ }
+    requires { ⌜ Tried np nq g (now w) ⌝ }
+    requires { ⌜ 3 * np ≤ length (now points) ⌝ }
+    ensures { λ r. ⌜ r ≡ landingOf np nq g b len (now (points .entry)) (now (w .entry)) ⌝ }
+{
+    if merging::allowed(np, nq, g.face, g.a, g.b, g.c, g.d, w) {
+        let mask = joined(lists::at(w, g.a), lists::at(w, g.c));
+        return fits::new_position(np, b, len, points, g.a, g.c, mask);
+    }
+    Projected::Refused
+}
+
+// Of what was found and a new candidate the one that gains more, the first on a tie.
+fn better(best: Choice, next: Candidate) -> Choice
+    ensures { λ r. ⌜ r ≡ betterOf best next ⌝ }
+{
+    match best {
+        Choice::None => Choice::Take(next),
+        Choice::Take(old) => {
+            if old.gain < next.gain {
+                return Choice::Take(next);
+            }
+            Choice::Take(old)
+        }
+    }
+}
+
+// The other quads at the point v stay, if the merge of a diagonal lands at p.
+fn stay_around(
+    np: usize,
+    nq: usize,
+    g: Diagonal,
+    f: Field,
+    len: f64,
+    p: Point,
+    points: &[f64],
+    labels: &[u8],
+    w: &[u32],
+    v: usize,
+) -> bool
+    requires { ⌜ Grounds np nq (now w) ⌝ }
+    requires { ⌜ 3 * np ≤ length (now points) ⌝ }
+    requires { ⌜ nq ≤ length (now labels) ⌝ }
+    requires { ⌜ v < np ⌝ }
+    ensures { λ r. ⌜ r ≡ stayAround np nq g f len p (now (points .entry)) (now (labels .entry)) (now (w .entry)) v ⌝ }
+{
+    let n = np + nq;
+    let m = Merge {
+        face: g.face,
+        a: g.a,
+        c: g.c,
+        to: p,
+    };
+    fits::quads_stay(
+        np,
+        nq,
+        f,
+        len,
+        points,
+        labels,
+        merging::WAS * n,
+        merging::STARTS * n,
+        merging::ORDER * n,
+        v,
+        m,
+        w,
+    )
+}
+
+// The better of what was found and a diagonal whose merge lands at p, if no other quad's shape falls too far.
+fn weighed(
+    np: usize,
+    nq: usize,
+    g: Diagonal,
+    f: Field,
+    len: f64,
+    p: Point,
+    points: &[f64],
+    labels: &[u8],
+    w: &[u32],
+    best: Choice,
+) -> Choice
+    requires { ⌜ Grounds np nq (now w) ⌝ }
+    requires { ⌜ Tried np nq g (now w) ⌝ }
+    requires { ⌜ 3 * np ≤ length (now points) ⌝ }
+    requires { ⌜ nq ≤ length (now labels) ⌝ }
+    requires { ⌜ allowedIn np nq (g .face) (g .a) (g .b) (g .c) (g .d) (now w) ≡ true ⌝ }
+    ensures { λ r. ⌜ r ≡ weighedOf np nq g f len p (now (points .entry)) (now (labels .entry)) (now (w .entry)) best ⌝ }
+{
+    if stay_around(np, nq, g, f, len, p, points, labels, w, g.a) {
+        if stay_around(np, nq, g, f, len, p, points, labels, w, g.c) {
+            let s = merging::sums_of(np, nq, g.a, g.b, g.c, g.d, w);
+            return better(
+                best,
+                Candidate {
+                    gain: s.before - s.after,
+                    a: g.a,
+                    c: g.c,
+                    to: p,
+                },
+            );
+        }
+    }
+    best
+}
+
+// The merge that the rule takes in quad f.
+pub fn search(
+    np: usize,
+    nq: usize,
+    f: usize,
+    b: Band,
+    len: f64,
+    points: &[f64],
+    quads: &[u32],
+    labels: &[u8],
+    w: &[u32],
+) -> Choice
+    requires { ⌜ Grounds np nq (now w) ⌝ }
+    requires { ⌜ Searching np nq f (now quads) (now w) ⌝ }
+    requires { ⌜ Holding np nq (length (now points)) (length (now quads)) (length (now labels)) ⌝ }
+    ensures { λ r. ⌜ r ≡ foundTo np nq b len (now (points .entry)) (now (quads .entry)) (now (labels .entry)) (now (w .entry)) f 2 ⌝ }
+{
+    let field = b.field;
+    let mut best = Choice::None;
+    let mut k = 0;
+    while k < 2 {
+        let g = diagonal_at(quads, f, k);
+        k += 1;
+        let Projected::Onto(p) = landing(np, nq, g, b, len, points, w) else {
+            continue;
+        };
+        best = weighed(np, nq, g, field, len, p, points, labels, w, best);
+    }
+    best
+}
+
+// Quad f is still here, and none of its corners is barred.
+fn is_tried(np: usize, nq: usize, f: usize, quads: &[u32], w: &[u32]) -> bool
+    requires { ⌜ Grounds np nq (now w) ⌝ }
+    requires { ⌜ Cornered np nq (now quads) ⌝ }
+    requires { ⌜ f < nq ⌝ }
+    ensures { λ r. ⌜ r ≡ triedIn np nq f (now (quads .entry)) (now (w .entry)) ⌝ }
+{
+    let n = np + nq;
+    let used = merging::USED * n;
+    let here = lists::at(w, merging::REMOVED * n + f) == 0;
+    here & merging::quad_free(np, nq, quads, &w[used..used + np], f)
+}
+
+// Makes the merge that was chosen in quad f, if one was; answers how many merges that is.
+fn take(
+    np: usize,
+    nq: usize,
+    f: usize,
+    choice: Choice,
+    points: &mut [f64],
+    quads: &mut [u32],
+    w: &mut [u32],
+) -> usize
+    requires { ⌜ Grounds np nq (now w) ⌝ }
+    requires { ⌜ Takeable np nq f choice (length (now points)) (length (now quads)) ⌝ }
+    ensures { λ r. ⌜ Taken np nq f choice r (now (points .entry)) (now (quads .entry)) (now (w .entry)) (now (points .exit)) (now (quads .exit)) (now (w .exit)) ⌝ }
+{
+    match choice {
+        Choice::None => 0,
+        Choice::Take(m) => {
+            merging::merge(np, nq, f, m.a, m.c, m.to, points, quads, w);
+            1
+        }
+    }
+}
+
+// Visits quad f: makes the merge that the rule takes there, if any; answers how many merges that is.
+pub fn visit(
+    np: usize,
+    nq: usize,
+    f: usize,
+    b: Band,
+    len: f64,
+    points: &mut [f64],
+    quads: &mut [u32],
+    labels: &[u8],
+    w: &mut [u32],
+) -> usize
+    requires { ⌜ Passing np nq (now labels) (length (now points)) (now quads) (now w) ⌝ }
+    requires { ⌜ f < nq ⌝ }
+    requires { ⌜ len ≡ lengthOf b ⌝ }
+    ensures { λ r. ⌜ VisitedFace b np nq (now (labels .entry)) f r (now (points .entry)) (now (quads .entry)) (now (w .entry)) (now (points .exit)) (now (quads .exit)) (now (w .exit)) ⌝ }
+{
+    if is_tried(np, nq, f, quads, w) {
+        let choice = search(np, nq, f, b, len, points, quads, labels, w);
+        return take(np, nq, f, choice, points, quads, w);
+    }
+    0
+}
+
+// Visits the quads in order; answers how many merges were made.
+pub fn visit_all(
+    np: usize,
+    nq: usize,
+    b: Band,
+    len: f64,
+    points: &mut [f64],
+    quads: &mut [u32],
+    labels: &[u8],
+    w: &mut [u32],
+) -> usize
+    requires { ⌜ Passing np nq (now labels) (length (now points)) (now quads) (now w) ⌝ }
+    requires { ⌜ len ≡ lengthOf b ⌝ }
+    ensures { λ r. ⌜ VisitedAll b np nq (now (labels .entry)) r (now (points .entry)) (now (quads .entry)) (now (w .entry)) (now (points .exit)) (now (quads .exit)) (now (w .exit)) ⌝ }
+{
+    let mut count = 0;
+    let mut f = 0;
+    while f < nq {
+        count += visit(np, nq, f, b, len, points, quads, labels, w);
+        f += 1;
+    }
+    count
+}

@@ -1,0 +1,8 @@
+-- `Gains` has the squares of a gain, `Corners` the tests over the corners of a list, `Around` that these are the rule's, `Masks` the test of two masks, `Grounds` the regions of a pass's start.
+pub mod Gains
+pub mod Corners
+pub mod Around
+pub mod Masks
+pub mod Grounds
+pub mod Marks
+pub mod States

@@ -1,0 +1,12 @@
+-- `merging::part_of` meets its contract. Assumes nothing.
+use borrow.Author.Needs.{needs}
+use Rattle.merging.specs.Tests.{partOf}
+use Rattle.merging.proofs.part_of.Statement.{statement}
+use Rattle.merging.proofs.part_of.Tie as tie
+
+returns : tie.Need-returns
+unfolding partOf
+returns c = search needs
+
+pub part-of-spec : {M : Type 1} → statement M
+part-of-spec = tie.close (tie.spec returns)

@@ -1,0 +1,4 @@
+pub mod Tests
+pub mod State
+pub mod Layout
+pub mod Marks

@@ -1,0 +1,2 @@
+-- `Starts` has the regions that a pass starts with.
+pub mod Starts

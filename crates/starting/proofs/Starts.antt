@@ -1,0 +1,130 @@
+-- The maps of a sheet, one region after the other. Assumes nothing.
+use mathlib.Core.Path.{_≡_, refl, sym, ap, _∙_}
+use Prim.Native.Nat.{ℕ, _+_, _-_, _*_, _≤_, _<_}
+use mathlib.Core.Bool.{true}
+use mathlib.Core.List.{List}
+use native.Mathlib.Omega.{arith}
+use lib.ListN.{length, take, replicate}
+use borrow.Rule.Slice.PartMut.{midOf, putMid}
+use Rattle.lists.specs.Every.{every}
+use Rattle.lists.specs.Sort.{tabulate}
+use Rattle.lists.specs.Regions.{Part, Out, Out3, Apart, Kept, Three}
+use Rattle.lists.proofs.Regions.{Lent, lent, lent-all, length-lent, part-kept, part-as, kept-then}
+use Rattle.lists.proofs.Laws.{length-tab}
+use Rattle.sheet.specs.Quads.{valence, maskOf}
+use Rattle.sheet.specs.Flat.{quadsOf, maskIn}
+use Rattle.sheet.specs.Tests.{goodQuadAt}
+use Rattle.sheet.specs.Sheet.{masksOf}
+use Rattle.incidence.specs.Corners.{Cornered, edgeOrder, cornersAt, firstAt}
+use Rattle.lookup.specs.Maps.{firstEdge}
+use Rattle.lookup.proofs.Maps.{mapped, standing, quads-take}
+use Rattle.merging.specs.Layout.{wasAt, edgeStartsAt, edgesAt, startsAt, orderAt, valencesAt, usedAt, removedAt, flatStart, startOf, Steady, Grounds}
+use Rattle.merging.proofs.Grounds.{grounds-kept}
+use Rattle.starting.specs.Starts.{Mappable, Mapped, InFront, Startable, Started}
+
+-- where the sorts work
+abbrev pub firstAtOf : ℕ → ℕ → ℕ
+firstAtOf np nq = 5 * (np + nq)
+
+-- the regions that the sorts ask for, in any slice as long
+pub edge-room : {np nq : ℕ} {Q u : List ℕ} (w : List ℕ) → Mappable np nq Q u → length w ≡ length u → Three (firstAtOf np nq) (4 * nq) (edgeStartsAt np nq) (np + 1) (edgesAt np nq) (4 * nq) w
+edge-room {np} {nq} {Q} {u} w M e =
+    let r = M .room in let s = M .some in
+    record { in-a = omega arith; in-b = omega arith; in-c = omega arith; ab = λ i a b c d. omega arith; ac = λ i a b c d. omega arith; bc = λ i a b c d. omega arith }
+
+pub point-room : {np nq : ℕ} {Q u : List ℕ} (w : List ℕ) → Mappable np nq Q u → length w ≡ length u → Three (firstAtOf np nq) (4 * nq) (startsAt np nq) (np + 1) (orderAt np nq) (4 * nq) w
+point-room {np} {nq} {Q} {u} w M e =
+    let r = M .room in let s = M .some in
+    record { in-a = omega arith; in-b = omega arith; in-c = omega arith; ab = λ i a b c d. omega arith; ac = λ i a b c d. omega arith; bc = λ i a b c d. omega arith }
+
+pub valence-room : {np nq m : ℕ} {Q u : List ℕ} → Mappable np nq Q u → m ≡ length u → (valencesAt np nq + np ≤ m) × Apart (startsAt np nq) (np + 1) (valencesAt np nq) np
+valence-room {np} {nq} {m} {Q} {u} M e = let r = M .room in let s = M .some in (omega arith, λ i a b c d. omega arith)
+
+-- what the four calls leave, one after the other
+pub mapped-all : {np nq : ℕ} {u v x y w : List ℕ} (Q : List ℕ) → Mappable np nq Q u
+    → Part (wasAt np nq) (4 * nq) (take (4 * nq) Q) v → Kept (Out (wasAt np nq) (4 * nq)) u v
+    → Part (edgesAt np nq) (4 * nq) (edgeOrder np nq Q) x → Part (edgeStartsAt np nq) (np + 1) (tabulate (firstEdge np nq Q) (np + 1)) x
+    → Kept (Out3 (firstAtOf np nq) (4 * nq) (edgeStartsAt np nq) (np + 1) (edgesAt np nq) (4 * nq)) v x
+    → Part (startsAt np nq) (np + 1) (tabulate (firstAt nq Q) (np + 1)) y → Part (orderAt np nq) (4 * nq) (cornersAt np nq Q) y
+    → Kept (Out3 (firstAtOf np nq) (4 * nq) (startsAt np nq) (np + 1) (orderAt np nq) (4 * nq)) x y
+    → Part (valencesAt np nq) np (tabulate (valence (quadsOf nq Q)) np) w → Kept (Out (valencesAt np nq) np) y w
+    → Mapped np nq Q u w
+mapped-all {np} {nq} {u} {v} {x} {y} {w} Q M P K E ES K2 S O K3 N K4 =
+    let r = M .room in
+    let s = M .some in
+    let l = K .len in let l2 = K2 .len in let l3 = K3 .len in let l4 = K4 .len in
+    let W : Part (wasAt np nq) (4 * nq) (take (4 * nq) Q) w = part-kept (part-kept (part-kept P K2 (λ i p q. ((λ a b. omega arith), ((λ a b. omega arith), (λ a b. omega arith))))) K3 (λ i p q. ((λ a b. omega arith), ((λ a b. omega arith), (λ a b. omega arith))))) K4 (λ i p q. λ a b. omega arith) in
+    let same : startOf np nq w ≡ quadsOf nq Q = ap (quadsOf nq) (W .is) ∙ quads-take nq Q in
+    record {
+      grounds = record {
+        few = M .few;
+        some = s;
+        room = omega arith;
+        standing = standing (M .sheet) W (part-kept O K4 (λ i p q. λ a b. omega arith)) (part-kept S K4 (λ i p q. λ a b. omega arith));
+        mapped = mapped (M .sheet) W (part-kept (part-kept E K3 (λ i p q. ((λ a b. omega arith), ((λ a b. omega arith), (λ a b. omega arith))))) K4 (λ i p q. λ a b. omega arith)) (part-kept (part-kept ES K3 (λ i p q. ((λ a b. omega arith), ((λ a b. omega arith), (λ a b. omega arith))))) K4 (λ i p q. λ a b. omega arith));
+        valences = rw same N;
+      };
+      quads = W;
+      kept = kept-then (kept-then (kept-then K K2 (λ i (h : i < wasAt np nq). ((λ a b. omega arith), ((λ a b. omega arith), ((λ a b. omega arith), (λ a b. omega arith)))))) K3 (λ i (h : i < wasAt np nq). (h, ((λ a b. omega arith), ((λ a b. omega arith), (λ a b. omega arith)))))) K4
+          (λ i h. (h, (λ a b. omega arith)));
+    }
+
+-- ---- masks
+
+pub masks-ready : (Q labels : List ℕ) (nq : ℕ) (u v : List ℕ) → length v ≡ length u → v ≡ replicate (length u) 0 → every (goodQuadAt (length u) Q labels) nq ≡ true
+    → (every (goodQuadAt (length v) Q labels) nq ≡ true) × (v ≡ replicate (length v) 0)
+masks-ready Q labels nq u v l e h = rw l (h, e)
+
+pub masks-are : (Q labels : List ℕ) (nq : ℕ) (u v w : List ℕ) → length v ≡ length u → w ≡ tabulate (maskIn Q labels nq) (length v) → w ≡ masksOf (length u) (quadsOf nq Q) (take nq labels)
+unfolding masksOf
+masks-are Q labels nq u v w l h = rw l at h
+
+pub masks-lent : (np nq : ℕ) (Q labels w y : List ℕ) → np ≤ length w → y ≡ masksOf (length (midOf 0 (0 + np - 0) w)) (quadsOf nq Q) (take nq labels)
+    → Part 0 np (masksOf np (quadsOf nq Q) (take nq labels)) (putMid 0 (0 + np - 0) w y) × Kept (Out 0 np) w (putMid 0 (0 + np - 0) w y)
+unfolding masksOf
+masks-lent np nq Q labels w y h e =
+    let n : length (midOf 0 (0 + np - 0) w) ≡ np = length-lent 0 np w (omega arith) in
+    let d : y ≡ tabulate (maskOf (quadsOf nq Q) (take nq labels)) np = rw n at e in
+    let l : length y ≡ np = ap length d ∙ length-tab (maskOf (quadsOf nq Q) (take nq labels)) np in
+    let L = lent 0 np w y (omega arith) l in
+    (part-as (L .part) d, L .kept)
+
+-- ---- the whole start: u, v, x, y, w are the slice as it came, with masks, with maps, without barred points, without quads that are out
+
+pub mappable-kept : {np nq : ℕ} {Q u v : List ℕ} → Mappable np nq Q u → length v ≡ length u → Mappable np nq Q v
+mappable-kept {np} {nq} {Q} {u} {v} M e = record { sheet = M .sheet; few = M .few; some = M .some; room = omega (arith, M .room) }
+
+pub started : {np nq : ℕ} {u v x y w : List ℕ} (Q labels : List ℕ) → Startable np nq Q labels u → Part 0 np (masksOf np (quadsOf nq Q) (take nq labels)) v → Kept (Out 0 np) u v → Mapped np nq Q v x
+    → Part (usedAt np nq) np (replicate np 0) y → Kept (Out (usedAt np nq) np) x y → Part (removedAt np nq) nq (replicate nq 0) w → Kept (Out (removedAt np nq) nq) y w → Started np nq Q labels w
+started {np} {nq} {u} {v} {x} {y} {w} Q labels S P K M U K2 R K3 =
+    let r = M .grounds .room in
+    let L : Kept (Steady np nq) x w = kept-then K2 K3 (λ i o. (o .0, o .1)) in
+    let G = grounds-kept (M .grounds) L in
+    let W : Part (wasAt np nq) (4 * nq) (take (4 * nq) Q) w = part-kept (M .quads) L (λ i p q. ((λ a b. omega arith), (λ a b. omega arith))) in
+    let same : startOf np nq w ≡ quadsOf nq Q = ap (quadsOf nq) (W .is) ∙ quads-take nq Q in
+    let N : Part 0 np (masksOf np (quadsOf nq Q) (take nq labels)) w = part-kept (part-kept P (M .kept) (λ i p q. omega arith)) L (λ i p q. ((λ a b. omega arith), (λ a b. omega arith))) in
+    record {
+      grounds = G;
+      quads = W;
+      masked = rw same N;
+      used = part-kept U K3 (λ i p q. λ a b. omega arith) .is;
+      removed = R .is;
+    }
+
+-- the same as the two clears leave it
+pub used-cleared : {np nq : ℕ} {Q v x : List ℕ} (y : List ℕ) → Mapped np nq Q v x → y ≡ replicate (length (midOf (usedAt np nq) (usedAt np nq + np - usedAt np nq) x)) 0
+    → Lent (usedAt np nq) np x (replicate np 0) (putMid (usedAt np nq) (usedAt np nq + np - usedAt np nq) x y)
+used-cleared {np} {nq} {Q} {v} {x} y M e = lent-all 0 (usedAt np nq) np x y (omega (arith, M .grounds .room)) e
+
+pub removed-room : {np nq : ℕ} {Q v x : List ℕ} (y : List ℕ) → Mapped np nq Q v x → y ≡ replicate (length (midOf (usedAt np nq) (usedAt np nq + np - usedAt np nq) x)) 0
+    → removedAt np nq + nq ≤ length (putMid (usedAt np nq) (usedAt np nq + np - usedAt np nq) x y)
+removed-room {np} {nq} {Q} {v} {x} y M e = omega (arith, M .grounds .room, used-cleared y M e .kept .len)
+
+pub start-cleared : {np nq : ℕ} {u v x : List ℕ} (Q labels y z : List ℕ) → Startable np nq Q labels u → Part 0 np (masksOf np (quadsOf nq Q) (take nq labels)) v → Kept (Out 0 np) u v → Mapped np nq Q v x
+    → y ≡ replicate (length (midOf (usedAt np nq) (usedAt np nq + np - usedAt np nq) x)) 0
+    → z ≡ replicate (length (midOf (removedAt np nq) (removedAt np nq + nq - removedAt np nq) (putMid (usedAt np nq) (usedAt np nq + np - usedAt np nq) x y))) 0
+    → Started np nq Q labels (putMid (removedAt np nq) (removedAt np nq + nq - removedAt np nq) (putMid (usedAt np nq) (usedAt np nq + np - usedAt np nq) x y) z)
+start-cleared {np} {nq} {u} {v} {x} Q labels y z S P K M e f =
+    let L = used-cleared y M e in
+    let N = lent-all 0 (removedAt np nq) nq (putMid (usedAt np nq) (usedAt np nq + np - usedAt np nq) x y) z (removed-room y M e) f in
+    started Q labels S P K M (L .part) (L .kept) (N .part) (N .kept)
