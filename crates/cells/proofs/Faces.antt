@@ -2,14 +2,14 @@
 -- A face has four corners and a centre: all signs are tried by computing. Assumes nothing.
 use Prim.Native.Nat.{ℕ, zero, suc, _+_, _/_, _<_, _≤_}
 use mathlib.Core.Path.{_≡_, refl, sym, ap, _∙_}
-use mathlib.Core.Bool.{Bool, true, false, cond, _&&_, Bool·beq, false≢true}
+use mathlib.Core.Bool.{Bool, true, false, cond, _&&_, false≢true}
 use mathlib.Core.Logic.{⊎-elim}
-use mathlib.Core.List.{List, [], _∷_, _++_, foldl}
+use mathlib.Core.List.{List, [], _∷_, foldl}
 use native.Mathlib.Omega.{arith}
 use native.Mathlib.Numerals.{add-one}
 use lib.Dec.{eqb, eqb→eq}
 use lib.ListN.{length, getD, List·getD-eq-default}
-use Rattle.lists.specs.Sort.{tabulate, itself, consIf}
+use Rattle.lists.specs.Sort.{tabulate, consIf}
 use Rattle.lists.proofs.Laws.{length-tab, getD-tab, lt-or-le}
 use Rattle.lists.proofs.Every.{and-left, and-right}
 use Rattle.cells.specs.Cells.{those, lowEnd, highEnd, crosses, edgesOn, crossingsOn, fourOn, Pair, pair, pairsIn, isEnd, sharedBy, parted, pairsOf, mergedAt, merged, groupsTo, groupsOf, joinedBy, mergedIf, joinedTo, pairAt}
