@@ -56,7 +56,7 @@ pub fn bit(n: u32, i: u32) -> bool
 // ---- edges
 
 // The corner at which an edge begins.
-fn low_end(e: usize) -> u32
+pub fn low_end(e: usize) -> u32
     requires { ⌜ e < 12 ⌝ }
     ensures { λ r. ⌜ r ≡ lowEnd e ⌝ }
     ensures { λ r. ⌜ r < 8 ⌝ }
@@ -119,7 +119,7 @@ fn kind_bit(case: u32, i: usize) -> bool
 }
 
 // A weight where a test holds.
-fn weighed(test: bool, weight: u32) -> u32
+pub fn weighed(test: bool, weight: u32) -> u32
     ensures { λ r. ⌜ r ≡ cond test weight 0 ⌝ }
 {
     if test { weight } else { 0 }

@@ -7,7 +7,6 @@ use native.Mathlib.Omega.{arith}
 use native.Mathlib.Numerals.{sub-one}
 use native.Mathlib.Nat.{pow-suc, mul-le-mul-left}
 use lib.Pow.{pow-pos}
-
 use Rattle.sampling.specs.declared.Grid.{Grid}
 use Rattle.sampling.specs.declared.Site.{Site}
 use Rattle.crossings.specs.declared.Span.{Span}

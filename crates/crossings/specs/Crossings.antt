@@ -4,7 +4,6 @@ use mathlib.Core.Bool.{Bool, cond, Bool·beq}
 use lib.Dec.{eqb}
 use Rattle.points.specs.declared.Point.{Point}
 use Rattle.points.specs.Points.{halfwayP}
-
 use Rattle.sampling.specs.declared.Grid.{Grid}
 use Rattle.sampling.specs.declared.Site.{Site}
 use Rattle.sampling.specs.Samples.{sampleOf, isInside}
