@@ -27,7 +27,7 @@ pub index-lt : (n : ℕ) (c : Site) → Within n c → indexOf n c < n * n * n
 unfolding indexOf
 index-lt n c W = rows (c .x * n + c .y) n (c .z) (n * n) (rows (c .x) n (c .y) n (W .x<) (W .y<)) (W .z<)
 
-some-side : (n t : ℕ) → t < n * n * n → 0 < n
+pub some-side : (n t : ℕ) → t < n * n * n → 0 < n
 some-side zero t h = absurd (omega arith)
 some-side (suc n) t h = omega arith
 
