@@ -25,7 +25,7 @@ use Rattle.lattice.specs.Lattice.{siteAt, Samples, caseOf, cellGroups}
 use Rattle.lattice.proofs.Places.{within-at, near}
 use Rattle.paths.proofs.Slots.{no-crossing}
 use Rattle.drawing.specs.Drawing.{isMember, membersOf, crossingAt, groupPoint, groupPoints, cellPoints, pointsIn, pointsTo}
-use Rattle.drawing.specs.Slots.{memberIn, hasIn, rankIn}
+use Rattle.drawing.specs.Slots.{memberIn, hasIn, rankIn, Known}
 
 -- ---- joined lists
 
@@ -35,7 +35,7 @@ length-join f n = rw (add-one n) (length-append (joinTo f n) (f n))
 
 -- ---- those that pass
 
-those-append : {A : Type 0} (p : A → Bool) (l m : List A) → those p (l ++ m) ≡ those p l ++ those p m
+pub those-append : {A : Type 0} (p : A → Bool) (l m : List A) → those p (l ++ m) ≡ those p l ++ those p m
 unfolding those
 those-append p [] m = refl
 those-append p (x ∷ l) m = by (p x) (those-append p l m)
@@ -89,11 +89,6 @@ pub group-count : (g : Grid) (c : Site) (k : ℕ) → length (joinTo (groupPoint
 unfolding joinTo countTo
 group-count g c zero = refl
 group-count g c (suc k) = length-append (joinTo (groupPoints g c) k) (groupPoints g c k) ∙ rw (group-count g c k, group-length g c k)
-
--- the kind and the groups of the cell at c
-pub record Known (g : Grid) (c : Site) (kind : ℕ) (G : List ℕ) : Type 0 where
-  pub kinds : kind ≡ kindOf (bitOf (caseOf g c))
-  pub groups : G ≡ cellGroups g c
 
 pub member-is : {g : Grid} {c : Site} {kind : ℕ} {G : List ℕ} (k e : ℕ) → Known g c kind G → e < 12 → memberIn kind G k e ≡ isMember g c k e
 unfolding isMember

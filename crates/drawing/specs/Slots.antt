@@ -1,11 +1,19 @@
--- The members of a cell's groups by its kind and its groups.
-use Prim.Native.Nat.{ℕ}
-use mathlib.Core.Bool.{Bool, _&&_}
+-- What the loops of extraction know of a cell: its kind, its groups and the paths in its slots.
+use Prim.Native.Nat.{ℕ, _+_, _*_, _≤_, _<_}
+use mathlib.Core.Path.{_≡_}
+use mathlib.Core.Bool.{Bool, true, cond, _&&_}
 use mathlib.Core.List.{List}
 use lib.Dec.{eqb}
-use lib.ListN.{getD}
+use lib.ListN.{length, getD}
 use Rattle.lists.specs.Every.{some, countTo}
-use Rattle.cells.specs.Cells.{bitOf}
+use Rattle.points.specs.declared.Point.{Point}
+use Rattle.points.specs.Points.{addP}
+use Rattle.sampling.specs.declared.Grid.{Grid}
+use Rattle.sampling.specs.declared.Site.{Site}
+use Rattle.cells.specs.Cells.{bitOf, kindOf}
+use Rattle.lattice.specs.Lattice.{caseOf, cellGroups}
+use Rattle.paths.specs.Paths.{edgeCrosses, edgePath}
+use Rattle.drawing.specs.declared.Sum.{Sum}
 
 -- an edge that crosses and has the group k, by the kind of its cell
 abbrev pub isMemberIn : ℕ → ℕ → ℕ → ℕ → Bool
@@ -22,3 +30,17 @@ hasIn kind G k = some (memberIn kind G k) 12
 -- how many of the groups below k have a crossing
 abbrev pub rankIn : ℕ → List ℕ → ℕ → ℕ
 rankIn kind G k = countTo (hasIn kind G) k
+
+-- the kind and the groups of the cell at c
+pub record Known (g : Grid) (c : Site) (kind : ℕ) (G : List ℕ) : Type 0 where
+  pub kinds : kind ≡ kindOf (bitOf (caseOf g c))
+  pub groups : G ≡ cellGroups g c
+
+-- the slots of the cell at c, which has the number i, have the paths of its crossings
+pub record CellPaths (g : Grid) (c : Site) (i : ℕ) (w : List ℕ) : Type 0 where
+  pub fits : 12 * i + 12 ≤ length w
+  pub is : (e : ℕ) → e < 12 → edgeCrosses g c e ≡ true → getD w (12 * i + e) 0 ≡ edgePath g c e
+
+-- a sum with one point more where the test holds
+unfoldable pub addedIf : Bool → Sum → Point → Sum
+addedIf b s p = cond b (record { point = addP (s .point) p; count = s .count + 1 }) s

@@ -1,13 +1,24 @@
 // The sheet that extraction draws, from the samples of the grid and the paths of its crossings.
 
+use points::Point;
 use sampling::Grid;
+use sampling::Site;
 ghost use mathlib.Core.Path.{_≡_};
-ghost use mathlib.Core.Bool.{cond};
+ghost use mathlib.Core.Bool.{true, cond};
+ghost use mathlib.Core.List.{map};
 ghost use Prim.Native.Nat.{ℕ, _+_, _*_, _≤_, _<_};
 ghost use lib.ListN.{length};
-ghost use Rattle.lattice.specs.Lattice.{Samples};
-ghost use Rattle.drawing.specs.Drawing.{pointsIn, pointsTo};
-ghost use Rattle.drawing.specs.Slots.{isMemberIn, hasIn, rankIn};
+ghost use Rattle.lattice.specs.Lattice.{Samples, caseOf};
+ghost use Rattle.cells.specs.Cells.{bitOf, kindOf};
+ghost use Rattle.paths.specs.Paths.{edgeCrosses, CellAt};
+ghost use Rattle.drawing.specs.Drawing.{crossingAt, membersOf, meanOf, pointsIn, pointsTo};
+ghost use Rattle.drawing.specs.Slots.{isMemberIn, hasIn, rankIn, Known, CellPaths, addedIf};
+
+// The sum of some crossings, and how many they are.
+pub struct Sum {
+    pub point: Point,
+    pub count: usize,
+}
 
 // ---- the groups of a cell
 
@@ -91,4 +102,81 @@ pub fn count_points(g: Grid, n: usize, count: usize, samples: &[f64]) -> usize
         e += 1;
     }
     total
+}
+
+// ---- the point of a group
+
+// The crossing on the edge e of the cell at c, which has the number i, by its path.
+fn crossing_at(g: Grid, n: usize, c: Site, i: usize, e: usize, w: &[u32]) -> Point
+    requires { ⌜ CellAt n c i (length (now w)) ⌝ }
+    requires { ⌜ CellPaths g c i (now w) ⌝ }
+    requires { ⌜ e < 12 ⌝ }
+    requires { ⌜ edgeCrosses g c e ≡ true ⌝ }
+    ensures { λ r. ⌜ r ≡ crossingAt g c e ⌝ }
+{
+    crossings::replay(g, lattice::edge_site(c, e), e / 4, w[12 * i + e])
+}
+
+// The sum with the crossing on the edge e, if it is of the group k.
+fn add_member(
+    g: Grid,
+    n: usize,
+    c: Site,
+    i: usize,
+    kind: u32,
+    group: u32,
+    k: u32,
+    e: usize,
+    w: &[u32],
+    s: Sum,
+) -> Sum
+    requires { ⌜ CellAt n c i (length (now w)) ⌝ }
+    requires { ⌜ CellPaths g c i (now w) ⌝ }
+    requires { ⌜ e < 12 ⌝ }
+    requires { ⌜ kind ≡ kindOf (bitOf (caseOf g c)) ⌝ }
+    requires { ⌜ s .count ≤ 12 ⌝ }
+    ensures { λ r. ⌜ r ≡ addedIf (isMemberIn kind group k e) s (crossingAt g c e) ⌝ }
+{
+    if is_member(kind, group, k, e) {
+        let p = crossing_at(g, n, c, i, e, w);
+        let q = s.point;
+        return Sum {
+            point: points::add(q, p),
+            count: s.count + 1,
+        };
+    }
+    s
+}
+
+// The mean of the crossings of the group k.
+fn group_mean(
+    g: Grid,
+    n: usize,
+    c: Site,
+    i: usize,
+    kind: u32,
+    groups: [u32; 12],
+    k: u32,
+    w: &[u32],
+) -> Point
+    requires { ⌜ CellAt n c i (length (now w)) ⌝ }
+    requires { ⌜ CellPaths g c i (now w) ⌝ }
+    requires { ⌜ Known g c kind groups ⌝ }
+    ensures { λ r. ⌜ r ≡ meanOf (map (crossingAt g c) (membersOf g c k)) ⌝ }
+{
+    let origin = Point {
+        x: 0.0,
+        y: 0.0,
+        z: 0.0,
+    };
+    let mut s = Sum {
+        point: origin,
+        count: 0,
+    };
+    let mut e = 0;
+    while e < 12 {
+        s = add_member(g, n, c, i, kind, groups[e], k, e, w, s);
+        e += 1;
+    }
+    points::mul(s.point, 1.0 / std::num::nearest_u64_to_f64(s.count as u64))
 }
