@@ -2,12 +2,13 @@
 use Prim.Native.Nat.{ℕ, _+_, _*_, _≤_, _<_}
 use mathlib.Core.Path.{_≡_}
 use mathlib.Core.Bool.{Bool, true, cond, _&&_}
-use mathlib.Core.List.{List}
+use mathlib.Core.List.{List, [], _∷_}
 use lib.Dec.{eqb}
 use lib.ListN.{length, getD}
 use Rattle.lists.specs.Every.{some, countTo}
 use Rattle.points.specs.declared.Point.{Point}
-use Rattle.points.specs.Points.{addP}
+use lib.Ieee.{Float}
+use Rattle.points.specs.Points.{addP, withPoint}
 use Rattle.sampling.specs.declared.Grid.{Grid}
 use Rattle.sampling.specs.declared.Site.{Site}
 use Rattle.cells.specs.Cells.{bitOf, kindOf}
@@ -44,3 +45,8 @@ pub record CellPaths (g : Grid) (c : Site) (i : ℕ) (w : List ℕ) : Type 0 whe
 -- a sum with one point more where the test holds
 unfoldable pub addedIf : Bool → Sum → Point → Sum
 addedIf b s p = cond b (record { point = addP (s .point) p; count = s .count + 1 }) s
+
+-- the coordinates s with points from place k on
+unfoldable pub putPoints : List Point → ℕ → List Float → List Float
+putPoints [] k s = s
+putPoints (p ∷ l) k s = putPoints l (k + 1) (withPoint s k p)

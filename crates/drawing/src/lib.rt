@@ -6,13 +6,13 @@ use sampling::Site;
 ghost use mathlib.Core.Path.{_≡_};
 ghost use mathlib.Core.Bool.{true, cond};
 ghost use mathlib.Core.List.{map};
-ghost use Prim.Native.Nat.{ℕ, _+_, _*_, _≤_, _<_};
+ghost use Prim.Native.Nat.{ℕ, _+_, _*_, _^_, _≤_, _<_};
 ghost use lib.ListN.{length};
 ghost use Rattle.lattice.specs.Lattice.{Samples, caseOf};
 ghost use Rattle.cells.specs.Cells.{bitOf, kindOf};
 ghost use Rattle.paths.specs.Paths.{edgeCrosses, CellAt};
-ghost use Rattle.drawing.specs.Drawing.{crossingAt, membersOf, meanOf, pointsIn, pointsTo};
-ghost use Rattle.drawing.specs.Slots.{isMemberIn, hasIn, rankIn, Known, CellPaths, addedIf};
+ghost use Rattle.drawing.specs.Drawing.{crossingAt, membersOf, meanOf, groupPoints, cellPoints, pointsIn, pointsTo};
+ghost use Rattle.drawing.specs.Slots.{isMemberIn, hasIn, rankIn, Known, CellPaths, addedIf, putPoints};
 
 // The sum of some crossings, and how many they are.
 pub struct Sum {
@@ -179,4 +179,62 @@ fn group_mean(
         e += 1;
     }
     points::mul(s.point, 1.0 / std::num::nearest_u64_to_f64(s.count as u64))
+}
+
+// Puts the point of the group k to place `place` if it has one; the next place.
+fn put_group(
+    g: Grid,
+    n: usize,
+    c: Site,
+    i: usize,
+    kind: u32,
+    groups: [u32; 12],
+    k: u32,
+    place: usize,
+    w: &[u32],
+    out: &mut [f64],
+) -> usize
+    requires { ⌜ CellAt n c i (length (now w)) ⌝ }
+    requires { ⌜ CellPaths g c i (now w) ⌝ }
+    requires { ⌜ Known g c kind groups ⌝ }
+    requires { ⌜ place < 2 ^ 32 ⌝ }
+    requires { ⌜ 3 * (place + length (groupPoints g c k)) ≤ length (now out) ⌝ }
+    ensures { λ r. ⌜ r ≡ place + length (groupPoints g c k) ⌝ }
+    ensures { λ _. ⌜ now (out .exit) ≡ putPoints (groupPoints g c k) place (now (out .entry)) ⌝ }
+{
+    if has_member(kind, groups, k) {
+        let p = group_mean(g, n, c, i, kind, groups, k, w);
+        points::put_point(out, place, p);
+        return place + 1;
+    }
+    place
+}
+
+// Puts the points of a cell from place `place` on; the next place.
+fn put_groups(
+    g: Grid,
+    n: usize,
+    c: Site,
+    i: usize,
+    kind: u32,
+    groups: [u32; 12],
+    place: usize,
+    w: &[u32],
+    out: &mut [f64],
+) -> usize
+    requires { ⌜ CellAt n c i (length (now w)) ⌝ }
+    requires { ⌜ CellPaths g c i (now w) ⌝ }
+    requires { ⌜ Known g c kind groups ⌝ }
+    requires { ⌜ place + 12 < 2 ^ 32 ⌝ }
+    requires { ⌜ 3 * (place + length (cellPoints g c)) ≤ length (now out) ⌝ }
+    ensures { λ r. ⌜ r ≡ place + length (cellPoints g c) ⌝ }
+    ensures { λ _. ⌜ now (out .exit) ≡ putPoints (cellPoints g c) place (now (out .entry)) ⌝ }
+{
+    let mut next = place;
+    let mut k: u32 = 0;
+    while k < 12 {
+        next = put_group(g, n, c, i, kind, groups, k, next, w, out);
+        k += 1;
+    }
+    next
 }
