@@ -1,12 +1,12 @@
 -- The mean of the crossings of a group, added up edge by edge from their paths. Assumes nothing.
-use Prim.Native.Nat.{ℕ, suc, _+_, _*_, _/_, _≤_, _<_}
+use Prim.Native.Nat.{ℕ, suc, _+_, _/_, _≤_, _<_}
 use mathlib.Core.Path.{_≡_, refl, sym, ap, _∙_}
 use mathlib.Core.Bool.{Bool, true, false}
 use mathlib.Core.List.{List, [], _∷_, _++_, map, foldl, map-append, foldl-append, append-nil}
 use native.Mathlib.Omega.{arith}
 use native.Mathlib.Numerals.{add-one}
 use lib.Dec.{eqb}
-use lib.ListN.{length, getD, length-append}
+use lib.ListN.{length, length-append}
 use lib.Ieee.{Float, binary64, div}
 use Rattle.lists.specs.Sort.{tabulate, itself, consIf}
 use Rattle.lists.proofs.Every.{and-left}
@@ -20,17 +20,17 @@ use Rattle.crossings.proofs.Paths.{replay-crossing}
 use Rattle.cells.specs.Cells.{bitOf, those, kindOf}
 use Rattle.cells.proofs.Bits.{kind-edge}
 use Rattle.lattice.specs.Lattice.{caseOf, edgeSite}
-use Rattle.paths.specs.Paths.{edgeCrosses}
+use Rattle.paths.specs.Paths.{edgeCrosses, edgePath}
 use Rattle.drawing.specs.declared.Sum.{Sum}
 use Rattle.drawing.specs.Drawing.{isMember, membersOf, crossingAt, origin, meanOf}
-use Rattle.drawing.specs.Slots.{isMemberIn, CellPaths, addedIf}
+use Rattle.drawing.specs.Slots.{isMemberIn, addedIf}
 use Rattle.drawing.proofs.Counts.{those-append}
 
 -- a crossing is found again by the path in its slot
-pub crossing-read : {g : Grid} {c d : Site} {i : ℕ} {w : List ℕ} {r : Point} (e : ℕ) → CellPaths g c i w → e < 12 → edgeCrosses g c e ≡ true → d ≡ edgeSite c e
-    → r ≡ replayFrom halvings (edgeSpan g d (e / 4)) (getD w (12 * i + e) 0) → r ≡ crossingAt g c e
+pub crossing-read : (g : Grid) (c : Site) {d : Site} {r : Point} (e p : ℕ) → p ≡ edgePath g c e → d ≡ edgeSite c e
+    → r ≡ replayFrom halvings (edgeSpan g d (e / 4)) p → r ≡ crossingAt g c e
 unfolding crossingAt
-crossing-read {g} {c} e P h x q f = f ∙ rw (q, P .is e h x) (replay-crossing g (edgeSite c e) (e / 4))
+crossing-read g c e p x q f = f ∙ rw (q, x) (replay-crossing g (edgeSite c e) (e / 4))
 
 -- a member of a group crosses
 pub member-crosses : (g : Grid) (c : Site) {kind : ℕ} {b : Bool} (group k e : ℕ) → kind ≡ kindOf (bitOf (caseOf g c)) → e < 12 → b ≡ isMemberIn kind group k e → b ≡ true → edgeCrosses g c e ≡ true

@@ -1,10 +1,10 @@
 -- What the loops of extraction know of a cell: its kind, its groups and the paths in its slots.
-use Prim.Native.Nat.{ℕ, _+_, _*_, _≤_, _<_}
+use Prim.Native.Nat.{ℕ, _+_, _*_, _%_, _≤_, _<_}
 use mathlib.Core.Path.{_≡_}
 use mathlib.Core.Bool.{Bool, true, cond, _&&_}
 use mathlib.Core.List.{List, [], _∷_}
 use lib.Dec.{eqb}
-use lib.ListN.{length, getD}
+use lib.ListN.{length, getD, set}
 use Rattle.lists.specs.Every.{some, countTo}
 use Rattle.points.specs.declared.Point.{Point}
 use lib.Ieee.{Float}
@@ -14,7 +14,9 @@ use Rattle.sampling.specs.declared.Site.{Site}
 use Rattle.cells.specs.Cells.{bitOf, kindOf}
 use Rattle.lattice.specs.Lattice.{caseOf, cellGroups}
 use Rattle.paths.specs.Paths.{edgeCrosses, edgePath}
+use Rattle.sampling.specs.Samples.{sampleOf}
 use Rattle.drawing.specs.declared.Sum.{Sum}
+use Rattle.drawing.specs.Drawing.{crossingAt, numberOf}
 
 -- an edge that crosses and has the group k, by the kind of its cell
 abbrev pub isMemberIn : ℕ → ℕ → ℕ → ℕ → Bool
@@ -50,3 +52,21 @@ addedIf b s p = cond b (record { point = addP (s .point) p; count = s .count + 1
 unfoldable pub putPoints : List Point → ℕ → List Float → List Float
 putPoints [] k s = s
 putPoints (p ∷ l) k s = putPoints l (k + 1) (withPoint s k p)
+
+-- the label of the crossing on an edge that begins at its cell's own place; 0 on the others
+unfoldable pub labelOf : Grid → Site → ℕ → ℕ
+labelOf g c e = cond (eqb (e % 4) 0) (sampleOf g (crossingAt g c e) .label) 0
+
+-- what a slot has in the end: the number of its point, times 8, and its label
+abbrev pub slotNumber : Grid → ℕ → Site → ℕ → ℕ
+slotNumber g n c e = 8 * numberOf g n c e + labelOf g c e
+
+-- the slots w with the number of the edge e of a cell where it crosses; `first` is the number of the cell's first point
+unfoldable pub numberedIf : Grid → Site → ℕ → ℕ → ℕ → List ℕ → ℕ → List ℕ → List ℕ
+numberedIf g c i first kind G e w = cond (bitOf kind e) (set w (12 * i + e) (8 * (first + rankIn kind G (getD G e 0)) + labelOf g c e)) w
+
+-- the slots of the cell with the number i have the numbers of the points of its crossings, and the others are those of v
+pub record Numbered (g : Grid) (n : ℕ) (c : Site) (i : ℕ) (v w : List ℕ) : Type 0 where
+  pub is : (e : ℕ) → e < 12 → edgeCrosses g c e ≡ true → getD w (12 * i + e) 0 ≡ slotNumber g n c e
+  pub below : (k : ℕ) → k < 12 * i → getD w k 0 ≡ getD v k 0
+  pub above : (k : ℕ) → 12 * i + 12 ≤ k → getD w k 0 ≡ getD v k 0

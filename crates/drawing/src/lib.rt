@@ -7,12 +7,12 @@ ghost use mathlib.Core.Path.{_≡_};
 ghost use mathlib.Core.Bool.{true, cond};
 ghost use mathlib.Core.List.{map};
 ghost use Prim.Native.Nat.{ℕ, _+_, _*_, _^_, _≤_, _<_};
-ghost use lib.ListN.{length};
+ghost use lib.ListN.{length, getD};
 ghost use Rattle.lattice.specs.Lattice.{Samples, caseOf};
 ghost use Rattle.cells.specs.Cells.{bitOf, kindOf};
-ghost use Rattle.paths.specs.Paths.{edgeCrosses, CellAt};
+ghost use Rattle.paths.specs.Paths.{edgeCrosses, edgePath, CellAt};
 ghost use Rattle.drawing.specs.Drawing.{crossingAt, membersOf, meanOf, groupPoints, cellPoints, pointsIn, pointsTo};
-ghost use Rattle.drawing.specs.Slots.{isMemberIn, hasIn, rankIn, Known, CellPaths, addedIf, putPoints};
+ghost use Rattle.drawing.specs.Slots.{isMemberIn, hasIn, rankIn, Known, CellPaths, addedIf, putPoints, labelOf, numberedIf};
 
 // The sum of some crossings, and how many they are.
 pub struct Sum {
@@ -109,9 +109,8 @@ pub fn count_points(g: Grid, n: usize, count: usize, samples: &[f64]) -> usize
 // The crossing on the edge e of the cell at c, which has the number i, by its path.
 fn crossing_at(g: Grid, n: usize, c: Site, i: usize, e: usize, w: &[u32]) -> Point
     requires { ⌜ CellAt n c i (length (now w)) ⌝ }
-    requires { ⌜ CellPaths g c i (now w) ⌝ }
     requires { ⌜ e < 12 ⌝ }
-    requires { ⌜ edgeCrosses g c e ≡ true ⌝ }
+    requires { ⌜ getD (now w) (12 * i + e) 0 ≡ edgePath g c e ⌝ }
     ensures { λ r. ⌜ r ≡ crossingAt g c e ⌝ }
 {
     crossings::replay(g, lattice::edge_site(c, e), e / 4, w[12 * i + e])
@@ -237,4 +236,47 @@ fn put_groups(
         k += 1;
     }
     next
+}
+
+// ---- the numbers of the points
+
+// The label of the crossing on the edge e, where the edge begins at the cell's own place.
+fn slot_label(g: Grid, n: usize, c: Site, i: usize, e: usize, w: &[u32]) -> u32
+    requires { ⌜ CellAt n c i (length (now w)) ⌝ }
+    requires { ⌜ e < 12 ⌝ }
+    requires { ⌜ getD (now w) (12 * i + e) 0 ≡ edgePath g c e ⌝ }
+    ensures { λ r. ⌜ r ≡ labelOf g c e ⌝ }
+    ensures { λ r. ⌜ r < 8 ⌝ }
+{
+    if e % 4 == 0 {
+        return sampling::sample(g, crossing_at(g, n, c, i, e, w)).label as u32;
+    }
+    0
+}
+
+// Puts the number of the point of the edge e into its slot, if the edge crosses.
+fn put_number(
+    g: Grid,
+    n: usize,
+    c: Site,
+    i: usize,
+    kind: u32,
+    groups: [u32; 12],
+    first: usize,
+    e: usize,
+    w: &mut [u32],
+)
+    requires { ⌜ CellAt n c i (length (now w)) ⌝ }
+    requires { ⌜ e < 12 ⌝ }
+    requires { ⌜ Known g c kind groups ⌝ }
+    requires { ⌜ first < 2 ^ 28 ⌝ }
+    requires { ⌜ (edgeCrosses g c e ≡ true → getD (now w) (12 * i + e) 0 ≡ edgePath g c e) ⌝ }
+    ensures { λ _. ⌜ now (w .exit) ≡ numberedIf g c i first kind groups e (now (w .entry)) ⌝ }
+{
+    if cells::bit(kind, e as u32) {
+        let label = slot_label(g, n, c, i, e, w);
+        let number = first + rank(kind, groups, groups[e]);
+        w[12 * i + e] = 8 * (number as u32) + label;
+        return;
+    }
 }

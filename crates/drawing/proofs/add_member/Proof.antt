@@ -10,7 +10,7 @@ is-member-requires : tie.Need-is-member-requires
 is-member-requires c κs = search needs
 
 crossing-at-requires : tie.Need-crossing-at-requires
-crossing-at-requires c κs = let p = c .before .before .before .pre in (p .0, (p .1 .0, (p .1 .1 .0, member-crosses _ _ (c .before .before .before .args .group) (c .before .before .before .args .k) _ (p .1 .1 .1 .0) (p .1 .1 .0) (c .before .is-member .ensures) (c .if1 .taken))))
+crossing-at-requires c κs = let p = c .before .before .before .pre in (p .0, (p .1 .1 .0, p .1 .0 .is _ (p .1 .1 .0) (member-crosses _ _ (c .before .before .before .args .group) (c .before .before .before .args .k) _ (p .1 .1 .1 .0) (p .1 .1 .0) (c .before .is-member .ensures) (c .if1 .taken))))
 
 add-requires : tie.Need-add-requires
 add-requires c κs = search needs
