@@ -12,7 +12,7 @@ ghost use Rattle.lattice.specs.Lattice.{Samples, caseOf};
 ghost use Rattle.cells.specs.Cells.{bitOf, kindOf};
 ghost use Rattle.paths.specs.Paths.{edgeCrosses, edgePath, CellAt};
 ghost use Rattle.drawing.specs.Drawing.{crossingAt, membersOf, meanOf, groupPoints, cellPoints, pointsIn, pointsTo};
-ghost use Rattle.drawing.specs.Slots.{isMemberIn, hasIn, rankIn, Known, CellPaths, addedIf, putPoints, labelOf, numberedIf};
+ghost use Rattle.drawing.specs.Slots.{isMemberIn, hasIn, rankIn, Known, CellPaths, addedIf, putPoints, labelOf, numberedIf, Numbered};
 
 // The sum of some crossings, and how many they are.
 pub struct Sum {
@@ -278,5 +278,30 @@ fn put_number(
         let number = first + rank(kind, groups, groups[e]);
         w[12 * i + e] = 8 * (number as u32) + label;
         return;
+    }
+}
+
+// Puts the numbers of the points of a cell into its slots; `first` is the number of its first point.
+fn put_numbers(
+    g: Grid,
+    n: usize,
+    c: Site,
+    i: usize,
+    kind: u32,
+    groups: [u32; 12],
+    first: usize,
+    w: &mut [u32],
+)
+    requires { ⌜ CellAt n c i (length (now w)) ⌝ }
+    requires { ⌜ CellPaths g c i (now w) ⌝ }
+    requires { ⌜ Known g c kind groups ⌝ }
+    requires { ⌜ first < 2 ^ 28 ⌝ }
+    requires { ⌜ first ≡ length (pointsTo g n i) ⌝ }
+    ensures { λ _. ⌜ Numbered g n c i (now (w .entry)) (now (w .exit)) ⌝ }
+{
+    let mut e = 0;
+    while e < 12 {
+        put_number(g, n, c, i, kind, groups, first, e, w);
+        e += 1;
     }
 }
