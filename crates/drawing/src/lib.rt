@@ -305,3 +305,31 @@ fn put_numbers(
         e += 1;
     }
 }
+
+// Puts the points of a cell from place `place` on and their numbers into its slots; the next place.
+fn draw_cell(
+    g: Grid,
+    n: usize,
+    case: u32,
+    c: Site,
+    i: usize,
+    place: usize,
+    w: &mut [u32],
+    out: &mut [f64],
+) -> usize
+    requires { ⌜ CellAt n c i (length (now w)) ⌝ }
+    requires { ⌜ CellPaths g c i (now w) ⌝ }
+    requires { ⌜ case ≡ caseOf g c ⌝ }
+    requires { ⌜ place < 2 ^ 28 ⌝ }
+    requires { ⌜ place ≡ length (pointsTo g n i) ⌝ }
+    requires { ⌜ 3 * (place + length (cellPoints g c)) ≤ length (now out) ⌝ }
+    ensures { λ r. ⌜ r ≡ place + length (cellPoints g c) ⌝ }
+    ensures { λ _. ⌜ now (out .exit) ≡ putPoints (cellPoints g c) place (now (out .entry)) ⌝ }
+    ensures { λ _. ⌜ Numbered g n c i (now (w .entry)) (now (w .exit)) ⌝ }
+{
+    let kind = cells::cell_kind(case);
+    let groups = lattice::cell_groups(g, c, case, kind);
+    let next = put_groups(g, n, c, i, kind, groups, place, w, out);
+    put_numbers(g, n, c, i, kind, groups, place, w);
+    next
+}
