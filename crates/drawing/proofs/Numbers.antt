@@ -1,13 +1,14 @@
 -- The numbers of the points of a cell in its slots. Assumes nothing.
-use Rattle.drawing.proofs.Counts.{rank-is}
+use Rattle.paths.proofs.Slots.{no-crossing}
+use Rattle.drawing.proofs.Counts.{rank-is, no-points}
 use Rattle.sheet.specs.Edges.{joinTo}
 use Rattle.lists.proofs.Laws.{eq-or-ne}
 use lib.Seq.{getD-set-same, getD-set-other}
-use mathlib.Core.Logic.{⊎-elim}
+use mathlib.Core.Logic.{⊎-elim, _⊎_}
 use Prim.Native.Nat.{ℕ, _+_, _%_, _≤_, _<_, _*_}
 use mathlib.Core.Path.{_≡_, sym, ap, _∙_, refl}
 use mathlib.Core.Bool.{Bool, true, false, cond, false≢true}
-use mathlib.Core.List.{List}
+use mathlib.Core.List.{List, [], _∷_}
 use native.Mathlib.Omega.{arith}
 use lib.ListN.{getD, length, set, length-set}
 use lib.Ieee.{Float, lt}
@@ -21,9 +22,9 @@ use Rattle.cells.specs.Cells.{bitOf}
 use Rattle.cells.proofs.Faces.{twelve-groups}
 use Rattle.cells.proofs.Bits.{kind-edge}
 use Rattle.paths.specs.Paths.{edgeCrosses, edgePath, CellAt}
-use Rattle.lattice.specs.Lattice.{caseOf, cellGroups, centreInside, indexOf}
-use Rattle.drawing.specs.Drawing.{crossingAt, groupPoints, pointsTo, numberOf}
-use Rattle.drawing.specs.Slots.{Known, labelOf, CellPaths, rankIn, slotNumber, numberedIf, Numbered}
+use Rattle.lattice.specs.Lattice.{caseOf, cellGroups, centreInside, indexOf, siteAt}
+use Rattle.drawing.specs.Drawing.{crossingAt, groupPoints, pointsTo, numberOf, pointsIn, cellPoints}
+use Rattle.drawing.specs.Slots.{Known, labelOf, CellPaths, rankIn, slotNumber, numberedIf, Numbered, putPoints}
 
 -- ---- labels are below 8
 
@@ -130,3 +131,37 @@ path-kept {i = i} {e = e} N P h x = N .rest (12 * i + e) (omega arith) ∙ P .is
 
 pub cell-same : {n : ℕ} {c : Site} {i l m : ℕ} → CellAt n c i l → m ≡ l → CellAt n c i m
 cell-same C q = rw q C
+
+-- ---- a cell by its number
+
+empty-is : {A : Type 0} (l : List A) → length l ≡ 0 → l ≡ []
+empty-is [] e = refl
+empty-is (x ∷ l) e = absurd (omega (arith, e))
+
+-- a cell without a crossing: nothing is put, nothing is numbered
+pub drawn-none : (g : Grid) (n e place k : ℕ) {c : Site} (w : List ℕ) (out : List Float) → c ≡ siteAt n e → k ≡ caseOf g c → (k ≡ 0) ⊎ (k ≡ 255)
+    → (place ≡ place + length (pointsIn g n e)) × ((out ≡ putPoints (pointsIn g n e) place out) × Numbered g n (siteAt n e) e w w)
+unfolding putPoints
+drawn-none g n e place k w out q f u =
+    let z : pointsIn g n e ≡ [] = empty-is _ (sym (no-points g k q f u)) in (
+      rw z (omega arith),
+      (
+        rw z refl,
+        record {
+          is = λ j h x. absurd (false≢true (sym (rw q at (no-crossing g _ k f u j h)) ∙ x));
+          below = λ i h. refl;
+          above = λ i h. refl;
+        },
+      ),
+    )
+
+pub paths-at : {g : Grid} {e : ℕ} {c : Site} {w : List ℕ} (n : ℕ) → c ≡ siteAt n e → CellPaths g (siteAt n e) e w → CellPaths g c e w
+paths-at n q P = rw q P
+
+pub room-at : (g : Grid) (n e place m : ℕ) {c : Site} → c ≡ siteAt n e → 3 * (place + length (pointsIn g n e)) ≤ m → 3 * (place + length (cellPoints g c)) ≤ m
+room-at g n e place m q h = rw q h
+
+pub drawn-at : (g : Grid) (n e place r : ℕ) {c : Site} {v w : List ℕ} {out : List Float} (s : List Float) → c ≡ siteAt n e
+    → (r ≡ place + length (cellPoints g c)) × ((out ≡ putPoints (cellPoints g c) place s) × Numbered g n c e v w)
+    → (r ≡ place + length (pointsIn g n e)) × ((out ≡ putPoints (pointsIn g n e) place s) × Numbered g n (siteAt n e) e v w)
+drawn-at g n e place r s q E = rw q at E

@@ -8,7 +8,7 @@ ghost use mathlib.Core.Bool.{true, cond};
 ghost use mathlib.Core.List.{map};
 ghost use Prim.Native.Nat.{ℕ, _+_, _*_, _^_, _≤_, _<_};
 ghost use lib.ListN.{length, getD};
-ghost use Rattle.lattice.specs.Lattice.{Samples, caseOf};
+ghost use Rattle.lattice.specs.Lattice.{siteAt, Samples, caseOf};
 ghost use Rattle.cells.specs.Cells.{bitOf, kindOf};
 ghost use Rattle.paths.specs.Paths.{edgeCrosses, edgePath, CellAt};
 ghost use Rattle.drawing.specs.Drawing.{crossingAt, membersOf, meanOf, groupPoints, cellPoints, pointsIn, pointsTo};
@@ -332,4 +332,35 @@ fn draw_cell(
     let next = put_groups(g, n, c, i, kind, groups, place, w, out);
     put_numbers(g, n, c, i, kind, groups, place, w);
     next
+}
+
+// The same for the cell with the number e, if its corners differ.
+fn draw_cell_at(
+    g: Grid,
+    n: usize,
+    e: usize,
+    place: usize,
+    samples: &[f64],
+    w: &mut [u32],
+    out: &mut [f64],
+) -> usize
+    requires { ⌜ Samples g (n + 1) (now samples) ⌝ }
+    requires { ⌜ e < n * n * n ⌝ }
+    requires { ⌜ CellPaths g (siteAt n e) e (now w) ⌝ }
+    requires { ⌜ place < 2 ^ 28 ⌝ }
+    requires { ⌜ place ≡ length (pointsTo g n e) ⌝ }
+    requires { ⌜ 3 * (place + length (pointsIn g n e)) ≤ length (now out) ⌝ }
+    ensures { λ r. ⌜ r ≡ place + length (pointsIn g n e) ⌝ }
+    ensures { λ _. ⌜ now (out .exit) ≡ putPoints (pointsIn g n e) place (now (out .entry)) ⌝ }
+    ensures { λ _. ⌜ Numbered g n (siteAt n e) e (now (w .entry)) (now (w .exit)) ⌝ }
+{
+    let c = lattice::site_at(n, e);
+    let case = lattice::case_at(samples, n + 1, c);
+    if case == 0 {
+        return place;
+    }
+    if case == 255 {
+        return place;
+    }
+    draw_cell(g, n, case, c, e, place, w, out)
 }
