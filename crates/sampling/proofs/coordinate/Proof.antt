@@ -1,0 +1,15 @@
+-- `sampling::coordinate` meets its contract. Assumes nothing.
+use Rattle.sampling.specs.Grids.{coordinateOf}
+use borrow.Author.Needs.{needs}
+use Rattle.sampling.proofs.coordinate.Statement.{statement}
+use Rattle.sampling.proofs.coordinate.Tie as tie
+
+nearest-u64-to-f64-requires : tie.Need-nearest-u64-to-f64-requires
+nearest-u64-to-f64-requires c κs = search needs
+
+returns : tie.Need-returns
+unfolding coordinateOf
+returns c = cc
+
+pub coordinate-spec : {M : Type 1} → statement M
+coordinate-spec = tie.close (tie.spec nearest-u64-to-f64-requires returns)

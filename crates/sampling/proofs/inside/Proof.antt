@@ -1,0 +1,15 @@
+-- `sampling::inside` meets its contract. Assumes nothing.
+use Rattle.sampling.specs.Samples.{isInside}
+use borrow.Author.Needs.{needs}
+use Rattle.sampling.proofs.inside.Statement.{statement}
+use Rattle.sampling.proofs.inside.Tie as tie
+
+sample-requires : tie.Need-sample-requires
+sample-requires c κs = search needs
+
+returns : tie.Need-returns
+unfolding isInside
+returns c = cc
+
+pub inside-spec : {M : Type 1} → statement M
+inside-spec = tie.close (tie.spec sample-requires returns)

@@ -1,0 +1,15 @@
+-- `sampling::levels` meets its contract. Assumes nothing.
+use Rattle.sampling.specs.Samples.{levelsOf}
+use borrow.Author.Needs.{needs}
+use Rattle.sampling.proofs.levels.Statement.{statement}
+use Rattle.sampling.proofs.levels.Tie as tie
+
+farther-requires : tie.Need-farther-requires
+farther-requires c κs = search needs
+
+returns : tie.Need-returns
+unfolding levelsOf
+returns c = cc
+
+pub levels-spec : {M : Type 1} → statement M
+levels-spec = tie.close (tie.spec farther-requires returns)
