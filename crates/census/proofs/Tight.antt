@@ -102,7 +102,7 @@ module _ (n : ℕ) (S : List Quad) where
 
 -- ---- tight by the three counts
 
-all-and : {A : Type 0} (p q : A → Bool) (l : List A) → all (λ x. p x && q x) l ≡ (all p l && all q l)
+pub all-and : {A : Type 0} (p q : A → Bool) (l : List A) → all (λ x. p x && q x) l ≡ (all p l && all q l)
 all-and p q [] = refl
 all-and p q (x ∷ l) = rw (all-and p q l) (swap (p x) (q x) (all p l) (all q l))
   where
@@ -113,7 +113,7 @@ all-and p q (x ∷ l) = rw (all-and p q l) (swap (p x) (q x) (all p l) (all q l)
     swap false b c d = refl
 
 -- all fail a test where none is counted
-all-none : {A : Type 0} (p : A → Bool) (l : List A) → all (λ x. not (p x)) l ≡ eqb (count p l) 0
+pub all-none : {A : Type 0} (p : A → Bool) (l : List A) → all (λ x. not (p x)) l ≡ eqb (count p l) 0
 all-none p [] = refl
 all-none p (x ∷ l) = go (p x) (all-none p l)
   where

@@ -132,7 +132,7 @@ before-high f g c d (inl h) e = absurd (omega arith)
 before-high f g c d (inr (q, inl h)) e = omega arith
 before-high f g c d (inr (q, inr (r, h))) e = omega arith
 
-before-less : (f g : ℕ → ℕ) (c d : ℕ) → Then f (Then g _<_) c d → f c ≡ f d → g c ≡ g d → c < d
+pub before-less : (f g : ℕ → ℕ) (c d : ℕ) → Then f (Then g _<_) c d → f c ≡ f d → g c ≡ g d → c < d
 before-less f g c d (inl h) e k = absurd (omega arith)
 before-less f g c d (inr (q, inl h)) e k = absurd (omega arith)
 before-less f g c d (inr (q, inr (r, h))) e k = h
@@ -181,7 +181,7 @@ neighbour {np} {nq} {Q} {E} i b S h l s =
 -- ---- the keys of requests
 
 -- a pair of numbers below n is known by its key
-key-parts : (n a b c d : ℕ) → b < n → d < n → a * n + b ≡ c * n + d → (a ≡ c) × (b ≡ d)
+pub key-parts : (n a b c d : ℕ) → b < n → d < n → a * n + b ≡ c * n + d → (a ≡ c) × (b ≡ d)
 key-parts n a b c d lb ld e = (
   omega (arith, ap (λ k. k / n) e, mul-add-div-right {m = n} (omega arith) a b, mul-add-div-right {m = n} (omega arith) c d, div-eq-of-lt {n = b} {m = n} lb, div-eq-of-lt {n = d} {m = n} ld),
   sym (mod-eq-of-lt lb) ∙ (sym (mul-add-mod-self-right a n b) ∙ (ap (λ k. k % n) e ∙ (mul-add-mod-self-right c n d ∙ mod-eq-of-lt ld))),
@@ -204,7 +204,7 @@ unfolding keyAt
 key-centre n Q t e = rw e
 
 -- an edge's key is below a centre's
-edge-below : (n a b : ℕ) → a < n → b < n → a * n + b < n * n
+pub edge-below : (n a b : ℕ) → a < n → b < n → a * n + b < n * n
 edge-below n a b l m = omega (arith, suc-mul a n, mul-le-mul-right n l)
 
 -- a request is for a centre or for the edge of a corner
@@ -219,11 +219,11 @@ kind-of t = ⊎-elim (λ (e : t % 5 ≡ 4). centre e) (λ (ne : t % 5 ≡ 4 → 
     back t h = omega arith
 
 module _ {np nq : ℕ} {Q : List ℕ} (C : Cornered np nq Q) where
-  low-of : (c : ℕ) → c < 4 * nq → smaller Q c < np
+  pub low-of : (c : ℕ) → c < 4 * nq → smaller Q c < np
   unfolding keyOf
   low-of c h = key-below Smaller c C h
 
-  high-of : (c : ℕ) → c < 4 * nq → larger Q c < np
+  pub high-of : (c : ℕ) → c < 4 * nq → larger Q c < np
   unfolding keyOf
   high-of c h = key-below Larger c C h
 

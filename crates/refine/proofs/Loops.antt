@@ -19,8 +19,7 @@ use Rattle.lists.proofs.Every.{count-le, count-zero}
 use Rattle.lists.proofs.Regions.{part-of, part-get, part-set, part-as, part-kept, kept-refl, kept-set, RegionFilled, region-start, region-turn, region-part, region-end, region-other}
 use Rattle.sheet.specs.Quads.{Quad, quad}
 use Rattle.sheet.specs.Flat.{corner, flatQuads}
-use Rattle.sheet.specs.Sheet.{pointsOf, flatPoints}
-use Rattle.sheet.proofs.Tests.{length-points}
+use Rattle.sheet.specs.Sheet.{flatPoints}
 use Rattle.results.specs.Results.{Front}
 use Rattle.results.proofs.Results.{length-flat-points, length-flat-quads}
 use Rattle.incidence.specs.Corners.{edgeOrder}
@@ -241,60 +240,63 @@ front-quad S {s} k (quad a b c d) F e h =
 
 -- ---- the new points
 
-pub length-made : (F : List ℕ) (at : ℕ → Point) (Q : List ℕ) (t : ℕ) → length (madeTo F at Q t) ≡ countTo (own F) t
+pub length-made : {A : Type 0} (F : List ℕ) (pos : ℕ → A) (t : ℕ) → length (madeTo F pos t) ≡ countTo (own F) t
 unfolding madeTo countTo
-length-made F at Q zero = refl
-length-made F at Q (suc t) = length-append (madeTo F at Q t) _ ∙ go (own F t) (length-made F at Q t)
+length-made F pos zero = refl
+length-made F pos (suc t) = length-append (madeTo F pos t) _ ∙ go (own F t) (length-made F pos t)
   where
-    go : (b : Bool) → length (madeTo F at Q t) ≡ countTo (own F) t → length (madeTo F at Q t) + length (cond b (positionIn at Q (t / 5) (t % 5) ∷ []) []) ≡ countTo (own F) t + cond b 1 0
+    go : (b : Bool) → length (madeTo F pos t) ≡ countTo (own F) t → length (madeTo F pos t) + length (cond b (pos t ∷ []) []) ≡ countTo (own F) t + cond b 1 0
     go true e = omega arith
     go false e = omega arith
 
-made-suc : (F : List ℕ) (at : ℕ → Point) (Q : List ℕ) (t : ℕ) → madeTo F at Q (t + 1) ≡ madeTo F at Q t ++ cond (own F t) (positionIn at Q (t / 5) (t % 5) ∷ []) []
+made-suc : {A : Type 0} (F : List ℕ) (pos : ℕ → A) (t : ℕ) → madeTo F pos (t + 1) ≡ madeTo F pos t ++ cond (own F t) (pos t ∷ []) []
 unfolding madeTo
-made-suc F at Q t = rw (add-one t)
+made-suc F pos t = rw (add-one t)
 
 pub length-with : (s : List Float) (k : ℕ) (p : Point) → length (withPoint s k p) ≡ length s
 unfolding withPoint
 length-with s k p = simp length-set
 
--- the invariant of the loop that writes the new points behind the n old ones
-pub record PointLoop (n m : ℕ) (P : List Float) (Q F : List ℕ) (d s : List Float) (t : ℕ) : Type 0 where
+-- the invariant of the loop that writes the new points behind the n old ones, ps
+pub record PointLoop (n m : ℕ) (ps : List Point) (pos : ℕ → Point) (F : List ℕ) (d s : List Float) (t : ℕ) : Type 0 where
   pub t≤ : t ≤ m
+  pub old : length ps ≡ n
   pub len : length s ≡ length d
-  pub front : Front (flatPoints (pointsOf n P ++ madeTo F (pointAt P) Q t)) s
+  pub front : Front (flatPoints (ps ++ madeTo F pos t)) s
 
-pub points-start : (n m : ℕ) (P : List Float) (Q F : List ℕ) (d : List Float) → Front (flatPoints (pointsOf n P)) d → PointLoop n m P Q F d d 0
+pub points-start : {n : ℕ} (m : ℕ) (ps : List Point) (pos : ℕ → Point) (F : List ℕ) (d : List Float) → length ps ≡ n → Front (flatPoints ps) d → PointLoop n m ps pos F d d 0
 unfolding madeTo
-points-start n m P Q F d h = record { t≤ = zero-le; len = refl; front = rw append-nil h }
+points-start m ps pos F d e h = record { t≤ = zero-le; old = e; len = refl; front = rw append-nil h }
 
-module _ {n m : ℕ} {P : List Float} {Q F : List ℕ} {d s : List Float} {t : ℕ} (I : PointLoop n m P Q F d s t) where
-  pub points-turn : (N : List ℕ) (r : List Float) → t < m → Numbered n m F N → getD N t 0 * 3 + 3 ≤ length d → r ≡ putRequest F N (pointAt P) Q t s → PointLoop n m P Q F d r (t + 1)
+module _ {n m : ℕ} {ps : List Point} {pos : ℕ → Point} {F : List ℕ} {d s : List Float} {t : ℕ} (I : PointLoop n m ps pos F d s t) where
+  pub points-turn : (N : List ℕ) (r : List Float) → t < m → Numbered n m F N → getD N t 0 * 3 + 3 ≤ length d → r ≡ putRequest F N pos t s → PointLoop n m ps pos F d r (t + 1)
   unfolding numberOf
   points-turn N r h G room er = go (own F t) refl
     where
-      ps : List Point
-      ps = pointsOf n P ++ madeTo F (pointAt P) Q t
+      all : List Point
+      all = ps ++ madeTo F pos t
 
-      go : (b : Bool) → own F t ≡ b → PointLoop n m P Q F d r (t + 1)
+      go : (b : Bool) → own F t ≡ b → PointLoop n m ps pos F d r (t + 1)
       go false e = record {
         t≤ = omega arith;
+        old = I .old;
         len = rw (er, e) (I .len);
-        front = rw (er, e, made-suc F (pointAt P) Q t, e, append-nil) (I .front);
+        front = rw (er, e, made-suc F pos t, e, append-nil) (I .front);
       }
       go true e =
           let f : getD F t 0 ≡ t = eqb-true (getD F t 0) t e in
-          let k : getD N t 0 ≡ length ps = ap (λ (l : List ℕ). getD l t 0) (G .is) ∙ getD-tab (numberOf n F) m t 0 h ∙ ap (λ (k : ℕ). n + countTo (own F) k) f
-          ∙ sym (length-append (pointsOf n P) (madeTo F (pointAt P) Q t) ∙ rw (length-points n P, length-made F (pointAt P) Q t)) in
+          let k : getD N t 0 ≡ length all = ap (λ (l : List ℕ). getD l t 0) (G .is) ∙ getD-tab (numberOf n F) m t 0 h ∙ ap (λ (k : ℕ). n + countTo (own F) k) f
+          ∙ sym (length-append ps (madeTo F pos t) ∙ rw (I .old, length-made F pos t)) in
           record {
             t≤ = omega arith;
-            len = rw (er, e) (length-with s (getD N t 0) (positionIn (pointAt P) Q (t / 5) (t % 5)) ∙ I .len);
-            front = rw (er, e, made-suc F (pointAt P) Q t, e, ← append-assoc) (front-point ps (getD N t 0) (positionIn (pointAt P) Q (t / 5) (t % 5)) (I .front) k (omega (arith, I .len)));
+            old = I .old;
+            len = rw (er, e) (length-with s (getD N t 0) (pos t) ∙ I .len);
+            front = rw (er, e, made-suc F pos t, e, ← append-assoc) (front-point all (getD N t 0) (pos t) (I .front) k (omega (arith, I .len)));
           }
 
 -- at the end all of them stand
-pub points-end : {n m : ℕ} {P : List Float} {Q F : List ℕ} {d s : List Float} {t : ℕ} → PointLoop n m P Q F d s t → m ≤ t → Front (flatPoints (pointsOf n P ++ madeTo F (pointAt P) Q m)) s
-points-end {n} {m} {P} {Q} {F} {d} {s} {t} I h = let e : t ≡ m = omega (arith, I .t≤) in rw e at (I .front)
+pub points-end : {n m : ℕ} {ps : List Point} {pos : ℕ → Point} {F : List ℕ} {d s : List Float} {t : ℕ} → PointLoop n m ps pos F d s t → m ≤ t → Front (flatPoints (ps ++ madeTo F pos m)) s
+points-end {n} {m} {ps} {pos} {F} {d} {s} {t} I h = let e : t ≡ m = omega (arith, I .t≤) in rw e at (I .front)
 
 -- the writing goes on in a slice of the same length
 pub writing-same : {np nq : ℕ} {P : List Float} {Q : List ℕ} {first num : ℕ} {F N w : List ℕ} {room more : ℕ} → Writing np nq P Q first num F N w room → more ≡ room → Writing np nq P Q first num F N w more
@@ -304,33 +306,32 @@ module _ {np nq : ℕ} {P : List Float} {Q : List ℕ} {first num : ℕ} {F N w 
   pub writing-room : getD w (num + t) 0 * 3 + 3 ≤ room
   writing-room = rw (part-get 0 t (W .numbers) h) (W .rooms t h)
 
-  pub put-yes : (k : ℕ) (p : Point) (s r : List Float) → getD w (first + t) 0 ≡ t → k ≡ getD w (num + t) 0 → p ≡ positionIn (pointAt P) Q (t / 5) (t % 5) → r ≡ withPoint s k p → r ≡ putRequest F N (pointAt P) Q t s
-  put-yes k p s r e ek ep er = rw (eq-eqb (getD F t 0) t (sym (part-get 0 t (W .firsts) h) ∙ e), ← part-get 0 t (W .numbers) h, ← ek, ← ep) er
+  pub put-yes : (pos : ℕ → Point) (k : ℕ) (p : Point) (s r : List Float) → getD w (first + t) 0 ≡ t → k ≡ getD w (num + t) 0 → p ≡ pos t → r ≡ withPoint s k p → r ≡ putRequest F N pos t s
+  put-yes pos k p s r e ek ep er = rw (eq-eqb (getD F t 0) t (sym (part-get 0 t (W .firsts) h) ∙ e), ← part-get 0 t (W .numbers) h, ← ek, ← ep) er
 
-  pub put-no : (s : List Float) → (getD w (first + t) 0 ≡ t → ⊥) → s ≡ putRequest F N (pointAt P) Q t s
-  put-no s e = rw (ne-eqb (getD F t 0) t (λ q. e (part-get 0 t (W .firsts) h ∙ q)))
+  pub put-no : (pos : ℕ → Point) (s : List Float) → (getD w (first + t) 0 ≡ t → ⊥) → s ≡ putRequest F N pos t s
+  put-no pos s e = rw (ne-eqb (getD F t 0) t (λ q. e (part-get 0 t (W .firsts) h ∙ q)))
 
 -- ---- the old points
 
-pub record OldLoop (n : ℕ) (P d s : List Float) (v : ℕ) : Type 0 where
+pub record OldLoop (f : ℕ → Point) (n : ℕ) (d s : List Float) (v : ℕ) : Type 0 where
   pub v≤ : v ≤ n
   pub len : length s ≡ length d
-  pub front : Front (flatPoints (pointsOf v P)) s
+  pub front : Front (flatPoints (tabulate f v)) s
 
-pub old-start : (n : ℕ) (P d : List Float) → OldLoop n P d d 0
-unfolding pointsOf tabulate flatPoints
-old-start n P d = record { v≤ = zero-le; len = refl; front = front-none d }
+pub old-start : (f : ℕ → Point) (n : ℕ) (d : List Float) → OldLoop f n d d 0
+unfolding tabulate flatPoints
+old-start f n d = record { v≤ = zero-le; len = refl; front = front-none d }
 
-pub old-turn : {n : ℕ} {P d s : List Float} {v : ℕ} (p : Point) (r : List Float) → OldLoop n P d s v → v < n → 3 * n ≤ length d → p ≡ pointAt P v → r ≡ withPoint s v p → OldLoop n P d r (v + 1)
-unfolding pointsOf
-old-turn {n} {P} {d} {s} {v} p r I h b ep er = record {
+pub old-turn : {f : ℕ → Point} {n : ℕ} {d s : List Float} {v : ℕ} (p : Point) (r : List Float) → OldLoop f n d s v → v < n → 3 * n ≤ length d → p ≡ f v → r ≡ withPoint s v p → OldLoop f n d r (v + 1)
+old-turn {f} {n} {d} {s} {v} p r I h b ep er = record {
   v≤ = omega arith;
   len = rw er (length-with s v p ∙ I .len);
-  front = rw (add-one v, tab-suc (pointAt P) v, ← ep, er) (front-point (tabulate (pointAt P) v) v p (I .front) (sym (length-tab (pointAt P) v)) (omega (arith, I .len)));
+  front = rw (add-one v, tab-suc f v, ← ep, er) (front-point (tabulate f v) v p (I .front) (sym (length-tab f v)) (omega (arith, I .len)));
 }
 
-pub old-end : {n : ℕ} {P d s : List Float} {v : ℕ} → OldLoop n P d s v → n ≤ v → Front (flatPoints (pointsOf n P)) s
-old-end {n} {P} {d} {s} {v} I h = let e : v ≡ n = omega (arith, I .v≤) in rw e at (I .front)
+pub old-end : {f : ℕ → Point} {n : ℕ} {d s : List Float} {v : ℕ} → OldLoop f n d s v → n ≤ v → Front (flatPoints (tabulate f n)) s
+old-end {f} {n} {d} {s} {v} I h = let e : v ≡ n = omega (arith, I .v≤) in rw e at (I .front)
 
 -- ---- the quads
 

@@ -30,7 +30,7 @@ use Rattle.results.specs.Results.{Outcome, refuses, makes, answerOf, countsOf, 
 use Rattle.results.proofs.Results.{fills-room, fills-leaves}
 use Rattle.incidence.specs.Corners.{Cornered, edgeOrder}
 use Rattle.refine.specs.Finer.{finerSheet, madeOrShort, refined, refineRule}
-use Rattle.refine.specs.Requests.{firstsOf, own, numberOf, childAt, labelAt}
+use Rattle.refine.specs.Requests.{positionAt, firstsOf, own, numberOf, childAt, labelAt}
 use Rattle.refine.specs.Loops.{lowAt, nth, Linking, Numbering, Numbered, Writing, madeTo, orderAt, firstsAt, numbersAt, pointsAfter, Behind, Worked, Finished, Refinable}
 use Rattle.refine.proofs.Edges.{linked-start}
 use Rattle.refine.proofs.Loops.{front-none}
@@ -118,8 +118,8 @@ module _ {np nq : ℕ} {P : List Float} {Q labels w : List ℕ} {p q l : ℕ} (F
   pub numbered-of : Numbered np (5 * nq) (part (firstsAt np nq) (5 * nq) w) (part (numbersAt np nq) (5 * nq) w)
   numbered-of = rw (F .worked .firsts .is, F .worked .numbers .is) (record { firsts = firsts-known (F .held .cornered); is = refl })
 
-  pub points-put : {s : List Float} → Front (flatPoints (pointsOf np P ++ madeTo (part (firstsAt np nq) (5 * nq) w) (pointAt P) Q (5 * nq))) s
-      → Front (flatPoints (pointsOf np P ++ madeTo (firstsOf np nq Q) (pointAt P) Q (5 * nq))) s
+  pub points-put : {s : List Float} → Front (flatPoints (pointsOf np P ++ madeTo (part (firstsAt np nq) (5 * nq) w) (positionAt (pointAt P) Q) (5 * nq))) s
+      → Front (flatPoints (pointsOf np P ++ madeTo (firstsOf np nq Q) (positionAt (pointAt P) Q) (5 * nq))) s
   points-put h = rw (F .worked .firsts .is) at h
 
   -- the child quads read their numbers from the list
@@ -179,7 +179,7 @@ module _ (c : Counts) (P : List Float) (Q labels : List ℕ) (w : ℕ) (R : Refi
       }
 
   pub tested-done : (A : List Float) (B D : List ℕ) → isLarge (countsAfter c n) ≡ false → isShort (countsAfter c n) p q l ≡ false
-      → Front (flatPoints (pointsOf (c .points) P ++ madeTo (firstsOf (c .points) (c .quads) Q) (pointAt P) Q (5 * c .quads))) A
+      → Front (flatPoints (pointsOf (c .points) P ++ madeTo (firstsOf (c .points) (c .quads) Q) (positionAt (pointAt P) Q) (5 * c .quads))) A
       × (Front (flatQuads (tabulate (childAt (numberOf (c .points) (firstsOf (c .points) (c .quads) Q)) Q) (4 * c .quads))) B × Front (tabulate (labelAt labels) (4 * c .quads)) D)
       → Fills (madeOrShort (finerSheet (sheetOf c P Q labels)) p q l) (made.Done (countsAfter c n)) A B D
   tested-done A B D h s E =

@@ -2,7 +2,7 @@
 use Prim.Native.Nat.{ℕ, zero, suc, _+_, _*_, _/_, _%_, _≤_, _<_}
 use mathlib.Core.Logic.{_⊎_, ⊎-elim}
 use mathlib.Core.Path.{_≡_, refl, sym, ap, _∙_}
-use mathlib.Core.List.{List, [], _∷_, _++_, map}
+use mathlib.Core.List.{List, [], _∷_, _++_, map, append-nil}
 use native.Mathlib.Omega.{arith}
 use lib.ListN.{length, getD, length-append, length-map}
 use lib.Dec.{eqb}
@@ -20,11 +20,11 @@ use Rattle.sheet.specs.Flat.{corner, quadsOf}
 use Rattle.sheet.specs.FirstUse.{firsts, place}
 use Rattle.sheet.specs.Sheet.{Sheet, sheetOf, pointsOf}
 use Rattle.sheet.proofs.Tests.{length-points}
-use Rattle.sheet.proofs.FirstUse.{usedTo, ownFirst, used-new, used-old, count-used, place-used, first-unique}
+use Rattle.sheet.proofs.FirstUse.{usedTo, ownFirst, used-suc, used-zero, used-new, used-old, count-used, place-used, first-unique, firsts-new, firsts-old}
 use Rattle.results.specs.Results.{countsOf}
 use Rattle.incidence.specs.Corners.{Cornered}
 use Rattle.refine.specs.Finer.{split, edgeKey, centreKey, asked, midOf, cenOf, finer, finerCount, keyOf, positionOf, requests, made, pointIn, newPoints, finerSheet}
-use Rattle.refine.specs.Requests.{positionIn, keyAt, requestAt, firstOf, firstsOf, own, numberOf, childAt, labelAt}
+use Rattle.refine.specs.Requests.{positionIn, positionAt, keyAt, requestAt, firstOf, firstsOf, own, numberOf, childAt, labelAt}
 use Rattle.refine.specs.Loops.{Firsts, madeTo}
 use Rattle.refine.proofs.Edges.{first-of}
 use Rattle.refine.proofs.Loops.{length-made}
@@ -72,14 +72,28 @@ module _ {np nq : ℕ} {Q : List ℕ} (C : Cornered np nq Q) where
   pub count-is : np + countTo (own (firstsOf np nq Q)) (5 * nq) ≡ np + length (asked np (quadsOf nq Q))
   count-is = rw (count-own (5 * nq) (omega arith), ← count-used (keyAt np Q) (5 * nq) (firstOf np nq Q) (first-of C) (5 * nq) (omega arith), asked-is)
 
-  key-edge : (q j : ℕ) → j < 4 → keyAt np Q (5 * q + j) ≡ edgeKey np (corner Q q j) (corner Q q ((j + 1) % 4))
+  -- the keys that are asked for are those of the first requests
+  pub asked-made-to : (t : ℕ) → t ≤ 5 * nq → usedTo (keyAt np Q) t ≡ madeTo (firstsOf np nq Q) (keyAt np Q) t
+  unfolding madeTo
+  asked-made-to zero h = used-zero (keyAt np Q)
+  asked-made-to (suc t) h =
+      let ih = asked-made-to t (omega arith) in
+      used-suc (keyAt np Q) t ∙ rw (own-at t (omega arith)) (⊎-elim
+      (λ (e : firstOf np nq Q t ≡ t). rw (eq-eqb (firstOf np nq Q t) t e, firsts-new (keyAt np Q t) (usedTo (keyAt np Q) t) (used-new (keyAt np Q) (5 * nq) (firstOf np nq Q) (first-of C) t (omega arith) e), ih))
+      (λ (ne : firstOf np nq Q t ≡ t → ⊥). rw (ne-eqb (firstOf np nq Q t) t ne, append-nil, firsts-old (keyAt np Q t) (usedTo (keyAt np Q) t) (used-old (keyAt np Q) (5 * nq) (firstOf np nq Q) (first-of C) t (omega arith) ne)) ih)
+      (eq-or-ne (firstOf np nq Q t) t))
+
+  pub asked-keys : asked np (quadsOf nq Q) ≡ madeTo (firstsOf np nq Q) (keyAt np Q) (5 * nq)
+  asked-keys = sym asked-is ∙ asked-made-to (5 * nq) (omega arith)
+
+  pub key-edge : (q j : ℕ) → j < 4 → keyAt np Q (5 * q + j) ≡ edgeKey np (corner Q q j) (corner Q q ((j + 1) % 4))
   unfolding keyAt
   key-edge q j h =
       let d : (5 * q + j) / 5 ≡ q = omega arith in
       let r : (5 * q + j) % 5 ≡ j = omega arith in
       rw (d, r, ne-eqb j 4 (λ e. omega arith))
 
-  key-centre : (q : ℕ) → keyAt np Q (5 * q + 4) ≡ centreKey np q
+  pub key-centre : (q : ℕ) → keyAt np Q (5 * q + 4) ≡ centreKey np q
   unfolding keyAt
   key-centre q =
       let d : (5 * q + 4) / 5 ≡ q = omega arith in
@@ -101,7 +115,7 @@ module _ {np nq : ℕ} {Q : List ℕ} (C : Cornered np nq Q) where
   -- ---- the points
 
   -- what the first t requests make
-  made-is : (at : ℕ → Point) (t : ℕ) → t ≤ 5 * nq → map positionOf (made [] (tabulate (requestAt at np Q) t)) ≡ madeTo (firstsOf np nq Q) at Q t
+  made-is : (at : ℕ → Point) (t : ℕ) → t ≤ 5 * nq → map positionOf (made [] (tabulate (requestAt at np Q) t)) ≡ madeTo (firstsOf np nq Q) (positionAt at Q) t
   unfolding madeTo tabulate
   made-is at zero h = refl
   made-is at (suc t) h =
@@ -131,7 +145,7 @@ module _ {np nq : ℕ} {Q : List ℕ} (C : Cornered np nq Q) where
     requests-are = tab-ext _ _ (5 * nq) (λ t h. rw (position-is (t / 5) (t % 5) (omega arith) (omega arith)))
 
     -- the new points are those of the finer sheet
-    pub points-are : madeTo (firstsOf np nq Q) (pointAt P) Q (5 * nq) ≡ newPoints (pointsOf np P) (quadsOf nq Q)
+    pub points-are : madeTo (firstsOf np nq Q) (positionAt (pointAt P) Q) (5 * nq) ≡ newPoints (pointsOf np P) (quadsOf nq Q)
     unfolding newPoints
     points-are =
         sym (rw (length-points np P, requests-flat (pointIn (pointsOf np P)) np nq Q, requests-are) (made-is (pointAt P) (5 * nq) (omega arith)))
@@ -163,7 +177,7 @@ module _ (c : Counts) (P : List Float) (Q labels : List ℕ) (C : Cornered (c .p
   abbrev pub finerOf : Sheet
   finerOf = finerSheet (sheetOf c P Q labels)
 
-  pub finer-points : finerOf .points ≡ pointsOf (c .points) P ++ madeTo (firstsOf (c .points) (c .quads) Q) (pointAt P) Q (5 * c .quads)
+  pub finer-points : finerOf .points ≡ pointsOf (c .points) P ++ madeTo (firstsOf (c .points) (c .quads) Q) (positionAt (pointAt P) Q) (5 * c .quads)
   unfolding finerSheet
   finer-points = rw (points-are C P)
 
@@ -178,7 +192,7 @@ module _ (c : Counts) (P : List Float) (Q labels : List ℕ) (C : Cornered (c .p
   pub finer-counts : (n : ℕ) → n ≡ c .points + countTo (own (firstsOf (c .points) (c .quads) Q)) (5 * c .quads)
       → countsOf finerOf ≡ record { points = n; quads = 4 * c .quads; labels = 4 * c .quads }
   finer-counts n e =
-      let a : length (finerOf .points) ≡ n = rw finer-points (length-append (pointsOf (c .points) P) _ ∙ rw (length-points (c .points) P, length-made (firstsOf (c .points) (c .quads) Q) (pointAt P) Q (5 * c .quads)) (sym e)) in
+      let a : length (finerOf .points) ≡ n = rw finer-points (length-append (pointsOf (c .points) P) _ ∙ rw (length-points (c .points) P, length-made (firstsOf (c .points) (c .quads) Q) (positionAt (pointAt P) Q) (5 * c .quads)) (sym e)) in
       let b : length (finerOf .quads) ≡ 4 * c .quads = rw (finer-quads, length-tab) in
       let d : length (finerOf .labels) ≡ 4 * c .quads = rw (finer-labels, length-tab) in
       rw (a, b, d)

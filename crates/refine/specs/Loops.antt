@@ -1,5 +1,5 @@
 -- What the loops of `refine` ask of the regions of the work slice, and what they leave.
-use Prim.Native.Nat.{ℕ, zero, suc, _+_, _*_, _/_, _%_, _^_, _≤_, _<_}
+use Prim.Native.Nat.{ℕ, zero, suc, _+_, _*_, _^_, _≤_, _<_}
 use mathlib.Core.Path.{_≡_}
 use mathlib.Core.Bool.{Bool, cond}
 use mathlib.Core.List.{List, [], _∷_, _++_}
@@ -14,7 +14,7 @@ use Rattle.lists.specs.Regions.{Part, Apart}
 use Rattle.sheet.specs.declared.Counts.{Counts}
 use Rattle.sheet.specs.Sheet.{LentSheet}
 use Rattle.incidence.specs.Corners.{Cornered, edgeOrder}
-use Rattle.refine.specs.Requests.{firstsOf, linkedTo, own, numberOf, positionIn}
+use Rattle.refine.specs.Requests.{firstsOf, linkedTo, own, numberOf}
 
 -- corner c is a number of the n points
 abbrev pub lowAt : ℕ → List ℕ → ℕ → Bool
@@ -51,14 +51,14 @@ pub record Held (np nq : ℕ) (P : List Float) (Q : List ℕ) : Type 0 where
   pub cornered : Cornered np nq Q
   pub points : 3 * np ≤ length P
 
--- the new points that the first t requests make
-unfoldable pub madeTo : List ℕ → (ℕ → Point) → List ℕ → ℕ → List Point
-madeTo F at Q zero = []
-madeTo F at Q (suc t) = madeTo F at Q t ++ cond (own F t) (positionIn at Q (t / 5) (t % 5) ∷ []) []
+-- what the first t requests make: each that is the first of its key makes what pos says
+unfoldable pub madeTo : {A : Type 0} → List ℕ → (ℕ → A) → ℕ → List A
+madeTo F pos zero = []
+madeTo F pos (suc t) = madeTo F pos t ++ cond (own F t) (pos t ∷ []) []
 
 -- the coordinates s with the point of request t at its number, if the request is the first of its key
-abbrev pub putRequest : List ℕ → List ℕ → (ℕ → Point) → List ℕ → ℕ → List Float → List Float
-putRequest F N at Q t s = cond (own F t) (withPoint s (getD N t 0) (positionIn at Q (t / 5) (t % 5))) s
+abbrev pub putRequest : List ℕ → List ℕ → (ℕ → Point) → ℕ → List Float → List Float
+putRequest F N pos t s = cond (own F t) (withPoint s (getD N t 0) (pos t)) s
 
 -- what the writing of the new points asks: first requests F at `first`, numbers N at `num`, and room for each number in a slice of `room` elements
 pub record Writing (np nq : ℕ) (P : List Float) (Q : List ℕ) (first num : ℕ) (F N w : List ℕ) (room : ℕ) : Type 0 where

@@ -36,13 +36,17 @@ positionIn at Q q j =
     cond (eqb j 4) (centreP (at (corner Q q 0)) (at (corner Q q 1)) (at (corner Q q 2)) (at (corner Q q 3)))
     (halfwayP (at (corner Q q j)) (at (corner Q q (after j))))
 
+-- the position of request t
+abbrev pub positionAt : (ℕ → Point) → List ℕ → ℕ → Point
+positionAt at Q t = positionIn at Q (t / 5) (t % 5)
+
 -- the key of request t
 unfoldable pub keyAt : ℕ → List ℕ → ℕ → ℕ
 keyAt n Q t = keyIn n Q (t / 5) (t % 5)
 
 -- request t
 abbrev pub requestAt : (ℕ → Point) → ℕ → List ℕ → ℕ → Request
-requestAt at n Q t = request (keyAt n Q t) (positionIn at Q (t / 5) (t % 5))
+requestAt at n Q t = request (keyAt n Q t) (positionAt at Q t)
 
 -- the keys of all requests of nq quads
 abbrev pub keysOf : ℕ → ℕ → List ℕ → List ℕ

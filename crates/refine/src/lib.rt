@@ -21,16 +21,16 @@ ghost use Rattle.sheet.specs.Sheet.{pointsOf, flatPoints, sheetOf};
 ghost use Rattle.results.specs.Results.{Leaves, Fills, Front};
 ghost use Rattle.incidence.specs.Corners.{Cornered};
 ghost use Rattle.refine.specs.Finer.{centreP, finerSheet, madeOrShort, refineRule};
-ghost use Rattle.refine.specs.Requests.{requestOf, sameEdge, positionIn, firstOf, linkedTo, own, numberOf, childAt, withQuad, labelAt, firstsOf};
+ghost use Rattle.refine.specs.Requests.{requestOf, sameEdge, positionIn, positionAt, firstOf, linkedTo, own, numberOf, childAt, withQuad, labelAt, firstsOf};
 ghost use Rattle.refine.specs.Loops.{lowAt, nth, Linking, Numbering, Held, putRequest, madeTo, Writing, Numbered, Behind, Worked, Finished, Refinable, pointsAfter};
 
 // Regions of the work slice, in units of points and quads together: behind the counters of the sort and its first order stand the corners in the
 // order of their edges, the first request of each request's key, and the numbers of the requests' points.
-const ORDER: usize = 5;
+pub const ORDER: usize = 5;
 
-const FIRST: usize = 9;
+pub const FIRST: usize = 9;
 
-const NUMBERS: usize = 14;
+pub const NUMBERS: usize = 14;
 
 // The centre of a quad.
 fn centre(p: Point, q: Point, r: Point, s: Point) -> Point
@@ -193,7 +193,7 @@ fn position(points: &[f64], quads: &[u32], np: usize, nq: usize, q: usize, j: us
 }
 
 // Copies the first n points.
-fn copy_points(n: usize, points: &[f64], out: &mut [f64])
+pub fn copy_points(n: usize, points: &[f64], out: &mut [f64])
     requires { ⌜ 3 * n ≤ length (now points) ⌝ }
     requires { ⌜ 3 * n ≤ length (now out) ⌝ }
     ensures { λ _. ⌜ Front (flatPoints (pointsOf n (now (points .entry)))) (now (out .exit)) ⌝ }
@@ -219,7 +219,7 @@ fn put_request(
 )
     requires { ⌜ Writing np nq (now points) (now quads) first num (part first (5 * nq) (now w)) (part num (5 * nq) (now w)) (now w) (length (now out)) ⌝ }
     requires { ⌜ t < 5 * nq ⌝ }
-    ensures { λ _. ⌜ now (out .exit) ≡ putRequest (part first (5 * nq) (now (w .entry))) (part num (5 * nq) (now (w .entry))) (pointAt (now (points .entry))) (now (quads .entry)) t (now (out .entry)) ⌝ }
+    ensures { λ _. ⌜ now (out .exit) ≡ putRequest (part first (5 * nq) (now (w .entry))) (part num (5 * nq) (now (w .entry))) (positionAt (pointAt (now (points .entry))) (now (quads .entry))) t (now (out .entry)) ⌝ }
 {
     if w[first + t] as usize == t {
         let p = position(points, quads, np, nq, t / 5, t % 5);
@@ -242,7 +242,7 @@ fn put_points(
     requires { ⌜ Writing np nq (now points) (now quads) first num (part first (5 * nq) (now w)) (part num (5 * nq) (now w)) (now w) (length (now out)) ⌝ }
     requires { ⌜ Numbered np (5 * nq) (part first (5 * nq) (now w)) (part num (5 * nq) (now w)) ⌝ }
     requires { ⌜ Front (flatPoints (pointsOf np (now points))) (now out) ⌝ }
-    ensures { λ _. ⌜ Front (flatPoints (pointsOf np (now (points .entry)) ++ madeTo (part first (5 * nq) (now (w .entry))) (pointAt (now (points .entry))) (now (quads .entry)) (5 * nq))) (now (out .exit)) ⌝ }
+    ensures { λ _. ⌜ Front (flatPoints (pointsOf np (now (points .entry)) ++ madeTo (part first (5 * nq) (now (w .entry))) (positionAt (pointAt (now (points .entry))) (now (quads .entry))) (5 * nq))) (now (out .exit)) ⌝ }
 {
     let mut t = 0;
     while t < 5 * nq {
@@ -252,7 +252,7 @@ fn put_points(
 }
 
 // Puts a quad at place i.
-fn put_quad(quads: &mut [u32], i: usize, a: u32, b: u32, c: u32, d: u32)
+pub fn put_quad(quads: &mut [u32], i: usize, a: u32, b: u32, c: u32, d: u32)
     requires { ⌜ 4 * i + 4 ≤ length (now quads) ⌝ }
     ensures { λ _. ⌜ now (quads .exit) ≡ withQuad (now (quads .entry)) i (quad a b c d) ⌝ }
 {
@@ -338,7 +338,7 @@ fn put_sheet(
     new_labels: &mut [u8],
 )
     requires { ⌜ Finished np nq (now points) (now quads) (now labels) (now w) (length (now «new_points»)) (length (now «new_quads»)) (length (now «new_labels»)) ⌝ }
-    ensures { λ _. ⌜ Front (flatPoints (pointsOf np (now (points .entry)) ++ madeTo (firstsOf np nq (now (quads .entry))) (pointAt (now (points .entry))) (now (quads .entry)) (5 * nq))) (now («new_points» .exit)) ⌝ }
+    ensures { λ _. ⌜ Front (flatPoints (pointsOf np (now (points .entry)) ++ madeTo (firstsOf np nq (now (quads .entry))) (positionAt (pointAt (now (points .entry))) (now (quads .entry))) (5 * nq))) (now («new_points» .exit)) ⌝ }
     ensures { λ _. ⌜ Front (flatQuads (tabulate (childAt (numberOf np (firstsOf np nq (now (quads .entry)))) (now (quads .entry))) (4 * nq))) (now («new_quads» .exit)) ⌝ }
     ensures { λ _. ⌜ Front (tabulate (labelAt (now (labels .entry))) (4 * nq)) (now («new_labels» .exit)) ⌝ }
 {

@@ -151,20 +151,20 @@ module _ (Q : List ℕ) (n : ℕ) where
 -- ---- joins
 
 module _ {A B : Type 0} (f : A → List B) where
-  join-append : (xs ys : List A) → joinOf f (xs ++ ys) ≡ joinOf f xs ++ joinOf f ys
+  pub join-append : (xs ys : List A) → joinOf f (xs ++ ys) ≡ joinOf f xs ++ joinOf f ys
   unfolding joinOf
   join-append [] ys = refl
   join-append (x ∷ xs) ys = rw (join-append xs ys) (sym (append-assoc (f x) (joinOf f xs) (joinOf f ys)))
 
-  join-to : (g : ℕ → List A) (n : ℕ) → joinOf f (joinTo g n) ≡ joinTo (λ i. joinOf f (g i)) n
+  pub join-to : (g : ℕ → List A) (n : ℕ) → joinOf f (joinTo g n) ≡ joinTo (λ i. joinOf f (g i)) n
   unfolding joinOf joinTo
   join-to g zero = refl
   join-to g (suc n) = join-append (joinTo g n) (g n) ∙ rw (join-to g n)
 
-join-ext : {A : Type 0} (f g : ℕ → List A) (n : ℕ) → ((i : ℕ) → f i ≡ g i) → joinTo f n ≡ joinTo g n
+pub join-ext : {A : Type 0} (f g : ℕ → List A) (n : ℕ) → ((i : ℕ) → i < n → f i ≡ g i) → joinTo f n ≡ joinTo g n
 unfolding joinTo
 join-ext f g zero h = refl
-join-ext f g (suc n) h = rw (join-ext f g n h, h n)
+join-ext f g (suc n) h = rw (join-ext f g n (λ i l. h i (omega arith)), h n (omega arith))
 
 -- a sort joins its buckets
 sort-join : {A : Type 0} (key : A → ℕ) (n : ℕ) (xs : List A) → sortBy key n xs ≡ joinTo (λ k. bucket key k xs) n
@@ -177,7 +177,7 @@ pub sort-runs : (np nq : ℕ) (Q : List ℕ) → sortBy (smaller Q) np (sortBy (
 unfolding edgesOf
 sort-runs np nq Q =
     sort-join (smaller Q) np (sortBy (larger Q) np (allCorners nq))
-    ∙ join-ext _ _ np (λ a.
+    ∙ join-ext _ _ np (λ a _.
     bucket-sort (smaller Q) (larger Q) a np (allCorners nq) ∙ sort-join (larger Q) np (bucket (smaller Q) a (allCorners nq))
-    ∙ join-ext _ _ np (λ b. sym (edge-if Q nq a b)) ∙ sym (join-to (edgeCorners Q nq) (edgeIf (quadsOf nq Q) a) np))
+    ∙ join-ext _ _ np (λ b _. sym (edge-if Q nq a b)) ∙ sym (join-to (edgeCorners Q nq) (edgeIf (quadsOf nq Q) a) np))
     ∙ sym (join-to (edgeCorners Q nq) (edgesFrom np (quadsOf nq Q)) np)

@@ -1,7 +1,2 @@
--- The laws of this crate: `Sums` of loops that sum over a part of the work slice, `CreaseLoop` of the loop over the creases at a point,
--- `Landing` of the projection in place, `Quads` of the quads of an edge and of a point, `Pairs` of the ends of the edges and their second corners.
-pub mod Sums
-pub mod CreaseLoop
+-- The laws of this crate: `Landing` of the projection in place.
 pub mod Landing
-pub mod Quads
-pub mod Pairs

@@ -1,224 +1,28 @@
-// The finer sheet with its points smoothed by Catmull and Clark's rule, with creases between labels, and then projected.
+// The finer sheet with its points smoothed and then projected.
 
 use band::Band;
-use points::Point;
 use projection::LONGEST_MOVE;
 use projection::LOOKS;
 use projection::Projected;
+use results::Made;
+use sheet::Counts;
+use sheet::Verdict;
 ghost use mathlib.Core.Path.{_≡_};
-ghost use mathlib.Core.Bool.{Bool, true, false, cond};
-ghost use mathlib.Core.List.{map};
-ghost use Prim.Native.Nat.{ℕ, _+_, _*_, _/_, _<_, _≤_};
-ghost use lib.ListN.{length, getD};
-ghost use Rattle.lists.specs.Sort.{tabulate};
+ghost use mathlib.Core.Bool.{true};
+ghost use Prim.Native.Nat.{_*_, _≤_};
+ghost use lib.ListN.{length, replicate};
+ghost use Rattle.numeric.specs.Num.{zeroF};
 ghost use Rattle.lists.specs.Every.{every};
-ghost use Rattle.lists.specs.Regions.{part, Out, Kept};
-ghost use Rattle.points.specs.Points.{pointAt};
-ghost use Rattle.sheet.specs.Flat.{quadAt};
-ghost use Rattle.sheet.specs.Sheet.{flatPoints};
-ghost use Rattle.results.specs.Results.{Front};
-ghost use Rattle.smoothing.specs.Smooth.{sumOf};
-ghost use Rattle.smoothing.specs.Rounded.{pointwise};
-ghost use Rattle.refine.specs.Loops.{Held};
-ghost use Rattle.subdivide.specs.Subdivide.{centreOf};
-ghost use Rattle.subdivide.specs.Steps.{onesOf, Below, endAt, Pairing, Seconds, cornerCentre, otherEnd, halfwayTo, creaseAt, creasesOf, withCrease, creaseEnds, Masked, landsOf, landedTo};
+ghost use Rattle.sheet.specs.Sheet.{flatPoints, sheetOf, sheetVerdict, LentSheet};
+ghost use Rattle.results.specs.Results.{Leaves, Fills, Front};
+ghost use Rattle.refine.specs.Finer.{afterLent};
+ghost use Rattle.subdivide.specs.Subdivide.{projected, subdivided, subdivideRule};
+ghost use Rattle.subdivide.specs.Steps.{Masked, landsOf, landedTo, Tested};
 
-// The crease edges at a point: how many there are, and where the first two lead.
-pub struct Creases {
-    pub count: usize,
-    pub first: usize,
-    pub second: usize,
-}
+// The numbers of refusals: an edge without exactly two quads, and a point whose projection fails.
+pub const EDGE: u32 = 8;
 
-// How many bits of a mask of eight are set.
-fn ones(m: u32) -> u32
-    ensures { λ r. ⌜ r ≡ onesOf m ⌝ }
-{
-    m % 2 + m / 2 % 2 + m / 4 % 2 + m / 8 % 2 + m / 16 % 2 + m / 32 % 2 + m / 64 % 2 + m / 128 % 2
-}
-
-// The end of an edge at place i: its smaller point at even places, its larger one at odd places.
-fn end_at(quads: &[u32], nq: usize, order: usize, i: usize, w: &[u32]) -> u32
-    requires { ⌜ 4 * nq ≤ length (now quads) ⌝ }
-    requires { ⌜ Below (4 * nq) order (4 * nq) (now w) ⌝ }
-    requires { ⌜ i < 4 * nq ⌝ }
-    ensures { λ r. ⌜ r ≡ endAt (now (quads .entry)) (part order (4 * nq) (now (w .entry))) i ⌝ }
-{
-    let c = lists::at(w, order + i);
-    let a = quads[c];
-    let b = quads[c / 4 * 4 + (c + 1) % 4];
-    if i % 2 == 0 {
-        return if a <= b { a } else { b };
-    }
-    if a <= b { b } else { a }
-}
-
-// The ends of all edges, two to an edge.
-fn put_ends(quads: &[u32], nq: usize, order: usize, w: &[u32], ends: &mut [u32])
-    requires { ⌜ 4 * nq ≤ length (now quads) ⌝ }
-    requires { ⌜ Below (4 * nq) order (4 * nq) (now w) ⌝ }
-    requires { ⌜ 4 * nq ≤ length (now ends) ⌝ }
-    ensures { λ _. ⌜ Front (tabulate (endAt (now (quads .entry)) (part order (4 * nq) (now (w .entry)))) (4 * nq)) (now (ends .exit)) ⌝ }
-{
-    let mut i = 0;
-    while i < 4 * nq {
-        ends[i] = end_at(quads, nq, order, i, w);
-        i += 1;
-    }
-}
-
-// Notes, for the first corner of each edge, the second one.
-fn put_seconds(nq: usize, order: usize, second: usize, w: &mut [u32])
-    requires { ⌜ Pairing nq order second (part order (4 * nq) (now w)) (now w) ⌝ }
-    ensures { λ _. ⌜ Seconds second (part order (4 * nq) (now (w .entry))) (2 * nq) (now (w .exit)) ⌝ }
-    ensures { λ _. ⌜ Kept (Out second (4 * nq)) (now (w .entry)) (now (w .exit)) ⌝ }
-{
-    let mut k = 0;
-    while k < 2 * nq {
-        let c = lists::at(w, order + 2 * k);
-        w[second + c] = w[order + (2 * k + 1)];
-        k += 1;
-    }
-}
-
-// The centre of quad q.
-fn centre_at(points: &[f64], quads: &[u32], np: usize, nq: usize, q: usize) -> Point
-    requires { ⌜ Held np nq (now points) (now quads) ⌝ }
-    requires { ⌜ q < nq ⌝ }
-    ensures { λ r. ⌜ r ≡ centreOf (pointAt (now (points .entry))) (quadAt (now (quads .entry)) q) ⌝ }
-{
-    let a = refine::corner_point(points, quads, np, nq, q, 0);
-    let b = refine::corner_point(points, quads, np, nq, q, 1);
-    let c = refine::corner_point(points, quads, np, nq, q, 2);
-    let d = refine::corner_point(points, quads, np, nq, q, 3);
-    smoothing::centre(a, b, c, d)
-}
-
-// The sum of the centres of the quads of the m corners at from.
-fn sum_centres(
-    points: &[f64],
-    quads: &[u32],
-    np: usize,
-    nq: usize,
-    from: usize,
-    m: usize,
-    w: &[u32],
-) -> Point
-    requires { ⌜ Held np nq (now points) (now quads) ⌝ }
-    requires { ⌜ Below (4 * nq) from m (now w) ⌝ }
-    ensures { λ r. ⌜ r ≡ sumOf pointwise (map (cornerCentre (now (points .entry)) (now (quads .entry))) (part from m (now (w .entry)))) ⌝ }
-{
-    let mut sum = smoothing::origin();
-    let mut j = 0;
-    while j < m {
-        let c = lists::at(w, from + j);
-        sum = points::add(sum, centre_at(points, quads, np, nq, c / 4));
-        j += 1;
-    }
-    sum
-}
-
-// The other end of the edge whose end stands at place i of the ends of edges.
-fn other_end(ends: &[u32], i: usize) -> usize
-    requires { ⌜ i / 2 * 2 + 1 < length (now ends) ⌝ }
-    ensures { λ r. ⌜ r ≡ otherEnd (now (ends .entry)) i ⌝ }
-{
-    lists::at(ends, i / 2 * 2 + (i + 1) % 2)
-}
-
-// The sum of the halfway points from p to the other ends of the edges at the m places at from.
-fn sum_halfways(
-    p: Point,
-    points: &[f64],
-    ends: &[u32],
-    np: usize,
-    nq: usize,
-    from: usize,
-    m: usize,
-    w: &[u32],
-) -> Point
-    requires { ⌜ Held np nq (now points) (now ends) ⌝ }
-    requires { ⌜ Below (4 * nq) from m (now w) ⌝ }
-    ensures { λ r. ⌜ r ≡ sumOf pointwise (map (halfwayTo p (now (points .entry)) (now (ends .entry))) (part from m (now (w .entry)))) ⌝ }
-{
-    let mut sum = smoothing::origin();
-    let mut j = 0;
-    while j < m {
-        let i = lists::at(w, from + j);
-        let q = points::point_at(points, other_end(ends, i));
-        sum = points::add(sum, points::halfway(p, q));
-        j += 1;
-    }
-    sum
-}
-
-// The one or the other.
-fn pick(test: bool, a: usize, b: usize) -> usize
-    ensures { λ r. ⌜ r ≡ cond test a b ⌝ }
-{
-    if test { a } else { b }
-}
-
-// One more crease, if there is one.
-fn with_crease(c: Creases, test: bool, u: usize) -> Creases
-    requires { ⌜ c .count < 4294967296 ⌝ }
-    ensures { λ r. ⌜ r ≡ cond test (withCrease c u) c ⌝ }
-{
-    if !test {
-        return c;
-    }
-    let count = c.count;
-    let first = pick(count == 0, u, c.first);
-    let second = pick(count == 1, u, c.second);
-    Creases {
-        count: count + 1,
-        first,
-        second,
-    }
-}
-
-// Whether the edge whose end stands at place i is a crease, by its two corners in the order of edges.
-fn is_crease(labels: &[u8], nq: usize, order: usize, i: usize, w: &[u32]) -> bool
-    requires { ⌜ nq ≤ length (now labels) ⌝ }
-    requires { ⌜ Below (4 * nq) order (4 * nq) (now w) ⌝ }
-    requires { ⌜ i < 4 * nq ⌝ }
-    ensures { λ r. ⌜ r ≡ creaseAt (now (labels .entry)) (part order (4 * nq) (now (w .entry))) i ⌝ }
-{
-    let c = lists::at(w, order + i / 2 * 2);
-    let d = lists::at(w, order + (i / 2 * 2 + 1));
-    lists::byte_at(labels, c / 4) != lists::byte_at(labels, d / 4)
-}
-
-// The creases among the edges at the m places at from.
-fn creases_at(
-    labels: &[u8],
-    ends: &[u32],
-    nq: usize,
-    order: usize,
-    from: usize,
-    m: usize,
-    w: &[u32],
-) -> Creases
-    requires { ⌜ nq ≤ length (now labels) ⌝ }
-    requires { ⌜ 4 * nq ≤ length (now ends) ⌝ }
-    requires { ⌜ Below (4 * nq) order (4 * nq) (now w) ⌝ }
-    requires { ⌜ Below (4 * nq) from m (now w) ⌝ }
-    requires { ⌜ m < 4294967296 ⌝ }
-    ensures { λ r. ⌜ r ≡ creasesOf (creaseEnds (now (labels .entry)) (part order (4 * nq) (now (w .entry))) (now (ends .entry)) (part from m (now (w .entry)))) ⌝ }
-{
-    let mut c = Creases {
-        count: 0,
-        first: 0,
-        second: 0,
-    };
-    let mut j = 0;
-    while j < m {
-        let i = lists::at(w, from + j);
-        c = with_crease(c, is_crease(labels, nq, order, i, w), other_end(ends, i));
-        j += 1;
-    }
-    c
-}
+pub const ASTRAY: u32 = 9;
 
 // Projects the first n points, each by its mask; whether all projections succeed.
 fn project_points(b: Band, n: usize, masks: &[u32], points: &mut [f64]) -> bool
@@ -246,4 +50,144 @@ fn project_points(b: Band, n: usize, masks: &[u32], points: &mut [f64]) -> bool
         v += 1;
     }
     true
+}
+
+// Tests the sheet in the result slices and projects its points.
+fn land(
+    b: Band,
+    c: Counts,
+    points: &mut [f64],
+    quads: &[u32],
+    labels: &[u8],
+    w: &mut [u32],
+) -> Made
+    requires { ⌜ LentSheet c (length (now points)) (length (now quads)) (length (now labels)) ⌝ }
+    requires { ⌜ c .points ≤ length (now w) ⌝ }
+    ensures { λ r. ⌜ Fills (afterLent (sheetVerdict b (sheetOf c (now (points .entry)) (now (quads .entry)) (now (labels .entry)))) (projected b (sheetOf c (now (points .entry)) (now (quads .entry)) (now (labels .entry))))) r (now (points .exit)) (now (quads .entry)) (now (labels .entry)) ⌝ }
+{
+    let n = c.points;
+    let v = sheet::constraints(b, c, points, quads, labels, &mut w[..n]);
+    if let Verdict::Refused(k) = v {
+        return Made::Refused(k);
+    }
+    if project_points(b, n, &w[..n], points) {
+        return Made::Done(c);
+    }
+    Made::Refused(ASTRAY)
+}
+
+// Subdivides a sheet that the tests accept, its masks in the work slice.
+fn subdivide_tested(
+    b: Band,
+    c: Counts,
+    points: &[f64],
+    quads: &[u32],
+    labels: &[u8],
+    new_points: &mut [f64],
+    new_quads: &mut [u32],
+    new_labels: &mut [u8],
+    w: &mut [u32],
+) -> Made
+    requires { ⌜ Tested c (length (now points)) (now quads) (now labels) (now w) ⌝ }
+    ensures { λ r. ⌜ Fills (subdivided b (sheetOf c (now (points .entry)) (now (quads .entry)) (now (labels .entry))) (length (now («new_points» .entry))) (length (now («new_quads» .entry))) (length (now («new_labels» .entry)))) r (now («new_points» .exit)) (now («new_quads» .exit)) (now («new_labels» .exit)) ⌝ }
+{
+    let np = c.points;
+    let nq = c.quads;
+    let made = Counts {
+        points: refine::number_sheet(np, nq, quads, w),
+        quads: 4 * nq,
+        labels: 4 * nq,
+    };
+    if sheet::is_large(made) {
+        return Made::Refused(sheet::SHORT);
+    }
+    if sheet::is_short(made, new_points.len(), new_quads.len(), new_labels.len()) {
+        return Made::Refused(sheet::SHORT);
+    }
+    if smoothed::is_paired(np, nq, quads, w) {
+        smoothed::put_smoothed(
+            np,
+            nq,
+            points,
+            quads,
+            labels,
+            w,
+            new_points,
+            new_quads,
+            new_labels,
+        );
+        return land(b, made, new_points, new_quads, new_labels, w);
+    }
+    Made::Refused(EDGE)
+}
+
+// The subdivided sheet, or the first refusal; the slices behind it may hold anything.
+fn subdivide_or_refusal(
+    b: Band,
+    c: Counts,
+    points: &[f64],
+    quads: &[u32],
+    labels: &[u8],
+    new_points: &mut [f64],
+    new_quads: &mut [u32],
+    new_labels: &mut [u8],
+    w: &mut [u32],
+    floats: usize,
+) -> Made
+    ensures { λ r. ⌜ Fills (subdivideRule b c (now (points .entry)) (now (quads .entry)) (now (labels .entry)) (length (now (w .entry))) floats (length (now («new_points» .entry))) (length (now («new_quads» .entry))) (length (now («new_labels» .entry)))) r (now («new_points» .exit)) (now («new_quads» .exit)) (now («new_labels» .exit)) ⌝ }
+{
+    let v = sheet::lent(c, points.len(), quads.len(), labels.len(), w.len(), floats);
+    if let Verdict::Refused(n) = v {
+        return Made::Refused(n);
+    }
+    let m = smoothed::MASKS * (c.points + c.quads);
+    let t = sheet::constraints(b, c, points, quads, labels, &mut w[m..m + c.points]);
+    if let Verdict::Refused(n) = t {
+        return Made::Refused(n);
+    }
+    subdivide_tested(
+        b,
+        c,
+        points,
+        quads,
+        labels,
+        new_points,
+        new_quads,
+        new_labels,
+        w,
+    )
+}
+
+// Subdivides a sheet: the finer sheet with its points smoothed and projected onto the band. The sheet goes to the result slices, the answer has its counts.
+pub fn subdivide(
+    b: Band,
+    c: Counts,
+    points: &[f64],
+    quads: &[u32],
+    labels: &[u8],
+    new_points: &mut [f64],
+    new_quads: &mut [u32],
+    new_labels: &mut [u8],
+    work: &mut [u32],
+    floats: &mut [f64],
+) -> Made
+    ensures { λ r. ⌜ Leaves (subdivideRule b c (now (points .entry)) (now (quads .entry)) (now (labels .entry)) (length (now (work .entry))) (length (now (floats .entry))) (length (now («new_points» .entry))) (length (now («new_quads» .entry))) (length (now («new_labels» .entry)))) (length (now («new_points» .entry))) (length (now («new_quads» .entry))) (length (now («new_labels» .entry))) r (now («new_points» .exit)) (now («new_quads» .exit)) (now («new_labels» .exit)) ⌝ }
+    ensures { λ _. ⌜ now (work .exit) ≡ replicate (length (now (work .entry))) 0 ⌝ }
+    ensures { λ _. ⌜ now (floats .exit) ≡ replicate (length (now (floats .entry))) zeroF ⌝ }
+{
+    let r = subdivide_or_refusal(
+        b,
+        c,
+        points,
+        quads,
+        labels,
+        new_points,
+        new_quads,
+        new_labels,
+        work,
+        floats.len(),
+    );
+    results::clear_unused(results::shown_counts(r), new_points, new_quads, new_labels);
+    results::clear_work(work, floats);
+    r
 }

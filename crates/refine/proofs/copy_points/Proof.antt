@@ -1,12 +1,14 @@
 -- `refine::copy_points` meets its contract. Assumes nothing.
 use native.Mathlib.Omega.{arith}
 use Prim.Native.Nat.{_-_}
+use Rattle.points.specs.Points.{pointAt}
+use Rattle.sheet.specs.Sheet.{pointsOf}
 use Rattle.refine.proofs.Loops.{OldLoop, old-start, old-turn, old-end}
 use Rattle.refine.proofs.copy_points.Statement.{statement}
 use Rattle.refine.proofs.copy_points.Tie as tie
 
 abbrev Inv-loop : tie.InvT-loop
-Inv-loop n points out₀ v₀ out v = OldLoop n points out₀ out v
+Inv-loop n points out₀ v₀ out v = OldLoop (pointAt points) n out₀ out v
 
 abbrev μ-loop : tie.MeasureT-loop
 μ-loop n points out₀ v₀ out v = n - v
@@ -34,6 +36,7 @@ same-length : tie.Need-same-length Inv-loop μ-loop
 same-length c = c .before .loop .inv .len
 
 returns : tie.Need-returns Inv-loop μ-loop
+unfolding pointsOf
 returns c = old-end (c .before .loop .inv) (omega arith)
 
 pub copy-points-spec : {M : Type 1} → statement M

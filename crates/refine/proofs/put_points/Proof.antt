@@ -1,19 +1,23 @@
 -- `refine::put_points` meets its contract. Assumes nothing.
 use native.Mathlib.Omega.{arith}
 use Prim.Native.Nat.{_*_, _-_}
+use Rattle.points.specs.Points.{pointAt}
 use Rattle.lists.specs.Regions.{part}
+use Rattle.sheet.specs.Sheet.{pointsOf}
+use Rattle.sheet.proofs.Tests.{length-points}
+use Rattle.refine.specs.Requests.{positionAt}
 use Rattle.refine.proofs.Loops.{PointLoop, points-start, points-turn, points-end, writing-same}
 use Rattle.refine.proofs.put_points.Statement.{statement}
 use Rattle.refine.proofs.put_points.Tie as tie
 
 abbrev Inv-loop : tie.InvT-loop
-Inv-loop np nq points quads first num w out₀ t₀ out t = PointLoop np (5 * nq) points quads (part first (5 * nq) w) out₀ out t
+Inv-loop np nq points quads first num w out₀ t₀ out t = PointLoop np (5 * nq) (pointsOf np points) (positionAt (pointAt points) quads) (part first (5 * nq) w) out₀ out t
 
 abbrev μ-loop : tie.MeasureT-loop
 μ-loop np nq points quads first num w out₀ t₀ out t = 5 * nq - t
 
 loop-holds : tie.Need-loop-holds Inv-loop μ-loop
-loop-holds c = points-start _ _ _ _ _ _ (c .before .before .before .before .pre .1 .1)
+loop-holds c = points-start _ _ _ _ _ (length-points _ _) (c .before .before .before .before .pre .1 .1)
 
 mul-loop : tie.Need-mul-loop Inv-loop μ-loop
 mul-loop c = omega (arith, c .before .before .before .before .before .pre .0 .held .cornered .few)

@@ -2,6 +2,8 @@
 use native.Mathlib.Omega.{arith}
 use borrow.Author.Needs.{needs}
 use Prim.Native.Nat.{_+_}
+use Rattle.points.specs.Points.{pointAt}
+use Rattle.refine.specs.Requests.{positionAt}
 use Rattle.refine.proofs.Loops.{writing-room, put-yes, put-no}
 use Rattle.refine.proofs.put_request.Statement.{statement}
 use Rattle.refine.proofs.put_request.Tie as tie
@@ -37,10 +39,10 @@ returns : tie.Need-returns
 returns c = let a = c .before .before .before in
     let p = a .before .before in
     let s = p .before .before .before .before .before .before .before in
-    put-yes (s .pre .0) _ (s .pre .1) _ _ _ _ (p .before .if1 .taken) (a .at .ensures) (p .position .ensures) (c .before .before .put-point .ensures)
+    put-yes (s .pre .0) _ (s .pre .1) (positionAt (pointAt (s .args .points .now)) (s .args .quads .now)) _ _ _ _ (p .before .if1 .taken) (a .at .ensures) (p .position .ensures) (c .before .before .put-point .ensures)
 
 returns-2 : tie.Need-returns-2
-returns-2 c = let s = c .before .before .before .before .before .before in put-no (s .pre .0) _ (s .pre .1) _ (c .if1 .left)
+returns-2 c = let s = c .before .before .before .before .before .before in put-no (s .pre .0) _ (s .pre .1) (positionAt (pointAt (s .args .points .now)) (s .args .quads .now)) _ (c .if1 .left)
 
 pub put-request-spec : {M : Type 1} → statement M
 put-request-spec =

@@ -1,0 +1,94 @@
+-- A slice begins with the points and the quads that it is read as. Assumes nothing.
+use Prim.Native.Nat.{ℕ, zero, suc, _+_, _*_, _≤_, _<_}
+use mathlib.Core.Path.{_≡_, refl, sym, ap, _∙_, subst}
+use mathlib.Core.List.{List, [], _∷_}
+use native.Mathlib.Omega.{arith}
+use lib.ListN.{length, getD, take}
+use lib.Seq.{getD-take, set-getD}
+use lib.Ieee.{Float, nan}
+use Rattle.points.specs.declared.Point.{Point}
+use Rattle.points.specs.Points.{pointAt, withPoint}
+use Rattle.lists.specs.Sort.{tabulate}
+use Rattle.lists.proofs.Laws.{length-tab, tab-suc, is-table}
+use Rattle.sheet.specs.Quads.{Quad, quad}
+use Rattle.sheet.specs.Flat.{quadAt, quadsOf, flatQuads}
+use Rattle.sheet.specs.Sheet.{pointsOf, flatPoints}
+use Rattle.results.specs.Results.{Front}
+use Rattle.results.proofs.Results.{length-flat-points, length-flat-quads}
+use Rattle.refine.specs.Requests.{withQuad}
+use Rattle.refine.specs.Finer.{origin}
+use Rattle.refine.proofs.Loops.{front-none, front-point, front-quad}
+
+-- ---- what is read is at the front
+
+same-point : (P : List Float) (v : ℕ) → withPoint P v (pointAt P v) ≡ P
+unfolding withPoint pointAt
+same-point P v = rw (set-getD P (v * 3) nan, set-getD P (v * 3 + 1) nan) (set-getD P (v * 3 + 2) nan)
+
+pub front-points : (n : ℕ) (P : List Float) → 3 * n ≤ length P → Front (flatPoints (pointsOf n P)) P
+unfolding pointsOf tabulate flatPoints
+front-points zero P h = front-none P
+front-points (suc n) P h =
+    subst (λ (s : List Float). Front (flatPoints (pointsOf (suc n) P)) s) (same-point P n)
+    (front-point (tabulate (pointAt P) n) n (pointAt P n) (front-points n P (omega arith)) (sym (length-tab (pointAt P) n)) (omega arith))
+
+same-quad : (Q : List ℕ) (q : ℕ) → withQuad Q q (quadAt Q q) ≡ Q
+same-quad Q q =
+    let z : 4 * q + 0 ≡ 4 * q = omega arith in
+    rw (z, set-getD Q (4 * q) 0, set-getD Q (4 * q + 1) 0, set-getD Q (4 * q + 2) 0) (set-getD Q (4 * q + 3) 0)
+
+pub front-quads : (n : ℕ) (Q : List ℕ) → 4 * n ≤ length Q → Front (flatQuads (quadsOf n Q)) Q
+unfolding quadsOf tabulate flatQuads
+front-quads zero Q h = front-none Q
+front-quads (suc n) Q h =
+    subst (λ (s : List ℕ). Front (flatQuads (quadsOf (suc n) Q)) s) (same-quad Q n)
+    (front-quad (tabulate (quadAt Q) n) n (quadAt Q n) (front-quads n Q (omega arith)) (sym (length-tab (quadAt Q) n)) (omega arith))
+
+-- ---- what is at the front is read
+
+-- an element of the front
+front-get : {A : Type 0} (d : A) (l s : List A) (i : ℕ) → Front l s → i < length l → getD s i d ≡ getD l i d
+front-get {A} d l s i F h = sym (getD-take (length l) s i d h) ∙ ap (λ (k : List A). getD k i d) (F .is)
+
+flat-at : (ps : List Point) (v : ℕ) → v < length ps → pointAt (flatPoints ps) v ≡ getD ps v origin
+unfolding pointAt flatPoints
+flat-at [] v h = absurd (omega arith)
+flat-at (p ∷ ps) zero h = refl
+flat-at (p ∷ ps) (suc v) h =
+    let a : suc v * 3 ≡ suc (suc (suc (v * 3))) = omega arith in
+    let b : suc v * 3 + 1 ≡ suc (suc (suc (v * 3 + 1))) = omega arith in
+    let c : suc v * 3 + 2 ≡ suc (suc (suc (v * 3 + 2))) = omega arith in
+    rw (b, c, a) (flat-at ps v (omega arith))
+
+pub points-front : (ps : List Point) (P : List Float) (n : ℕ) → Front (flatPoints ps) P → length ps ≡ n → pointsOf n P ≡ ps
+unfolding pointsOf pointAt
+points-front ps P n F e = sym (is-table origin ps (pointAt P) n e (λ v h. sym (at v h)))
+  where
+    at : (v : ℕ) → v < n → pointAt P v ≡ getD ps v origin
+    at v h =
+        let l = length-flat-points ps in
+        rw (front-get nan (flatPoints ps) P (v * 3) F (omega arith), front-get nan (flatPoints ps) P (v * 3 + 1) F (omega arith), front-get nan (flatPoints ps) P (v * 3 + 2) F (omega arith)) (flat-at ps v (omega arith))
+
+-- the quad that stands for one out of range
+abbrev noQuad : Quad
+noQuad = quad 0 0 0 0
+
+flat-quad-at : (S : List Quad) (q : ℕ) → q < length S → quadAt (flatQuads S) q ≡ getD S q noQuad
+unfolding flatQuads
+flat-quad-at [] q h = absurd (omega arith)
+flat-quad-at (quad a b c d ∷ S) zero h = refl
+flat-quad-at (quad a b c d ∷ S) (suc q) h =
+    let e : 4 * suc q + 0 ≡ suc (suc (suc (suc (4 * q + 0)))) = omega arith in
+    let f : 4 * suc q + 1 ≡ suc (suc (suc (suc (4 * q + 1)))) = omega arith in
+    let g : 4 * suc q + 2 ≡ suc (suc (suc (suc (4 * q + 2)))) = omega arith in
+    let k : 4 * suc q + 3 ≡ suc (suc (suc (suc (4 * q + 3)))) = omega arith in
+    rw (e, f, g, k) (flat-quad-at S q (omega arith))
+
+pub quads-front : (S : List Quad) (Q : List ℕ) (n : ℕ) → Front (flatQuads S) Q → length S ≡ n → quadsOf n Q ≡ S
+unfolding quadsOf
+quads-front S Q n F e = sym (is-table noQuad S (quadAt Q) n e (λ q h. sym (at q h)))
+  where
+    at : (q : ℕ) → q < n → quadAt Q q ≡ getD S q noQuad
+    at q h =
+        let l = length-flat-quads S in
+        rw (front-get 0 (flatQuads S) Q (4 * q + 0) F (omega arith), front-get 0 (flatQuads S) Q (4 * q + 1) F (omega arith), front-get 0 (flatQuads S) Q (4 * q + 2) F (omega arith), front-get 0 (flatQuads S) Q (4 * q + 3) F (omega arith)) (flat-quad-at S q (omega arith))
