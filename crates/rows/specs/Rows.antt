@@ -178,16 +178,19 @@ rowsSheet b s = record {
   labels = s .labels ++ map labelOf (rowSides s);
 }
 
--- "Result 13 comes next, for more points or quads than the result slices or the limit hold." Then "boundary_rows 10, 8, 7": the sheet with rows is tested
--- as the lent one was, as in 000; of these tests only 7 can fail.
+-- "boundary_rows 10, 8, 7": the sheet with rows is tested as the lent one was, as in 000; of these tests only 7 can fail
+unfoldable pub rowsMade : Band → Sheet → Outcome
+rowsMade b s =
+    let t = rowsSheet b s in
+    cond (all (λ k. isFound (copyOf b s k)) (copies s))
+    (cond (paired (length (s .points)) (s .quads)) (afterLent (sheetVerdict b t) (makes t)) (refuses edge))
+    (refuses row)
+
+-- "Result 13 comes next, for more points or quads than the result slices or the limit hold."
 unfoldable pub rowed : Band → Sheet → ℕ → ℕ → ℕ → Outcome
 rowed b s p q l =
-    let t = rowsSheet b s in
-    let c = countsOf t in
-    cond (isLarge c || isShort c p q l) (refuses short)
-    (cond (all (λ k. isFound (copyOf b s k)) (copies s))
-    (cond (paired (length (s .points)) (s .quads)) (afterLent (sheetVerdict b t) (makes t)) (refuses edge))
-    (refuses row))
+    let c = countsOf (rowsSheet b s) in
+    cond (isLarge c || isShort c p q l) (refuses short) (rowsMade b s)
 
 -- `boundary_rows` of the sheet in lent slices, with work of w and f elements, into result slices of p, q and l elements: 12, 13, 1, 5, 6, 7, 13, 10, 8, 7
 unfoldable pub rowsRule : Band → Counts → List Float → List ℕ → List ℕ → ℕ → ℕ → ℕ → ℕ → ℕ → Outcome

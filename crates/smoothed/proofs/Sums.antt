@@ -23,7 +23,7 @@ part-suc d from j w h =
     let l : length (drop from w) ≡ length w - from = length-drop from w in
     rw (add-one j, take-suc (drop from w) j d (omega arith), getD-drop from w j d)
 
-fold-snoc : {A B : Type 0} (f : B → A → B) (z : B) (l : List A) (x : A) → foldl f z (l ++ (x ∷ [])) ≡ f (foldl f z l) x
+pub fold-snoc : {A B : Type 0} (f : B → A → B) (z : B) (l : List A) (x : A) → foldl f z (l ++ (x ∷ [])) ≡ f (foldl f z l) x
 fold-snoc f z [] x = refl
 fold-snoc f z (y ∷ l) x = fold-snoc f (f z y) l x
 
