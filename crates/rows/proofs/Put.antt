@@ -104,8 +104,8 @@ module _ (b : Band) (np nq : ℕ) (P : List Float) (Q labels M : List ℕ) where
             all = every-suc foundBy k (I .all) (sym et ∙ e);
           }
 
-  pub copies-fail : {d s : List Float} {k : ℕ} (t : Bool) → CopyLoop d s k → k < 8 * np → t ≡ foundBy k → t ≡ false → (false ≡ every foundBy (8 * np)) × (false ≡ true → Front (flatPoints (pointsOf np P ++ copiesTo b nq P Q labels M (8 * np))) s)
-  copies-fail {d} {s} {k} t I h et e = (sym (every-fails foundBy (8 * np) k h (sym et ∙ e)), λ q. absurd (true≢false (sym q)))
+  pub copies-fail : {d s : List Float} {k : ℕ} (t : Bool) (z : List Float) → CopyLoop d s k → k < 8 * np → t ≡ foundBy k → t ≡ false → (false ≡ every foundBy (8 * np)) × (false ≡ true → Front (flatPoints (pointsOf np P ++ copiesTo b nq P Q labels M (8 * np))) z)
+  copies-fail {d} {s} {k} t z I h et e = (sym (every-fails foundBy (8 * np) k h (sym et ∙ e)), λ q. absurd (true≢false (sym q)))
 
   pub copies-end : {d s : List Float} {k : ℕ} → CopyLoop d s k → 8 * np ≤ k → (true ≡ every foundBy (8 * np)) × (true ≡ true → Front (flatPoints (pointsOf np P ++ copiesTo b nq P Q labels M (8 * np))) s)
   copies-end {d} {s} {k} I h = let e : k ≡ 8 * np = omega (arith, I .k≤) in (sym (rw e at (I .all)), λ q. rw e at (I .front))

@@ -52,6 +52,10 @@ front-behind {A} {l} {m} {s} {y} a F e G n =
     take-more [] y n = let e : 0 + n ≡ n = omega arith in rw e
     take-more (x ∷ l) y n = let e : suc (length l) + n ≡ suc (length l + n) = omega arith in rw (e, take-more l y n)
 
+-- a part to the end has room
+pub end-room : {A : Type 0} (a n m : ℕ) (s : List A) → length s ≡ n → a + m ≤ n → m ≤ length (midOf a (length s - a) s)
+end-room a n m s e h = omega (arith, length-end a s)
+
 -- ---- the three slices
 
 flat-append : (S T : List Quad) → flatQuads (S ++ T) ≡ flatQuads S ++ flatQuads T

@@ -1,9 +1,10 @@
 -- The stages of the gathering: the corners by edges and by points, the numbers of the copies, the corners at which strips run. Assumes nothing.
-use Prim.Native.Nat.{ℕ, _+_, _*_, _≤_, _<_}
+use Prim.Native.Nat.{ℕ, zero, suc, _+_, _*_, _≤_, _<_}
 use mathlib.Core.Path.{_≡_, refl, sym, ap, _∙_}
-use mathlib.Core.List.{List}
+use mathlib.Core.Bool.{Bool, true, false, cond}
+use mathlib.Core.List.{List, [], _∷_}
 use native.Mathlib.Omega.{arith}
-use lib.ListN.{length}
+use lib.ListN.{length, getD, length-append}
 use Rattle.lists.specs.Sort.{tabulate}
 use Rattle.lists.specs.Regions.{part, Part, Out, Out3, Apart, Kept, Three}
 use Rattle.lists.proofs.Regions.{part-kept, part-of}
@@ -12,11 +13,21 @@ use Rattle.sheet.specs.Edges.{joinTo}
 use Rattle.incidence.specs.Corners.{Cornered, edgeOrder, cornersAt, firstAt}
 use Rattle.incidence.specs.Marks.{Incident}
 use Rattle.refine.specs.Loops.{orderAt}
-use Rattle.rows.specs.Steps.{numberIn, seamsTo, seamsOf, startsAt, listAt, masksAt, numbersAt, seamsAt, countsAfter, Worked, Seaming, Gathering}
+use Rattle.rows.specs.Steps.{numberIn, seamAt, seamCorners, seamsTo, seamsOf, startsAt, listAt, masksAt, numbersAt, seamsAt, countsAfter, Worked, Seaming, Gathering}
 
 -- the corners at which strips run are few
-pub seams-few : {np nq : ℕ} {Q labels M u l w : List ℕ} → Gathering np nq Q labels M u → Part (seamsAt np nq) (length l) l w → length l ≤ length w
-seams-few G P = omega (arith, P .fits)
+seams-bound : (Q labels : List ℕ) (n : ℕ) (L : List ℕ) (i : ℕ) → length (seamsTo Q labels n L i) ≤ 2 * i
+unfolding seamsTo joinTo seamCorners
+seams-bound Q labels n L zero = omega arith
+seams-bound Q labels n L (suc i) = rw (length-append (joinTo (seamCorners Q labels n L) i) (seamCorners Q labels n L i)) (go (seamAt Q labels n L i) (seams-bound Q labels n L i))
+  where
+    go : (b : Bool) → length (joinTo (seamCorners Q labels n L) i) ≤ 2 * i → length (joinTo (seamCorners Q labels n L) i) + length (cond b (getD L i 0 ∷ getD L (i + 1) 0 ∷ []) []) ≤ 2 * suc i
+    go true h = omega arith
+    go false h = omega arith
+
+pub seams-few : (np nq : ℕ) (Q labels : List ℕ) → length (seamsOf np nq Q labels) ≤ 8 * nq
+unfolding seamsOf
+seams-few np nq Q labels = omega (arith, seams-bound Q labels (4 * nq) (edgeOrder np nq Q) (4 * nq))
 
 module _ {np nq : ℕ} {Q labels M u : List ℕ} (G : Gathering np nq Q labels M u) where
   pub order-room : Three (np + nq) (4 * nq) 0 np (orderAt np nq) (4 * nq) u

@@ -35,10 +35,10 @@ list-seams-requires : tie.Need-list-seams-requires
 list-seams-requires c κs = seaming (c .before .before .before .before .before .before .before .before .before .before .before .before .before .before .before .before .pre) (c .before .before .before .before .before .before .before .before .before .before .before .edge-order .ensures) (c .before .before .before .before .before .before .before .quads-at .ensures) (c .before .before .before .number-copies .ensures)
 
 add-t10 : tie.Need-add-t10
-add-t10 c = omega (arith, c .before .before .before .before .before .before .before .before .before .before .before .before .before .before .before .before .before .before .before .pre .cornered .few, seams-few (c .before .before .before .before .before .before .before .before .before .before .before .before .before .before .before .before .before .before .before .pre) (c .before .before .list-seams .ensures .1 .0))
+add-t10 c = let a = c .before .before .before .before .before .before .before .before .before .before .before .before .before .before .before .before .before .before .before .args in omega (arith, c .before .before .before .before .before .before .before .before .before .before .before .before .before .before .before .before .before .before .before .pre .cornered .few, c .before .before .list-seams .ensures .0, seams-few (a .np) (a .nq) (a .quads .now) (a .labels .now))
 
 add-t13 : tie.Need-add-t13
-add-t13 c = omega (arith, c .before .before .before .before .before .before .before .before .before .before .before .before .before .before .before .before .before .before .before .pre .cornered .few, seams-few (c .before .before .before .before .before .before .before .before .before .before .before .before .before .before .before .before .before .before .before .pre) (c .before .before .list-seams .ensures .1 .0))
+add-t13 c = let a = c .before .before .before .before .before .before .before .before .before .before .before .before .before .before .before .before .before .before .before .args in omega (arith, c .before .before .before .before .before .before .before .before .before .before .before .before .before .before .before .before .before .before .before .pre .cornered .few, c .before .before .list-seams .ensures .0, seams-few (a .np) (a .nq) (a .quads .now) (a .labels .now))
 
 same-length : tie.Need-same-length
 same-length c = search needs

@@ -4,6 +4,7 @@ use Prim.Native.Nat.{_-_, _*_}
 use Rattle.lists.specs.Regions.{part}
 use Rattle.rows.specs.Steps.{masksAt}
 use Rattle.rows.proofs.Put.{CopyLoop, copies-start, copies-turn, copies-fail, copies-end}
+use mathlib.Core.Path.{_∙_}
 use Rattle.rows.proofs.put_copies.Statement.{statement}
 use Rattle.rows.proofs.put_copies.Tie as tie
 
@@ -35,10 +36,10 @@ loop-again : tie.Need-loop-again Inv-loop μ-loop
 loop-again c = copies-turn _ _ _ _ _ _ _ _ _ (c .before .before .before .before .before .before .loop .inv) (c .before .before .before .before .before .loop-test .taken) (c .before .before .before .put-copy .ensures .0) (c .if1 .taken) (c .before .before .before .put-copy .ensures .1)
 
 same-length : tie.Need-same-length Inv-loop μ-loop
-same-length c = c .before .before .before .put-copy .kept .1 .1 .1 .1 .0
+same-length c = c .before .before .before .put-copy .kept .1 .1 .1 .1 .1 .1 .1 .1 .1 .0 ∙ c .before .before .before .before .before .before .loop .inv .len
 
 returns : tie.Need-returns Inv-loop μ-loop
-returns c = copies-fail _ _ _ _ _ _ _ _ (c .before .before .before .before .before .before .loop .inv) (c .before .before .before .before .before .loop-test .taken) (c .before .before .before .put-copy .ensures .0) (c .if1 .left)
+returns c = copies-fail _ _ _ _ _ _ _ _ _ (c .before .before .before .before .before .before .loop .inv) (c .before .before .before .before .before .loop-test .taken) (c .before .before .before .put-copy .ensures .0) (c .if1 .left)
 
 same-length-2 : tie.Need-same-length-2 Inv-loop μ-loop
 same-length-2 c = c .before .loop .inv .len

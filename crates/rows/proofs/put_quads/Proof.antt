@@ -2,8 +2,8 @@ use native.Mathlib.Omega.{arith}
 use borrow.Author.Needs.{needs}
 use Rattle.lists.proofs.Laws.{length-tab}
 use lib.Seq.{length-take-le}
-use Rattle.lists.proofs.Parts.{length-end}
 use Rattle.rows.proofs.Rule.{front-behind}
+use Rattle.rows.proofs.Rule.{end-room}
 use Rattle.rows.proofs.put_quads.Statement.{statement}
 use Rattle.rows.proofs.put_quads.Tie as tie
 
@@ -26,7 +26,7 @@ part-put-strips-end : tie.Need-part-put-strips-end
 part-put-strips-end c = search needs
 
 put-strips-requires : tie.Need-put-strips-requires
-put-strips-requires c κs = let p = c .before .before .before .before .before .before .before .before .before .before .before .pre in (p .0, (p .1 .0, omega (arith, p .1 .1 .0, length-end _ _, c .before .before .before .put-copied .kept)))
+put-strips-requires c κs = let p = c .before .before .before .before .before .before .before .before .before .before .before .pre in (p .0, (p .1 .0, end-room _ _ _ _ (c .before .before .before .put-copied .kept .1 .1 .1 .1 .1 .1 .0) (omega (arith, p .1 .1 .0))))
 
 copy-labels-requires : tie.Need-copy-labels-requires
 copy-labels-requires c κs = let p = c .before .before .before .before .before .before .before .before .before .before .before .before .before .before .before .pre in (p .0 .sheet .labelled, omega (arith, p .1 .1 .1))
@@ -41,7 +41,7 @@ part-put-strip-labels-end : tie.Need-part-put-strip-labels-end
 part-put-strip-labels-end c = search needs
 
 put-strip-labels-requires : tie.Need-put-strip-labels-requires
-put-strip-labels-requires c κs = let p = c .before .before .before .before .before .before .before .before .before .before .before .before .before .before .before .before .before .before .before .pre in (p .0, (p .1 .0, omega (arith, p .1 .1 .1, length-end _ _, c .before .before .before .copy-labels .kept)))
+put-strip-labels-requires c κs = let p = c .before .before .before .before .before .before .before .before .before .before .before .before .before .before .before .before .before .before .before .pre in (p .0, (p .1 .0, end-room _ _ _ _ (c .before .before .before .copy-labels .kept .1 .1 .0) (p .1 .1 .1)))
 
 same-length : tie.Need-same-length
 same-length c = search needs
@@ -50,7 +50,7 @@ same-length-2 : tie.Need-same-length-2
 same-length-2 c = search needs
 
 returns : tie.Need-returns
-returns c = let p = c .before .before .before .before .before .before .before .before .before .before .before .before .before .before .before .before .before .before .before .before .before .before .pre in (front-behind _ (c .before .before .before .before .before .before .before .before .before .before .before .before .before .before .put-copied .ensures) (length-tab _ _) (c .before .before .before .before .before .before .before .before .before .before .put-strips .ensures) (c .before .before .before .before .before .before .before .before .before .before .put-strips .kept .1 .1 .1 .1 .0), front-behind _ (c .before .before .before .before .before .before .copy-labels .ensures) (length-take-le _ _ (p .0 .sheet .labelled)) (c .before .before .put-strip-labels .ensures) (c .before .before .put-strip-labels .kept .1 .1 .1 .1 .0))
+returns c = let p = c .before .before .before .before .before .before .before .before .before .before .before .before .before .before .before .before .before .before .before .before .before .before .pre in (front-behind _ (c .before .before .before .before .before .before .before .before .before .before .before .before .before .before .put-copied .ensures) (length-tab _ _) (c .before .before .before .before .before .before .before .before .before .before .put-strips .ensures) (c .before .before .before .before .before .before .before .before .before .before .put-strips .kept .1 .1 .1 .1 .1 .1 .1 .0), front-behind _ (c .before .before .before .before .before .before .copy-labels .ensures) (length-take-le _ _ (p .0 .sheet .labelled)) (c .before .before .put-strip-labels .ensures) (c .before .before .put-strip-labels .kept .1 .1 .1 .1 .1 .1 .1 .0))
 
 pub put-quads-spec : {M : Type 1} → statement M
 put-quads-spec =
