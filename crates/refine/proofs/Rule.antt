@@ -1,7 +1,7 @@
 -- The stages of `refine`, from the work slice to the outcome of its rule. Assumes nothing.
 use Prim.Native.Nat.{ℕ, zero, suc, _+_, _-_, _*_, _/_, _%_, _≤_, _<_}
 use mathlib.Core.Path.{_≡_, refl, sym, ap, _∙_}
-use mathlib.Core.Bool.{Bool, true, false, _&&_, _||_, true≢false}
+use mathlib.Core.Bool.{Bool, true, false, _&&_}
 use mathlib.Core.List.{List, _++_}
 use native.Mathlib.Omega.{arith}
 use lib.ListN.{length, getD, take}
@@ -23,7 +23,7 @@ use Rattle.sheet.specs.Flat.{quadAt, quadsOf, flatQuads}
 use Rattle.sheet.specs.Tests.{inRange}
 use Rattle.sheet.specs.Sheet.{sheetOf, pointsOf, flatPoints, isLarge, isShort, lentVerdict, LentSheet}
 use Rattle.sheet.proofs.Flat.{length-quads}
-use Rattle.sheet.proofs.Tests.{all-tab, lent-is, length-points}
+use Rattle.sheet.proofs.Tests.{or-left, or-right, all-tab, lent-is, length-points}
 use Rattle.results.specs.declared.Made.{Made}
 use Rattle.numeric.specs.Num.{zeroF}
 use Rattle.results.specs.Results.{Outcome, refuses, makes, answerOf, countsOf, Front, Fills, Leaves, Room, cleared, shownCounts}
@@ -134,14 +134,6 @@ module _ {np nq : ℕ} {P : List Float} {Q labels w : List ℕ} {p q l : ℕ} (F
       at t h = getD-tab (numberOf np (firstsOf np nq Q)) (5 * nq) t 0 h
 
 -- ---- the result's 13
-
-or-left : (a b : Bool) → (a || b) ≡ false → a ≡ false
-or-left false b e = refl
-or-left true b e = e
-
-or-right : (a b : Bool) → (a || b) ≡ false → b ≡ false
-or-right false b e = e
-or-right true b e = absurd (true≢false e)
 
 pub fills-refused : (n : ℕ) (P : List Float) (Q labels : List ℕ) → Fills (refuses n) (answerOf (refuses n)) P Q labels
 unfolding flatPoints flatQuads

@@ -1,17 +1,19 @@
 -- What the tests of a lent sheet leave, and the tests one quad or point at a time. Assumes nothing.
-use Prim.Native.Nat.{ℕ, zero, suc, _+_, _≤_}
+use Prim.Native.Nat.{ℕ, zero, suc, _+_, _≤_, _<_}
 use mathlib.Core.Path.{_≡_, refl, sym, ap, _∙_}
-use mathlib.Core.Bool.{Bool, true, false, cond, _&&_, _||_, true≢false}
+use mathlib.Core.Bool.{Bool, true, false, cond, _&&_, _||_, or-true, true≢false}
+use mathlib.Core.Logic.{⊎-elim}
 use mathlib.Core.List.{List, [], _∷_, _++_}
 use native.Mathlib.Omega.{arith}
 use lib.ListN.{length, getD, take}
 use lib.Seq.{length-take-le}
+use lib.Dec.{eqb}
 use lib.Ieee.{Float}
-use borrow.Author.Tests.{ltb-false, eqb-true, not-false}
+use borrow.Author.Tests.{ltb-false, eq-eqb, eqb-true, not-false}
 use Rattle.lists.specs.Sort.{tabulate}
 use Rattle.lists.specs.Every.{every}
-use Rattle.lists.proofs.Laws.{length-tab, getD-tab, tab-take}
-use Rattle.lists.proofs.Every.{every-ext}
+use Rattle.lists.proofs.Laws.{eq-or-ne, length-tab, getD-tab, tab-take}
+use Rattle.lists.proofs.Every.{and-right, every-ext}
 use Rattle.points.specs.Points.{pointAt, finiteP}
 use Rattle.sheet.specs.declared.Counts.{Counts}
 use Rattle.sheet.specs.declared.Verdict.{Verdict}
@@ -27,11 +29,11 @@ use Rattle.sheet.proofs.Flat.{length-quads}
 
 -- ---- 12 and 13
 
-or-left : (a b : Bool) → (a || b) ≡ false → a ≡ false
+pub or-left : (a b : Bool) → (a || b) ≡ false → a ≡ false
 or-left false b e = refl
 or-left true b e = e
 
-or-right : (a b : Bool) → (a || b) ≡ false → b ≡ false
+pub or-right : (a b : Bool) → (a || b) ≡ false → b ≡ false
 or-right false b e = e
 or-right true b e = absurd (true≢false e)
 
@@ -43,7 +45,7 @@ few-of c e = record {
   labels≤ = ltb-false _ _ (search (or-left, or-right));
 }
 
-holds-of : (c : Counts) (p q l : ℕ) → isLarge c ≡ false → isShort c p q l ≡ false → LentSheet c p q l
+pub holds-of : (c : Counts) (p q l : ℕ) → isLarge c ≡ false → isShort c p q l ≡ false → LentSheet c p q l
 unfolding isShort
 holds-of c p q l e s = record {
   few = few-of c e;
@@ -175,3 +177,28 @@ quads-decide b c P Q labels n r w v e h en er m =
     let same : quadsVerdict n (quadsOf (c .quads) Q) (take (c .quads) labels) ≡ quadsVerdict (length (pointsOf (c .points) P)) (quadsOf (c .quads) Q) (take (c .labels) labels) =
     rw (length-points (c .points) P, k, en) in
     (er ∙ same ∙ verdict-quads b (sheetOf c P Q labels) v (sym (bare-is c P Q labels h) ∙ e), rw (k, ← en) m)
+
+-- ---- what an accepted sheet has
+
+-- 5 and 6 find nothing in a sheet that is accepted
+pub found-nothing : (b : Band) (s : Sheet) → sheetVerdict b s ≡ Accepted → (isBare s ≡ false) × (goodCorners (length (s .points)) (s .quads) (s .labels) ≡ true)
+unfolding sheetVerdict quadsVerdict
+found-nothing b s = go (validOf b) (isBare s) refl (goodCorners (length (s .points)) (s .quads) (s .labels)) refl (goodMasks (length (s .points)) (s .quads) (s .labels))
+  where
+    go : (v x : Bool) → isBare s ≡ x → (g : Bool) → goodCorners (length (s .points)) (s .quads) (s .labels) ≡ g → (m : Bool)
+        → cond v (cond x (Refused bare) (cond g (cond m Accepted (Refused clash)) (Refused corner))) (Refused box) ≡ Accepted
+        → (isBare s ≡ false) × (goodCorners (length (s .points)) (s .quads) (s .labels) ≡ true)
+    go false x ex g eg m h = absurd (let z : _≡_ {A = ℕ} 0 1 = cc in omega arith)
+    go true true ex g eg m h = absurd (let z : _≡_ {A = ℕ} 0 1 = cc in omega arith)
+    go true false ex false eg m h = absurd (let z : _≡_ {A = ℕ} 0 1 = cc in omega arith)
+    go true false ex true eg m h = (ex, eg)
+
+-- a quad is there where 5 finds nothing
+pub some-quad : (c : Counts) (P : List Float) → bareBy c P ≡ false → 0 < c .quads
+unfolding bareBy
+some-quad c P e = ⊎-elim (λ (z : c .quads ≡ 0). absurd (true≢false (rw (eq-eqb (c .quads) 0 z, or-true (eqb (c .points) 0)) at e))) (λ (n : c .quads ≡ 0 → ⊥). omega arith) (eq-or-ne (c .quads) 0)
+
+-- 6 finds every quad proper
+pub proper-of : (n : ℕ) (S : List Quad) (labels : List ℕ) → goodCorners n S labels ≡ true → all (proper n) S ≡ true
+unfolding goodCorners
+proper-of n S labels e = and-right (all lowLabel labels) (all (proper n) S) e

@@ -3,13 +3,13 @@ use Prim.Native.Nat.{ℕ, zero, suc, _+_, _*_, _≤_, _<_}
 use mathlib.Core.Path.{_≡_, refl, sym, ap, _∙_, subst}
 use mathlib.Core.List.{List, [], _∷_}
 use native.Mathlib.Omega.{arith}
-use lib.ListN.{length, getD, take}
+use lib.ListN.{length, getD}
 use lib.Seq.{getD-take, set-getD}
 use lib.Ieee.{Float, nan}
 use Rattle.points.specs.declared.Point.{Point}
 use Rattle.points.specs.Points.{pointAt, withPoint}
 use Rattle.lists.specs.Sort.{tabulate}
-use Rattle.lists.proofs.Laws.{length-tab, tab-suc, is-table}
+use Rattle.lists.proofs.Laws.{length-tab, is-table}
 use Rattle.sheet.specs.Quads.{Quad, quad}
 use Rattle.sheet.specs.Flat.{quadAt, quadsOf, flatQuads}
 use Rattle.sheet.specs.Sheet.{pointsOf, flatPoints}

@@ -1,10 +1,10 @@
 -- What the gathering leaves: the ends of the edges, the second corners, and the corners and the ends by their points. Assumes nothing.
-use Prim.Native.Nat.{ℕ, _+_, _*_, _%_, _≤_, _<_}
-use mathlib.Core.Path.{_≡_, refl, sym, ap, _∙_}
+use Prim.Native.Nat.{ℕ, _+_, _*_, _%_, _<_}
+use mathlib.Core.Path.{_≡_, sym, ap, _∙_}
 use mathlib.Core.Bool.{Bool, true, false, cond}
 use mathlib.Core.List.{List}
 use native.Mathlib.Omega.{arith}
-use lib.ListN.{length, getD, take}
+use lib.ListN.{length, getD}
 use lib.Seq.{getD-take}
 use lib.Dec.{eqb}
 use Rattle.lists.specs.Sort.{tabulate}
@@ -14,10 +14,9 @@ use Rattle.lists.proofs.Regions.{part-of, part-get, part-kept, kept-then}
 use Rattle.sheet.specs.Edges.{smaller, larger}
 use Rattle.results.specs.Results.{Front}
 use Rattle.incidence.specs.Corners.{Cornered, edgeOrder, cornersAt, firstAt}
-use Rattle.incidence.specs.Marks.{Incident}
 use Rattle.refine.specs.Loops.{orderAt}
 use Rattle.refine.proofs.Edges.{sorted, before-less, low-of, high-of}
-use Rattle.smoothed.specs.Steps.{Below, endAt, Ends, Corners, Pairing, Seconds, scratchAt, startsAt, listAt, endStartsAt, endListAt, secondsAt, Front20, Listed, Gathering}
+use Rattle.smoothed.specs.Steps.{Below, endAt, Ends, Corners, Pairing, Seconds, scratchAt, startsAt, listAt, endStartsAt, endListAt, secondsAt, BeforeScratch, Listed, Gathering}
 
 module _ {np nq : ℕ} {Q : List ℕ} (C : Cornered np nq Q) where
   -- the corners in the order of their edges are below 4 nq, and each stands once
@@ -82,7 +81,7 @@ module _ {np nq room : ℕ} {Q u : List ℕ} (G : Gathering np nq Q room u) wher
 
       pub gathered : {x : List ℕ} → Part (endStartsAt np nq) (np + 1) (tabulate (firstAt nq H) (np + 1)) x
           × (Part (endListAt np nq) (4 * nq) (cornersAt np nq H) x × Kept (Out3 (scratchAt np nq) (4 * nq) (endStartsAt np nq) (np + 1) (endListAt np nq) (4 * nq)) w x)
-          → Ends nq Q (edgeOrder np nq Q) H × (Listed np nq Q H x × (Seconds (secondsAt np nq) (edgeOrder np nq Q) (2 * nq) x × Kept (Front20 np nq) u x))
+          → Ends nq Q (edgeOrder np nq Q) H × (Listed np nq Q H x × (Seconds (secondsAt np nq) (edgeOrder np nq Q) (2 * nq) x × Kept (BeforeScratch np nq) u x))
       gathered {x} B =
           let some = G .some in
           let l : length w ≡ length u = A .1 .1 .len ∙ S .1 .len in
@@ -110,12 +109,12 @@ module _ {np nq room : ℕ} {Q u : List ℕ} (G : Gathering np nq Q room u) wher
               },
               (
                 λ i h.
-                let b : getD (edgeOrder np nq Q) (2 * i) 0 < 4 * nq = sorted (G .cornered) .below (2 * i) (omega arith) in
-                B .1 .1 .same 0 (secondsAt np nq + getD (edgeOrder np nq Q) (2 * i) 0) (λ r s. omega arith, (λ r s. omega arith, λ r s. omega arith))
-                ∙ A .1 .1 .same 0 (secondsAt np nq + getD (edgeOrder np nq Q) (2 * i) 0) (λ r s. omega arith, (λ r s. omega arith, λ r s. omega arith))
-                ∙ (rw (G .order .is) at (S .0)) i h,
-                kept-then (kept-then (S .1) (A .1 .1) (λ i (h : Front20 np nq i). (λ r s. omega arith, (λ r s. omega arith, (λ r s. omega arith, λ r s. omega arith))))) (B .1 .1)
-                (λ i (h : Front20 np nq i). (h, (λ r s. omega arith, (λ r s. omega arith, λ r s. omega arith)))),
+                    let b : getD (edgeOrder np nq Q) (2 * i) 0 < 4 * nq = sorted (G .cornered) .below (2 * i) (omega arith) in
+                    B .1 .1 .same 0 (secondsAt np nq + getD (edgeOrder np nq Q) (2 * i) 0) (λ r s. omega arith, (λ r s. omega arith, λ r s. omega arith))
+                    ∙ A .1 .1 .same 0 (secondsAt np nq + getD (edgeOrder np nq Q) (2 * i) 0) (λ r s. omega arith, (λ r s. omega arith, λ r s. omega arith))
+                    ∙ (rw (G .order .is) at (S .0)) i h,
+                kept-then (kept-then (S .1) (A .1 .1) (λ i (h : BeforeScratch np nq i). (λ r s. omega arith, (λ r s. omega arith, (λ r s. omega arith, λ r s. omega arith))))) (B .1 .1)
+                    (λ i (h : BeforeScratch np nq i). (h, (λ r s. omega arith, (λ r s. omega arith, λ r s. omega arith)))),
               ),
             ),
           )

@@ -1,18 +1,17 @@
 -- Where the old points come to, by the corners around them and the ends of their edges. Assumes nothing.
-use Prim.Native.Nat.{ℕ, zero, suc, _+_, _*_, _/_, _%_, _^_, _≤_, _<_, min, max}
+use Prim.Native.Nat.{ℕ, zero, suc, _+_, _*_, _/_, _%_, _≤_, _<_, min, max}
 use mathlib.Core.Path.{_≡_, refl, sym, ap, _∙_}
 use mathlib.Core.Bool.{Bool, true, false, cond, not, _&&_}
 use mathlib.Core.Logic.{⊎-elim}
 use mathlib.Core.List.{List, [], _∷_, _++_, map}
 use native.Mathlib.Omega.{arith}
 use native.Mathlib.Nat.{zero-add}
-use lib.ListN.{length, getD, take, length-append, List·getD-append, List·getD-map}
-use lib.Seq.{getD-take, getD-append-add}
+use lib.ListN.{getD, take, List·getD-map}
+use lib.Seq.{getD-take}
 use lib.Dec.{eqb}
 use lib.Ieee.{Float}
-use Rattle.points.specs.declared.Point.{Point}
 use Rattle.points.specs.Points.{pointAt}
-use Rattle.lists.specs.Sort.{tabulate, itself, consIf, bucket}
+use Rattle.lists.specs.Sort.{tabulate, itself, consIf}
 use Rattle.lists.specs.Every.{countTo}
 use Rattle.lists.proofs.Laws.{lt-or-le, getD-tab}
 use Rattle.lists.proofs.Order.{Each, each-bucket, below-tab}
@@ -25,12 +24,11 @@ use Rattle.sheet.proofs.Edges.{join-ext}
 use Rattle.sheet.proofs.Masks.{bit-pack}
 use Rattle.sheet.proofs.Tests.{length-points}
 use Rattle.incidence.specs.Corners.{Cornered, edgeOrder}
-use Rattle.refine.specs.Finer.{pointIn}
 use Rattle.refine.proofs.Edges.{sorted}
 use Rattle.smoothed.specs.Smoothed.{those, timed, sides, edgeQuads, pointQuads, paired, isCrease, neighbours, creases, labelCount, pointOf, centreOf, centreAt, oldPoint}
 use Rattle.smoothed.specs.Steps.{onesOf, Ends, cornerCentre, otherEnd, creaseAt, keep, creaseEnds, movedPoint, flatSheet}
-use Rattle.smoothed.proofs.Quads.{quadOf, point-quads}
-use Rattle.smoothed.proofs.Joins.{meets, others-ascend}
+use Rattle.smoothed.proofs.Quads.{quadOf, num-cond, point-quads}
+use Rattle.smoothed.proofs.Joins.{others-ascend}
 use Rattle.smoothed.proofs.EdgeList.{edgeNo, edge-of, corner-of, others-flat}
 
 -- ---- lists
@@ -66,10 +64,6 @@ keep-all [] = refl
 keep-all (x ∷ l) = rw (keep-all l)
 
 -- ---- the bits of a mask
-
-num-cond : (b : Bool) → cond b 1 0 ≡ num b
-num-cond true = refl
-num-cond false = refl
 
 pub ones-count : (t : ℕ → Bool) → onesOf (pack t) ≡ countTo t 8
 unfolding onesOf countTo

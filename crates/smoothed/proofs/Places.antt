@@ -1,31 +1,28 @@
 -- Where the new points come to, by the first corner of each edge, and the points of the smoothed sheet. Assumes nothing.
-use Prim.Native.Nat.{ℕ, zero, suc, _+_, _-_, _*_, _/_, _%_, _≤_, _<_}
+use Prim.Native.Nat.{ℕ, zero, suc, _+_, _-_, _*_, _/_, _%_, _<_}
 use mathlib.Core.Path.{_≡_, refl, sym, ap, _∙_}
-use mathlib.Core.Bool.{Bool, true, false, cond, not}
-use mathlib.Core.Logic.{_⊎_, inl, inr, ⊎-elim}
+use mathlib.Core.Bool.{Bool, true, false, cond}
+use mathlib.Core.Logic.{⊎-elim}
 use mathlib.Core.List.{List, [], _∷_, _++_, map}
 use native.Mathlib.Omega.{arith}
 use native.Mathlib.Nat.{mul-add-div-right, div-eq-of-lt, mul-add-mod-self-right, mod-eq-of-lt}
-use lib.ListN.{length, getD}
-use lib.Dec.{eqb}
+use lib.ListN.{getD}
 use lib.Ieee.{Float}
 use borrow.Author.Tests.{eqb-true, ne-eqb, lt-ltb, le-ltb}
-use Rattle.points.specs.Points.{pointAt}
 use Rattle.lists.specs.Sort.{tabulate}
 use Rattle.lists.proofs.Laws.{eq-or-ne, getD-tab, tab-ext}
 use Rattle.sheet.specs.Quads.{all, maskOf}
-use Rattle.sheet.specs.Flat.{quadAt, quadsOf}
+use Rattle.sheet.specs.Flat.{quadsOf}
 use Rattle.sheet.specs.Edges.{smaller, larger}
 use Rattle.sheet.specs.Tests.{proper}
 use Rattle.sheet.proofs.Tests.{length-points}
 use Rattle.incidence.specs.Corners.{Cornered, edgeOrder}
-use Rattle.refine.specs.Finer.{asked, pointIn}
 use Rattle.refine.specs.Requests.{requestOf, keyAt, firstOf, firstsOf, own}
 use Rattle.refine.specs.Loops.{madeTo}
 use Rattle.refine.proofs.Edges.{sorted, before-less, key-corner, key-centre, edge-below, low-of, high-of, first-of}
 use Rattle.refine.proofs.Requests.{map-append}
 use Rattle.refine.proofs.Sheet.{asked-keys}
-use Rattle.smoothed.specs.Smoothed.{paired, isCrease, pointOf, centreOf, centreAt, oldPoint, edgePlace, newPlace, smoothSheet}
+use Rattle.smoothed.specs.Smoothed.{paired, isCrease, oldPoint, edgePlace, newPlace, smoothSheet}
 use Rattle.smoothed.specs.Steps.{Ends, cornerCentre, movedPoint, edgeAt, cornerOf, placeAt, flatSheet}
 use Rattle.smoothed.proofs.EdgeList.{edgeNo, edge-of, corner-low, corner-high}
 use Rattle.smoothed.proofs.Moved.{point-is, centre-is, quad-of, label-of, moved-is}

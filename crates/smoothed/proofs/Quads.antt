@@ -82,7 +82,7 @@ unfolding bucket
 bucket-keep key k [] = refl
 bucket-keep key k (x ∷ xs) = rw (bucket-keep key k xs)
 
-num-cond : (b : Bool) → cond b 1 0 ≡ num b
+pub num-cond : (b : Bool) → cond b 1 0 ≡ num b
 num-cond true = refl
 num-cond false = refl
 

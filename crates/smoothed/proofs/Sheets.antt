@@ -1,14 +1,13 @@
 -- The stages of the smoothed sheet, from the gathering to the three slices. Assumes nothing.
-use Prim.Native.Nat.{ℕ, _+_, _*_, _%_, _≤_, _<_}
-use mathlib.Core.Path.{_≡_, refl, sym, ap, _∙_}
+use Prim.Native.Nat.{ℕ, _+_, _*_, _%_, _<_}
+use mathlib.Core.Path.{_≡_, sym, _∙_}
 use mathlib.Core.Bool.{true}
 use mathlib.Core.List.{List, _++_}
 use native.Mathlib.Omega.{arith}
 use lib.ListN.{length, getD, take}
 use lib.Ieee.{Float}
-use Rattle.points.specs.Points.{pointAt}
 use Rattle.lists.specs.Sort.{tabulate}
-use Rattle.lists.specs.Regions.{part, Part, Kept}
+use Rattle.lists.specs.Regions.{part, Kept}
 use Rattle.lists.proofs.Laws.{length-tab, getD-tab, tab-ext}
 use Rattle.lists.proofs.Regions.{part-of, part-get, part-kept}
 use Rattle.sheet.specs.Quads.{maskOf}
@@ -19,13 +18,13 @@ use Rattle.results.specs.Results.{Front}
 use Rattle.incidence.specs.Corners.{edgeOrder}
 use Rattle.refine.specs.Finer.{finerSheet}
 use Rattle.refine.specs.Requests.{firstsOf, own, childAt, labelAt}
-use Rattle.refine.specs.Loops.{nth, madeTo, orderAt, firstsAt, numbersAt, Finished}
+use Rattle.refine.specs.Loops.{nth, madeTo, firstsAt, numbersAt, Finished}
 use Rattle.refine.proofs.Edges.{sorted}
 use Rattle.refine.proofs.Requests.{labels-flat}
-use Rattle.refine.proofs.Rule.{writing-of, numbered-of, quads-put}
+use Rattle.refine.proofs.Rule.{writing-of, quads-put}
 use Rattle.refine.proofs.Sheet.{quads-are}
 use Rattle.smoothed.specs.Smoothed.{smoothSheet}
-use Rattle.smoothed.specs.Steps.{Ends, Seconds, cornerOf, movedPoint, placeAt, flatSheet, masksAt, secondsAt, Front20, Listed, Gathered, movedIn, Placing, Gathering, Smoothable}
+use Rattle.smoothed.specs.Steps.{Ends, Seconds, cornerOf, movedPoint, placeAt, flatSheet, masksAt, secondsAt, BeforeScratch, Listed, Gathered, movedIn, Placing, Gathering, Smoothable}
 use Rattle.smoothed.proofs.Places.{first-corner, points-are}
 use Rattle.smoothed.proofs.Lists.{order-below}
 use Rattle.smoothed.proofs.Fronts.{points-front}
@@ -33,7 +32,7 @@ use Rattle.smoothed.proofs.Fronts.{points-front}
 -- what the gathering leaves
 abbrev pub Ready : ℕ → ℕ → List ℕ → List ℕ → List ℕ → List ℕ → Type 0
 Ready np nq Q H u w =
-    Ends nq Q (edgeOrder np nq Q) H × (Listed np nq Q H w × (Seconds (secondsAt np nq) (edgeOrder np nq Q) (2 * nq) w × Kept (Front20 np nq) u w))
+    Ends nq Q (edgeOrder np nq Q) H × (Listed np nq Q H w × (Seconds (secondsAt np nq) (edgeOrder np nq Q) (2 * nq) w × Kept (BeforeScratch np nq) u w))
 
 module _ {np nq : ℕ} {P : List Float} {Q labels u : List ℕ} {p q l : ℕ} (S : Smoothable np nq P Q labels u p q l) where
   pub gathering-of : (room : ℕ) → room ≡ q → Gathering np nq Q room u

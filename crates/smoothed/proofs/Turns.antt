@@ -1,11 +1,10 @@
 -- What the functions over one point and over one request read, and what they answer. Assumes nothing.
 use Prim.Native.Nat.{ℕ, zero, suc, _+_, _-_, _*_, _/_, _%_, _≤_, _<_}
 use mathlib.Core.Path.{_≡_, refl, sym, ap, _∙_}
-use mathlib.Core.Bool.{Bool, true, false, not}
+use mathlib.Core.Bool.{Bool, true, false}
 use mathlib.Core.List.{List, [], _∷_, map}
 use native.Mathlib.Omega.{arith}
 use lib.ListN.{length, getD, length-map}
-use lib.Dec.{eqb}
 use lib.Ieee.{Float}
 use borrow.Author.Tests.{eq-eqb, ne-eqb, lt-ltb, le-ltb}
 use Rattle.points.specs.declared.Point.{Point}
@@ -16,7 +15,7 @@ use Rattle.lists.proofs.Order.{Each, each-bucket, below-tab}
 use Rattle.lists.proofs.Regions.{part-of, part-len, part-get}
 use Rattle.sheet.specs.Flat.{from, quadAt}
 use Rattle.sheet.specs.Edges.{pointCorners}
-use Rattle.incidence.specs.Corners.{Cornered, keyOf}
+use Rattle.incidence.specs.Corners.{keyOf}
 use Rattle.incidence.specs.Marks.{Incident}
 use Rattle.incidence.specs.declared.Key.the-variants.{Smaller, Larger}
 use Rattle.incidence.proofs.Marks.{around}
@@ -28,7 +27,7 @@ use Rattle.refine.specs.Requests.{own}
 use Rattle.refine.specs.Loops.{Held, orderAt}
 use Rattle.smoothed.specs.declared.Creases.{Creases}
 use Rattle.smoothed.specs.Smoothed.{centreOf}
-use Rattle.smoothed.specs.Steps.{onesOf, Below, cornerCentre, otherEnd, halfwayTo, creaseAt, keep, creaseEnds, creasesOf, movedBy, interiorAt, movedPoint, edgeAt, cornerOf, placeAt, masksAt, Spans, movedIn, Placing}
+use Rattle.smoothed.specs.Steps.{onesOf, cornerCentre, otherEnd, halfwayTo, creaseAt, keep, creaseEnds, creasesOf, movedBy, interiorAt, movedPoint, edgeAt, cornerOf, placeAt, masksAt, Spans, movedIn, Placing}
 use Rattle.smoothed.proofs.Moved.{map-map}
 
 -- ---- the corners of a point

@@ -156,8 +156,8 @@ abbrev pub secondsAt : ℕ → ℕ → ℕ
 secondsAt np nq = 34 * (np + nq)
 
 -- an index of the work slice before the sorts' region
-abbrev pub Front20 : ℕ → ℕ → ℕ → Type 0
-Front20 np nq i = i < scratchAt np nq
+abbrev pub BeforeScratch : ℕ → ℕ → ℕ → Type 0
+BeforeScratch np nq i = i < scratchAt np nq
 
 -- the `size` numbers at `from` are the corners of point v
 pub record Spans (nq : ℕ) (Q : List ℕ) (v from size : ℕ) (w : List ℕ) : Type 0 where

@@ -21,7 +21,7 @@ ghost use Rattle.smoothing.specs.Smooth.{sumOf};
 ghost use Rattle.smoothing.specs.Rounded.{pointwise};
 ghost use Rattle.refine.specs.Loops.{Held, orderAt, madeTo, putRequest, Numbered};
 ghost use Rattle.smoothed.specs.Smoothed.{centreOf, paired, smoothSheet};
-ghost use Rattle.smoothed.specs.Steps.{onesOf, Below, endAt, Ends, Pairing, Seconds, cornerCentre, otherEnd, halfwayTo, creaseAt, creasesOf, withCrease, creaseEnds, movedBy, interiorAt, edgeAt, cornerOf, placeAt, secondsAt, Front20, Spans, Listed, Gathered, movedIn, Placing, Gathering, Smoothable, flatSheet};
+ghost use Rattle.smoothed.specs.Steps.{onesOf, Below, endAt, Ends, Pairing, Seconds, cornerCentre, otherEnd, halfwayTo, creaseAt, creasesOf, withCrease, creaseEnds, movedBy, interiorAt, edgeAt, cornerOf, placeAt, secondsAt, BeforeScratch, Spans, Listed, Gathered, movedIn, Placing, Gathering, Smoothable, flatSheet};
 
 // Regions of the work slice behind those of the finer sheet, in units of points and quads together: the masks, a region that sorts use, the corners of
 // each point behind where they begin, the same for the ends of edges, and the second corner of each edge.
@@ -442,7 +442,7 @@ fn put_place(
     }
 }
 
-// Puts the new points of all requests at their numbers, behind the np old points ps.
+// Puts the new points of all requests at their numbers, behind the np points in front.
 fn put_places(
     np: usize,
     nq: usize,
@@ -473,7 +473,7 @@ fn gather(np: usize, nq: usize, quads: &[u32], ends: &mut [u32], w: &mut [u32])
     ensures { λ _. ⌜ Ends nq (now (quads .entry)) (edgeOrder np nq (now (quads .entry))) (now (ends .exit)) ⌝ }
     ensures { λ _. ⌜ Listed np nq (now (quads .entry)) (now (ends .exit)) (now (w .exit)) ⌝ }
     ensures { λ _. ⌜ Seconds (secondsAt np nq) (edgeOrder np nq (now (quads .entry))) (2 * nq) (now (w .exit)) ⌝ }
-    ensures { λ _. ⌜ Kept (Front20 np nq) (now (w .entry)) (now (w .exit)) ⌝ }
+    ensures { λ _. ⌜ Kept (BeforeScratch np nq) (now (w .entry)) (now (w .exit)) ⌝ }
 {
     let n = np + nq;
     let order = refine::ORDER * n;

@@ -1,8 +1,10 @@
 // The smoothing rule of `subdivide`, for points.
 
 ghost use mathlib.Core.Path.{_≡_};
+ghost use lib.Ieee.{binary64, div};
+ghost use Rattle.points.specs.Points.{one, mulP};
 ghost use Rattle.smoothing.specs.Smooth.{mean as meanOf, quadCentre, edgePoint, creasePoint, interiorBy};
-ghost use Rattle.smoothing.specs.Rounded.{wholeOf, reciprocalOf, pointwise};
+ghost use Rattle.smoothing.specs.Rounded.{wholeOf, pointwise};
 use points::Point;
 use points::add;
 use points::mul;
@@ -14,18 +16,23 @@ pub fn whole(n: usize) -> f64
     std::num::nearest_u64_to_f64(n as u64)
 }
 
-// One divided by a whole number.
-pub fn reciprocal(n: usize) -> f64
-    ensures { λ r. ⌜ r ≡ reciprocalOf n ⌝ }
+// Each coordinate times the reciprocal of n.
+fn shared_by(sum: Point, n: f64) -> Point
+    ensures { λ r. ⌜ r ≡ mulP sum (div binary64 one n) ⌝ }
 {
-    1.0 / whole(n)
+    let r = 1.0 / n;
+    Point {
+        x: sum.x * r,
+        y: sum.y * r,
+        z: sum.z * r,
+    }
 }
 
 // The mean of n points, from their sum.
 pub fn mean(sum: Point, n: usize) -> Point
     ensures { λ r. ⌜ r ≡ meanOf pointwise sum n ⌝ }
 {
-    mul(sum, reciprocal(n))
+    shared_by(sum, whole(n))
 }
 
 // The zero that sums of points start from.

@@ -8,12 +8,12 @@ use results::Made;
 use sheet::Counts;
 use sheet::Verdict;
 ghost use mathlib.Core.Path.{_≡_};
-ghost use mathlib.Core.Bool.{true};
+ghost use mathlib.Core.Bool.{true, _||_};
 ghost use Prim.Native.Nat.{_*_, _≤_};
 ghost use lib.ListN.{length, replicate};
 ghost use Rattle.numeric.specs.Num.{zeroF};
 ghost use Rattle.lists.specs.Every.{every};
-ghost use Rattle.sheet.specs.Sheet.{flatPoints, sheetOf, sheetVerdict, LentSheet};
+ghost use Rattle.sheet.specs.Sheet.{flatPoints, sheetOf, isLarge, isShort, sheetVerdict, LentSheet};
 ghost use Rattle.results.specs.Results.{Leaves, Fills, Front};
 ghost use Rattle.refine.specs.Finer.{afterLent};
 ghost use Rattle.subdivide.specs.Subdivide.{projected, subdivided, subdivideRule};
@@ -53,14 +53,7 @@ fn project_points(b: Band, n: usize, masks: &[u32], points: &mut [f64]) -> bool
 }
 
 // Tests the sheet in the result slices and projects its points.
-fn land(
-    b: Band,
-    c: Counts,
-    points: &mut [f64],
-    quads: &[u32],
-    labels: &[u8],
-    w: &mut [u32],
-) -> Made
+fn land(b: Band, c: Counts, points: &mut [f64], quads: &[u32], labels: &[u8], w: &mut [u32]) -> Made
     requires { ⌜ LentSheet c (length (now points)) (length (now quads)) (length (now labels)) ⌝ }
     requires { ⌜ c .points ≤ length (now w) ⌝ }
     ensures { λ r. ⌜ Fills (afterLent (sheetVerdict b (sheetOf c (now (points .entry)) (now (quads .entry)) (now (labels .entry)))) (projected b (sheetOf c (now (points .entry)) (now (quads .entry)) (now (labels .entry))))) r (now (points .exit)) (now (quads .entry)) (now (labels .entry)) ⌝ }
@@ -74,6 +67,16 @@ fn land(
         return Made::Done(c);
     }
     Made::Refused(ASTRAY)
+}
+
+// 13, of a made sheet: more than slices of these lengths or the limit hold.
+fn is_over(c: Counts, points: usize, quads: usize, labels: usize) -> bool
+    ensures { λ r. ⌜ r ≡ (isLarge c || isShort c points quads labels) ⌝ }
+{
+    if sheet::is_large(c) {
+        return true;
+    }
+    sheet::is_short(c, points, quads, labels)
 }
 
 // Subdivides a sheet that the tests accept, its masks in the work slice.
@@ -98,10 +101,7 @@ fn subdivide_tested(
         quads: 4 * nq,
         labels: 4 * nq,
     };
-    if sheet::is_large(made) {
-        return Made::Refused(sheet::SHORT);
-    }
-    if sheet::is_short(made, new_points.len(), new_quads.len(), new_labels.len()) {
+    if is_over(made, new_points.len(), new_quads.len(), new_labels.len()) {
         return Made::Refused(sheet::SHORT);
     }
     if smoothed::is_paired(np, nq, quads, w) {

@@ -1,5 +1,4 @@
 -- `smoothed::gather` meets its contract. Assumes nothing.
-use native.Mathlib.Omega.{arith}
 use borrow.Author.Needs.{needs}
 use Rattle.smoothed.proofs.Lists.{order-below, gather-pairing, gather-cornered, gather-room, gathered}
 use Rattle.smoothed.proofs.gather.Statement.{statement}

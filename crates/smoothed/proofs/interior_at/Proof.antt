@@ -1,5 +1,4 @@
 -- `smoothed::interior_at` meets its contract. Assumes nothing.
-use native.Mathlib.Omega.{arith}
 use borrow.Author.Needs.{needs}
 use Rattle.smoothed.proofs.Turns.{interior-is}
 use Rattle.smoothed.proofs.interior_at.Statement.{statement}

@@ -1,7 +1,6 @@
 -- `smoothed::is_paired` meets its contract. Assumes nothing.
-use native.Mathlib.Omega.{arith}
 use borrow.Author.Needs.{needs}
-use mathlib.Core.Path.{sym, _∙_}
+use mathlib.Core.Path.{sym}
 use Rattle.census.specs.Census.{edgeCounts}
 use Rattle.smoothed.proofs.EdgeList.{paired-counts}
 use Rattle.smoothed.proofs.is_paired.Statement.{statement}

@@ -1,5 +1,4 @@
 -- `smoothed::moved_by` meets its contract. Assumes nothing.
-use native.Mathlib.Omega.{arith}
 use borrow.Author.Needs.{needs}
 use Rattle.smoothed.proofs.Turns.{moved-interior, moved-crease, moved-stays}
 use Rattle.smoothed.proofs.moved_by.Statement.{statement}

@@ -1,6 +1,5 @@
 -- `smoothed::put_places` meets its contract. Assumes nothing.
 use native.Mathlib.Omega.{arith}
-use borrow.Author.Needs.{needs}
 use Prim.Native.Nat.{_*_, _-_}
 use Rattle.lists.specs.Regions.{part}
 use Rattle.sheet.specs.Sheet.{pointsOf}

@@ -1,16 +1,18 @@
 -- `smoothing::mean` meets its contract. Assumes nothing.
+use Rattle.smoothing.specs.Rounded.{reciprocalOf}
 use Rattle.smoothing.proofs.ByPoints.{mean-by}
 use Rattle.smoothing.proofs.mean.Statement.{statement}
 use Rattle.smoothing.proofs.mean.Tie as tie
 
-reciprocal-requires : tie.Need-reciprocal-requires
-reciprocal-requires c κs = tt
+whole-requires : tie.Need-whole-requires
+whole-requires c κs = tt
 
-mul-requires : tie.Need-mul-requires
-mul-requires c κs = tt
+shared-by-requires : tie.Need-shared-by-requires
+shared-by-requires c κs = tt
 
 returns : tie.Need-returns
-returns c = rw (mean-by, c .mul .ensures, c .before .reciprocal .ensures)
+unfolding reciprocalOf
+returns c = rw (mean-by, c .shared-by .ensures, c .before .whole .ensures)
 
 pub mean-spec : {M : Type 1} → statement M
-mean-spec = tie.close (tie.spec reciprocal-requires mul-requires returns)
+mean-spec = tie.close (tie.spec whole-requires shared-by-requires returns)
