@@ -10,23 +10,24 @@ use results::Made;
 use sheet::Counts;
 use sheet::Verdict;
 ghost use mathlib.Core.Path.{_≡_};
-ghost use mathlib.Core.Bool.{true, cond};
+ghost use mathlib.Core.Bool.{true, cond, _||_};
 ghost use mathlib.Core.List.{_++_, map};
 ghost use Prim.Native.Nat.{_+_, _*_, _/_, _%_, _<_, _≤_};
-ghost use lib.ListN.{length, getD, take};
+ghost use lib.ListN.{length, getD, take, replicate};
+ghost use Rattle.numeric.specs.Num.{zeroF};
 ghost use Rattle.lists.specs.Sort.{tabulate};
 ghost use Rattle.lists.specs.Every.{every};
 ghost use Rattle.lists.specs.Regions.{part, Part, Out, Apart, Kept};
 ghost use Rattle.band.specs.Bands.{lengthOf};
 ghost use Rattle.sheet.specs.Flat.{flatQuads};
-ghost use Rattle.sheet.specs.Sheet.{pointsOf, flatPoints, sheetOf, sheetVerdict, LentSheet};
-ghost use Rattle.results.specs.Results.{Front};
+ghost use Rattle.sheet.specs.Sheet.{pointsOf, flatPoints, sheetOf, sheetVerdict, LentSheet, isLarge, isShort};
+ghost use Rattle.results.specs.Results.{Front, Fills, Leaves};
 ghost use Rattle.incidence.specs.Corners.{Cornered, edgeOrder};
 ghost use Rattle.incidence.specs.Marks.{Incident};
 ghost use Rattle.refine.specs.Requests.{withQuad};
 ghost use Rattle.refine.specs.Loops.{Held, orderAt};
-ghost use Rattle.smoothed.specs.Steps.{Below, keep};
-ghost use Rattle.rows.specs.Rows.{firstStep, tryCount, tryFrom};
+ghost use Rattle.smoothed.specs.Steps.{Below, keep, flatSheet};
+ghost use Rattle.rows.specs.Rows.{firstStep, tryCount, tryFrom, rowsMade, rowed, rowsRule};
 ghost use Rattle.rows.specs.Steps.{
   copiedBy,
   copiedIn,
@@ -57,6 +58,8 @@ ghost use Rattle.rows.specs.Steps.{
   Gathered,
   Seaming,
   Gathering,
+  Finished,
+  Tested,
 };
 
 // The numbers of refusals: an edge without exactly two quads, and a copy for which all steps fail.
@@ -552,4 +555,157 @@ fn tested(
         return Made::Refused(k);
     }
     Made::Done(c)
+}
+
+// 13, of a made sheet: more than slices of these lengths or the limit hold.
+fn is_over(c: Counts, points: usize, quads: usize, labels: usize) -> bool
+    ensures { λ r. ⌜ r ≡ (isLarge c || isShort c points quads labels) ⌝ }
+{
+    if sheet::is_large(c) {
+        return true;
+    }
+    sheet::is_short(c, points, quads, labels)
+}
+
+// Writes the sheet with rows, whose counts are m, and tests it: 10, 8, 7.
+fn put_sheet(
+    b: Band,
+    m: Counts,
+    points: &[f64],
+    quads: &[u32],
+    labels: &[u8],
+    np: usize,
+    nq: usize,
+    new_points: &mut [f64],
+    new_quads: &mut [u32],
+    new_labels: &mut [u8],
+    w: &mut [u32],
+) -> Made
+    requires { ⌜ Finished m np nq (now points) (now quads) (now labels) (now w) (length (now «new_points»)) (length (now «new_quads»)) (length (now «new_labels»)) ⌝ }
+    ensures { λ r. ⌜ Fills (rowsMade b (flatSheet np nq (now (points .entry)) (now (quads .entry)) (now (labels .entry)))) r (now («new_points» .exit)) (now («new_quads» .exit)) (now («new_labels» .exit)) ⌝ }
+{
+    refine::copy_points(np, points, new_points);
+    if !put_copies(b, points, quads, labels, np, nq, w, new_points) {
+        return Made::Refused(ROW);
+    }
+    if !smoothed::is_paired(np, nq, quads, w) {
+        return Made::Refused(EDGE);
+    }
+    put_quads(
+        points,
+        quads,
+        labels,
+        np,
+        nq,
+        m.quads - nq,
+        w,
+        new_quads,
+        new_labels,
+    );
+    tested(b, m, new_points, new_quads, new_labels, w)
+}
+
+// The sheet with rows of a sheet that the tests accept, its masks in the work slice.
+fn rows_tested(
+    b: Band,
+    c: Counts,
+    points: &[f64],
+    quads: &[u32],
+    labels: &[u8],
+    new_points: &mut [f64],
+    new_quads: &mut [u32],
+    new_labels: &mut [u8],
+    w: &mut [u32],
+) -> Made
+    requires { ⌜ Tested c (now points) (now quads) (now labels) (now w) ⌝ }
+    ensures { λ r. ⌜ Fills (rowed b (sheetOf c (now (points .entry)) (now (quads .entry)) (now (labels .entry))) (length (now («new_points» .entry))) (length (now («new_quads» .entry))) (length (now («new_labels» .entry)))) r (now («new_points» .exit)) (now («new_quads» .exit)) (now («new_labels» .exit)) ⌝ }
+{
+    let m = gather(quads, labels, c.points, c.quads, w);
+    if is_over(m, new_points.len(), new_quads.len(), new_labels.len()) {
+        return Made::Refused(sheet::SHORT);
+    }
+    put_sheet(
+        b,
+        m,
+        points,
+        quads,
+        labels,
+        c.points,
+        c.quads,
+        new_points,
+        new_quads,
+        new_labels,
+        w,
+    )
+}
+
+// The sheet with rows, or the first refusal; the slices behind it may hold anything.
+fn rows_or_refusal(
+    b: Band,
+    c: Counts,
+    points: &[f64],
+    quads: &[u32],
+    labels: &[u8],
+    new_points: &mut [f64],
+    new_quads: &mut [u32],
+    new_labels: &mut [u8],
+    w: &mut [u32],
+    floats: usize,
+) -> Made
+    ensures { λ r. ⌜ Fills (rowsRule b c (now (points .entry)) (now (quads .entry)) (now (labels .entry)) (length (now (w .entry))) floats (length (now («new_points» .entry))) (length (now («new_quads» .entry))) (length (now («new_labels» .entry)))) r (now («new_points» .exit)) (now («new_quads» .exit)) (now («new_labels» .exit)) ⌝ }
+{
+    let v = sheet::lent(c, points.len(), quads.len(), labels.len(), w.len(), floats);
+    if let Verdict::Refused(n) = v {
+        return Made::Refused(n);
+    }
+    let m = MASKS * (c.points + c.quads);
+    let t = sheet::constraints(b, c, points, quads, labels, &mut w[m..m + c.points]);
+    if let Verdict::Refused(n) = t {
+        return Made::Refused(n);
+    }
+    rows_tested(
+        b,
+        c,
+        points,
+        quads,
+        labels,
+        new_points,
+        new_quads,
+        new_labels,
+        w,
+    )
+}
+
+// Inserts a row of quads along each edge between two labels. The sheet goes to the result slices, the answer has its counts.
+pub fn boundary_rows(
+    b: Band,
+    c: Counts,
+    points: &[f64],
+    quads: &[u32],
+    labels: &[u8],
+    new_points: &mut [f64],
+    new_quads: &mut [u32],
+    new_labels: &mut [u8],
+    work: &mut [u32],
+    floats: &mut [f64],
+) -> Made
+    ensures { λ r. ⌜ Leaves (rowsRule b c (now (points .entry)) (now (quads .entry)) (now (labels .entry)) (length (now (work .entry))) (length (now (floats .entry))) (length (now («new_points» .entry))) (length (now («new_quads» .entry))) (length (now («new_labels» .entry)))) (length (now («new_points» .entry))) (length (now («new_quads» .entry))) (length (now («new_labels» .entry))) r (now («new_points» .exit)) (now («new_quads» .exit)) (now («new_labels» .exit)) ⌝ }
+    ensures { λ _. ⌜ now (work .exit) ≡ replicate (length (now (work .entry))) 0 ⌝ }
+    ensures { λ _. ⌜ now (floats .exit) ≡ replicate (length (now (floats .entry))) zeroF ⌝ }
+{
+    let r = rows_or_refusal(
+        b,
+        c,
+        points,
+        quads,
+        labels,
+        new_points,
+        new_quads,
+        new_labels,
+        work,
+        floats.len(),
+    );
+    results::clear_unused(results::shown_counts(r), new_points, new_quads, new_labels);
+    results::clear_work(work, floats);
+    r
 }

@@ -4,6 +4,7 @@ use Rattle.lists.proofs.Laws.{length-tab}
 use lib.Seq.{length-take-le}
 use Rattle.rows.proofs.Rule.{front-behind}
 use Rattle.rows.proofs.Rule.{end-room}
+use Prim.Native.Nat.{_*_}
 use Rattle.rows.proofs.put_quads.Statement.{statement}
 use Rattle.rows.proofs.put_quads.Tie as tie
 
@@ -26,7 +27,7 @@ part-put-strips-end : tie.Need-part-put-strips-end
 part-put-strips-end c = search needs
 
 put-strips-requires : tie.Need-put-strips-requires
-put-strips-requires c κs = let p = c .before .before .before .before .before .before .before .before .before .before .before .pre in (p .0, (p .1 .0, end-room _ _ _ _ (c .before .before .before .put-copied .kept .1 .1 .1 .1 .1 .1 .0) (omega (arith, p .1 .1 .0))))
+put-strips-requires c κs = let p = c .before .before .before .before .before .before .before .before .before .before .before .pre in let a = c .before .before .before .before .before .before .before .before .before .before .before .args in (p .0, (p .1 .0, end-room (4 * a .nq) (4 * a .m) (c .before .before .before .put-copied .last .1 .1 .1 .1 .1 .1 .0) (a .new-quads .now) (c .before .before .before .put-copied .kept .1 .1 .1 .1 .1 .1 .0) (omega (arith, p .1 .1 .0))))
 
 copy-labels-requires : tie.Need-copy-labels-requires
 copy-labels-requires c κs = let p = c .before .before .before .before .before .before .before .before .before .before .before .before .before .before .before .pre in (p .0 .sheet .labelled, omega (arith, p .1 .1 .1))
@@ -41,7 +42,7 @@ part-put-strip-labels-end : tie.Need-part-put-strip-labels-end
 part-put-strip-labels-end c = search needs
 
 put-strip-labels-requires : tie.Need-put-strip-labels-requires
-put-strip-labels-requires c κs = let p = c .before .before .before .before .before .before .before .before .before .before .before .before .before .before .before .before .before .before .before .pre in (p .0, (p .1 .0, end-room _ _ _ _ (c .before .before .before .copy-labels .kept .1 .1 .0) (p .1 .1 .1)))
+put-strip-labels-requires c κs = let p = c .before .before .before .before .before .before .before .before .before .before .before .before .before .before .before .before .before .before .before .pre in let a = c .before .before .before .before .before .before .before .before .before .before .before .before .before .before .before .before .before .before .before .args in (p .0, (p .1 .0, end-room (a .nq) (a .m) (c .before .before .before .copy-labels .last .1 .1 .0) (a .new-labels .now) (c .before .before .before .copy-labels .kept .1 .1 .0) (p .1 .1 .1)))
 
 same-length : tie.Need-same-length
 same-length c = search needs
