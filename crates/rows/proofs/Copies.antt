@@ -28,7 +28,7 @@ use Rattle.smoothed.specs.Steps.{cornerCentre, keep}
 use Rattle.smoothed.proofs.Sums.{part-suc, fold-snoc}
 use Rattle.smoothed.proofs.CreaseLoop.{keep-append, keep-le}
 use Rattle.rows.specs.declared.Centres.{Centres}
-use Rattle.rows.specs.Rows.{pointIn, labelIn, half, orElse, tryFrom}
+use Rattle.rows.specs.Rows.{half, orElse, tryFrom}
 use Rattle.rows.specs.Steps.{copiedBy, copiedIn, numberIn, ofLabel, centresOf, withCentre}
 
 -- ---- the numbers of the copies

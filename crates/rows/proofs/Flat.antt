@@ -1,41 +1,37 @@
 -- The copies, the copied quads and the strips over flat lists are those of the rule. Assumes nothing.
-use Prim.Native.Nat.{ℕ, zero, suc, _+_, _*_, _/_, _%_, _^_, _≤_, _<_}
+use Prim.Native.Nat.{ℕ, zero, suc, _+_, _*_, _/_, _%_, _≤_, _<_}
 use mathlib.Core.Path.{_≡_, refl, sym, ap, _∙_}
 use mathlib.Core.Bool.{Bool, true, false, cond, not, _&&_, _||_}
 use mathlib.Core.Logic.{⊎-elim}
-use mathlib.Core.List.{List, [], _∷_, _++_, map, append-nil, append-assoc}
+use mathlib.Core.List.{List, [], _∷_, _++_, map}
 use native.Mathlib.Omega.{arith}
-use native.Mathlib.Numerals.{add-one}
 use lib.Dec.{eqb}
-use lib.ListN.{length, getD, take, length-append, length-map, List·getD-eq-default}
-use lib.Seq.{getD-take, length-take-le}
+use lib.ListN.{length, getD, take, length-map, List·getD-eq-default}
+use lib.Seq.{getD-take}
 use lib.Ieee.{Float}
-use Rattle.lists.specs.Sort.{tabulate, itself, consIf, bucket}
-use Rattle.lists.specs.Every.{every, countTo}
-use Rattle.lists.proofs.Laws.{lt-or-le, getD-tab, length-tab, tab-suc, tab-ext}
+use Rattle.lists.specs.Sort.{tabulate, itself, consIf}
+use Rattle.lists.specs.Every.{every}
+use Rattle.lists.proofs.Laws.{lt-or-le, getD-tab, length-tab}
 use Rattle.lists.proofs.Every.{count-ext, every-ext}
 use Rattle.lists.proofs.Order.{Each, each-bucket, below-tab}
-use Rattle.points.specs.declared.Point.{Point}
-use Rattle.points.specs.Points.{pointAt}
 use Rattle.band.specs.declared.Band.{Band}
 use Rattle.sheet.specs.Quads.{Quad, quad, num, all, pack, hasLabel, maskOf}
 use Rattle.sheet.specs.Flat.{corner, from, to, quadAt, quadsOf, flatQuads}
-use Rattle.sheet.specs.Edges.{joinTo, pointCorners, allCorners}
-use Rattle.sheet.specs.Sheet.{pointsOf, masksOf}
+use Rattle.sheet.specs.Edges.{joinTo, pointCorners}
+use Rattle.sheet.specs.Sheet.{masksOf}
 use Rattle.sheet.proofs.Edges.{join-ext}
 use Rattle.sheet.proofs.Masks.{bit-pack}
 use Rattle.sheet.proofs.Tests.{length-points}
-use Rattle.incidence.specs.Corners.{Cornered, edgeOrder}
+use Rattle.incidence.specs.Corners.{edgeOrder}
 use Rattle.refine.proofs.Edges.{sorted}
 use Rattle.refine.proofs.Requests.{tab-add}
-use Rattle.smoothed.specs.Smoothed.{those, pointQuads, labelCount, centreAt, pointOf}
-use Rattle.smoothed.specs.Steps.{onesOf, cornerCentre, keep, flatSheet}
+use Rattle.smoothed.specs.Smoothed.{those, labelCount, centreAt}
+use Rattle.smoothed.specs.Steps.{cornerCentre, keep, flatSheet}
 use Rattle.smoothed.proofs.Quads.{quadOf, point-quads}
 use Rattle.smoothed.proofs.Moved.{map-map, map-ext, each-append, those-below, ones-count, point-is, centre-is}
-use Rattle.rows.specs.Rows.{keyOf, pointIn, labelIn, isCopied, copies, numberOf, isLabelled, labelCentres, inward, copyOf, isFound, found, cornerFor, copiedQuad, copiedAt, copiedQuads, labelOf, stripAt, rowSides, rowsSheet}
-use Rattle.rows.specs.Steps.{copiedBy, copiedIn, numberIn, pointsAfter, ofLabel, centresOf, inwardAt, copyAt, foundAt, copiesTo, cornerLabel, cornerIn, seamCorners, seamAt, seamsTo, seamsOf, stripIn, Labelled}
+use Rattle.rows.specs.Rows.{keyOf, isCopied, copies, numberOf, isLabelled, labelCentres, inward, copyOf, isFound, found, cornerFor, copiedAt, copiedQuads, labelOf, stripAt, rowSides}
+use Rattle.rows.specs.Steps.{copiedBy, copiedIn, numberIn, ofLabel, centresOf, inwardAt, copyAt, foundAt, copiesTo, cornerLabel, cornerIn, seamCorners, seamAt, seamsTo, seamsOf, stripIn, Labelled}
 use Rattle.rows.proofs.Seams.{sideAt, row-sides}
-use Rattle.rows.proofs.Put.{length-those}
 
 -- ---- lists
 

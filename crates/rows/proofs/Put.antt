@@ -1,15 +1,15 @@
 -- The copies are put behind the points, one key after the other. Assumes nothing.
 use Prim.Native.Nat.{ℕ, zero, suc, _+_, _*_, _/_, _%_, _^_, _≤_, _<_}
-use mathlib.Core.Path.{_≡_, refl, sym, ap, _∙_}
-use mathlib.Core.Bool.{Bool, true, false, cond, not, true≢false}
-use mathlib.Core.List.{List, [], _∷_, _++_, map, append-nil, append-assoc}
+use mathlib.Core.Path.{_≡_, refl, sym, _∙_}
+use mathlib.Core.Bool.{Bool, true, false, cond, true≢false}
+use mathlib.Core.List.{List, [], _++_, map, append-nil, append-assoc}
 use native.Mathlib.Omega.{arith}
 use native.Mathlib.Numerals.{add-one}
 use lib.ListN.{length, getD, length-append, length-map}
 use lib.Ieee.{Float}
 use Rattle.lists.specs.Sort.{consIf, tabulate}
 use Rattle.lists.specs.Every.{every, countTo}
-use Rattle.lists.specs.Regions.{part, Part}
+use Rattle.lists.specs.Regions.{Part}
 use Rattle.lists.proofs.Laws.{getD-tab}
 use Rattle.lists.proofs.Every.{every-zero, every-suc, every-fails, count-mono}
 use Rattle.lists.proofs.Regions.{part-get}
@@ -25,7 +25,7 @@ use Rattle.results.specs.Results.{Front}
 use Rattle.refine.proofs.Requests.{map-append}
 use Rattle.refine.proofs.Loops.{front-point, length-with}
 use Rattle.smoothed.specs.Smoothed.{those}
-use Rattle.rows.specs.Rows.{firstStep, tryCount, tryFrom, isFound, found}
+use Rattle.rows.specs.Rows.{firstStep, tryCount, tryFrom, found}
 use Rattle.rows.specs.Steps.{copiedIn, numberIn, pointsAfter, inwardAt, copyAt, foundAt, putCopy, copiesTo, numbersAt}
 
 -- ---- the numbers that pass a test

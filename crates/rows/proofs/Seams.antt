@@ -1,5 +1,5 @@
 -- The corners at which strips run, found place by place in the order of the edges, are the sides that the rule takes edge by edge. Assumes nothing.
-use Prim.Native.Nat.{ℕ, zero, suc, _+_, _*_, _/_, _%_, _≤_, _<_, min, max}
+use Prim.Native.Nat.{ℕ, zero, suc, _+_, _*_, _/_, _%_, _≤_, _<_}
 use mathlib.Core.Path.{_≡_, refl, sym, ap, _∙_}
 use mathlib.Core.Bool.{Bool, true, false, cond, not, _&&_, true≢false, false≢true}
 use mathlib.Core.Logic.{⊎-elim}
@@ -7,7 +7,7 @@ use mathlib.Core.List.{List, [], _∷_, _++_, map, append-nil, append-assoc}
 use native.Mathlib.Omega.{arith}
 use native.Mathlib.Numerals.{add-one}
 use lib.Dec.{eqb, ltb, leb}
-use lib.ListN.{length, getD, take}
+use lib.ListN.{length, getD}
 use lib.Seq.{getD-take}
 use lib.Ieee.{Float}
 use borrow.Author.Tests.{ne-eqb, lt-ltb, ltb-false, leb-true, le-leb}
@@ -16,16 +16,13 @@ use Rattle.lists.proofs.Laws.{lt-or-le, start-suc, start-zero, getD-tab, length
 use Rattle.sheet.specs.Quads.{quad, isEdge}
 use Rattle.sheet.specs.Flat.{from, to, quadAt, quadsOf}
 use Rattle.sheet.specs.Edges.{Pair, pair, joinTo, joinOf, edgeIf, edgesFrom, edgesOf, smaller, larger, allCorners, edgeCorners}
-use Rattle.sheet.proofs.Edges.{join-append, join-to, join-ext, edge-corners, edge-flat}
-use Rattle.sheet.proofs.Flat.{length-quads}
+use Rattle.sheet.proofs.Edges.{join-to, join-ext, edge-corners, edge-flat}
 use Rattle.sheet.proofs.Tests.{length-points}
 use Rattle.incidence.specs.Corners.{edgeOrder}
-use Rattle.census.specs.Places.{kindAt}
-use Rattle.census.proofs.Blocks.{block, byLarger, off, off-suc, row-length, off-fits, at-off, key-smaller, key-larger}
-use Rattle.census.proofs.EdgeKinds.{kind, kindOf, kind-first, kind-later}
+use Rattle.census.proofs.Blocks.{block, byLarger, off, off-suc, row-length, at-off, key-smaller, key-larger}
+use Rattle.census.proofs.EdgeKinds.{kindOf, kind-first, kind-later}
 use Rattle.refine.proofs.Requests.{map-append, tab-add}
 use Rattle.smoothed.specs.Steps.{flatSheet}
-use Rattle.smoothed.proofs.Joins.{join-none}
 use Rattle.rows.specs.Rows.{Side, side, lowOf, highOf, fourSides, sidesOf, edgeSides, twoLabels, rowSides}
 use Rattle.rows.specs.Steps.{cornerLabel, isTwo, seamAt, seamCorners, seamsTo, seamsOf}
 
@@ -172,8 +169,8 @@ module _ (np nq : ℕ) (Q labels : List ℕ) where
       ap (λ (n : ℕ). joinTo (seamCorners Q labels n E) n) (sym e)
       ∙ places-join np nq Q (seamCorners Q labels (length E) E) (λ a b. twoCorners labels (block nq Q a b)) (λ a b ha hb. block-join a b ha hb)
       ∙ sym (
-        join-to (λ e. twoCorners labels (edgeCorners Q nq e)) (edgesFrom np (quadsOf nq Q)) np
-        ∙ join-ext _ _ np (λ a _. join-to (λ e. twoCorners labels (edgeCorners Q nq e)) (edgeIf (quadsOf nq Q) a) np ∙ join-ext _ _ np (λ b _. at-pair a b))
+      join-to (λ e. twoCorners labels (edgeCorners Q nq e)) (edgesFrom np (quadsOf nq Q)) np
+      ∙ join-ext _ _ np (λ a _. join-to (λ e. twoCorners labels (edgeCorners Q nq e)) (edgeIf (quadsOf nq Q) a) np ∙ join-ext _ _ np (λ b _. at-pair a b))
       )
 
 -- ---- sides and corners

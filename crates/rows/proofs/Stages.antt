@@ -1,6 +1,6 @@
 -- The stages of the gathering: the corners by edges and by points, the numbers of the copies, the corners at which strips run. Assumes nothing.
 use Prim.Native.Nat.{ℕ, zero, suc, _+_, _*_, _≤_, _<_}
-use mathlib.Core.Path.{_≡_, refl, sym, ap, _∙_}
+use mathlib.Core.Path.{_≡_, _∙_}
 use mathlib.Core.Bool.{Bool, true, false, cond}
 use mathlib.Core.List.{List, [], _∷_}
 use native.Mathlib.Omega.{arith}
@@ -10,8 +10,7 @@ use Rattle.lists.specs.Regions.{part, Part, Out, Out3, Apart, Kept, Three}
 use Rattle.lists.proofs.Regions.{part-kept, part-of}
 use Rattle.sheet.specs.declared.Counts.{Counts}
 use Rattle.sheet.specs.Edges.{joinTo}
-use Rattle.incidence.specs.Corners.{Cornered, edgeOrder, cornersAt, firstAt}
-use Rattle.incidence.specs.Marks.{Incident}
+use Rattle.incidence.specs.Corners.{edgeOrder, cornersAt, firstAt}
 use Rattle.refine.specs.Loops.{orderAt}
 use Rattle.rows.specs.Steps.{numberIn, seamAt, seamCorners, seamsTo, seamsOf, startsAt, listAt, masksAt, numbersAt, seamsAt, countsAfter, Worked, Seaming, Gathering}
 

@@ -1,5 +1,4 @@
 -- The case of document 01 marked * that concerns `boundary_rows`: the unit cube with rows. Assumes nothing.
-use Prim.Native.Nat.{ℕ}
 use mathlib.Core.Path.{_≡_, refl}
 use mathlib.Core.Bool.{Bool, true}
 use mathlib.Core.List.{List, [], _∷_}

@@ -1,19 +1,19 @@
 -- The corners at which strips run, listed in the work slice; the strips and the copied corners that are read from it. Assumes nothing.
-use Prim.Native.Nat.{ℕ, zero, suc, _+_, _*_, _/_, _%_, _≤_, _<_}
+use Prim.Native.Nat.{ℕ, _+_, _*_, _/_, _%_, _≤_, _<_}
 use mathlib.Core.Path.{_≡_, refl, sym, ap, _∙_}
-use mathlib.Core.Bool.{Bool, true, false, cond, not, _&&_, false≢true}
+use mathlib.Core.Bool.{Bool, true, false, cond, not, false≢true}
 use mathlib.Core.List.{List, [], _∷_, _++_, map, append-nil, append-assoc}
 use native.Mathlib.Omega.{arith}
 use native.Mathlib.Numerals.{add-one}
-use lib.Dec.{eqb, ltb}
-use lib.ListN.{length, getD, set, length-append, length-set}
+use lib.Dec.{eqb}
+use lib.ListN.{length, getD, set, length-set}
 use lib.Seq.{getD-set-same}
 use lib.Ieee.{Float}
 use borrow.Author.Tests.{ltb-true}
 use Rattle.lists.specs.Sort.{tabulate}
 use Rattle.lists.specs.Regions.{part, Part, Out, Kept}
-use Rattle.lists.proofs.Every.{and-left, and-right}
-use Rattle.lists.proofs.Regions.{part-len, part-get, part-set-out, part-as, part-kept, part-of, kept-refl, kept-set, kept-then, elementOf, tab-own}
+use Rattle.lists.proofs.Every.{and-left}
+use Rattle.lists.proofs.Regions.{part-len, part-get, part-set-out, part-as, kept-refl, kept-set, kept-then, elementOf, tab-own}
 use Rattle.points.specs.declared.Point.{Point}
 use Rattle.points.specs.Points.{pointAt, subP}
 use Rattle.sheet.specs.Quads.{quad}
@@ -30,8 +30,7 @@ use Rattle.refine.proofs.Requests.{map-tab}
 use Rattle.smoothed.specs.Steps.{keep, Spans}
 use Rattle.smoothed.proofs.Sums.{part-suc}
 use Rattle.rows.specs.declared.Centres.{Centres}
-use Rattle.rows.specs.Rows.{keyOf}
-use Rattle.rows.specs.Steps.{copiedIn, numberIn, ofLabel, centresOf, inwardAt, cornerLabel, cornerIn, isTwo, seamAt, seamCorners, seamsTo, seamsOf, stripIn, masksAt, numbersAt, seamsAt, Labelled, Gathered, Seaming}
+use Rattle.rows.specs.Steps.{copiedIn, ofLabel, centresOf, inwardAt, cornerIn, isTwo, seamAt, seamCorners, seamsTo, seamsOf, stripIn, numbersAt, seamsAt, Gathered, Seaming}
 use Rattle.rows.proofs.Put.{number-read}
 use Rattle.rows.proofs.Flat.{seams-low}
 
@@ -123,8 +122,7 @@ module _ {np nq : ℕ} {Q labels : List ℕ} {i next : ℕ} {w : List ℕ} (S : 
       let f : (seamsTo Q labels (4 * nq) (edgeOrder np nq Q) i ++ (x ∷ [])) ++ (y ∷ []) ≡ seamsTo Q labels (4 * nq) (edgeOrder np nq Q) (i + 1) =
       append-assoc (seamsTo Q labels (4 * nq) (edgeOrder np nq Q) i) (x ∷ []) (y ∷ [])
       ∙ rw (seams-suc Q labels (4 * nq) (edgeOrder np nq Q) i, ← et, e, place-read (S .cornered) ou (i + 1) y b refl, place-read (S .cornered) (S .order) i x h refl) in
-      let m : next + 1 + 1 ≡ next + 2 = omega arith in
-      (
+      let m : next + 1 + 1 ≡ next + 2 = omega arith in (
         record {
           cornered = S .cornered;
           labelled = S .labelled;

@@ -531,20 +531,22 @@ fn put_quads(
     ensures { λ _. ⌜ Front (take nq (now (labels .entry)) ++ map (cornerLabel (now (labels .entry))) (seamsOf np nq (now (quads .entry)) (now (labels .entry)))) (now («new_labels» .exit)) ⌝ }
 {
     put_copied(points, quads, labels, np, nq, w, new_quads);
-    put_strips(points, quads, labels, np, nq, m, w, &mut new_quads[4 * nq..]);
+    put_strips(
+        points,
+        quads,
+        labels,
+        np,
+        nq,
+        m,
+        w,
+        &mut new_quads[4 * nq..],
+    );
     copy_labels(nq, labels, new_labels);
     put_strip_labels(points, quads, labels, np, nq, m, w, &mut new_labels[nq..]);
 }
 
 // The answer for the sheet with rows, which is tested as a lent one.
-fn tested(
-    b: Band,
-    c: Counts,
-    points: &[f64],
-    quads: &[u32],
-    labels: &[u8],
-    w: &mut [u32],
-) -> Made
+fn tested(b: Band, c: Counts, points: &[f64], quads: &[u32], labels: &[u8], w: &mut [u32]) -> Made
     requires { ⌜ LentSheet c (length (now points)) (length (now quads)) (length (now labels)) ⌝ }
     requires { ⌜ c .points ≤ length (now w) ⌝ }
     ensures { λ r. ⌜ r ≡ madeBy c (sheetVerdict b (sheetOf c (now (points .entry)) (now (quads .entry)) (now (labels .entry)))) ⌝ }

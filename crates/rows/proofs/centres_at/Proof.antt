@@ -1,3 +1,4 @@
+-- `rows::centres_at` meets its contract. Assumes nothing.
 use native.Mathlib.Omega.{arith}
 use borrow.Author.Needs.{needs}
 use mathlib.Core.Path.{ap}
@@ -8,13 +9,6 @@ use Rattle.smoothed.proofs.Sums.{below-at}
 use Rattle.rows.proofs.Copies.{CentreLoop, centres-start, centres-few, centres-turn, centres-end}
 use Rattle.rows.proofs.centres_at.Statement.{statement}
 use Rattle.rows.proofs.centres_at.Tie as tie
-use Rattle.rows.proofs.centres_at.Reads as reads
-use Rattle.rows.proofs.centres_at.Lts as lts
-use Rattle.lists.proofs.at.Reads as at-reads
-use Rattle.lists.proofs.byte_at.Reads as byte-at-reads
-use Rattle.rows.proofs.with_centre.Reads as with-centre-reads
-use Rattle.smoothed.proofs.centre_at.Reads as centre-at-reads
-use Rattle.smoothing.proofs.origin.Reads as origin-reads
 
 abbrev Inv-loop : tie.InvT-loop
 Inv-loop points quads labels np nq from m l w c₀ j₀ c j = CentreLoop points quads labels from m l w c j

@@ -1,8 +1,9 @@
+-- `rows::copy_at` meets its contract. Assumes nothing.
 use native.Mathlib.Omega.{arith}
 use borrow.Author.Needs.{needs}
 use Rattle.sheet.proofs.Masks.{shl-is, pow-small}
 use Rattle.rows.proofs.Put.{copy-by}
-use Prim.Native.Nat.{_%_, _/_}
+use Prim.Native.Nat.{_%_}
 use Rattle.rows.proofs.copy_at.Statement.{statement}
 use Rattle.rows.proofs.copy_at.Tie as tie
 

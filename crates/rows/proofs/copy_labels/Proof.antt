@@ -1,5 +1,5 @@
+-- `rows::copy_labels` meets its contract. Assumes nothing.
 use native.Mathlib.Omega.{arith}
-use borrow.Author.Needs.{needs}
 use mathlib.Core.Path.{refl}
 use Prim.Native.Nat.{_-_}
 use lib.ListN.{getD}
@@ -7,8 +7,6 @@ use Rattle.lists.proofs.Laws.{Filled, filled-start, filled-turn, tab-take}
 use Rattle.refine.proofs.Loops.{front-filled}
 use Rattle.rows.proofs.copy_labels.Statement.{statement}
 use Rattle.rows.proofs.copy_labels.Tie as tie
-use Rattle.rows.proofs.copy_labels.Reads as reads
-use Rattle.rows.proofs.copy_labels.Lts as lts
 
 abbrev Inv-loop : tie.InvT-loop
 Inv-loop nq labels out₀ i₀ out i = Filled (λ k. getD labels k 0) out₀ nq out i

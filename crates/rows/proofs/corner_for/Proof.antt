@@ -1,13 +1,9 @@
+-- `rows::corner_for` meets its contract. Assumes nothing.
 use native.Mathlib.Omega.{arith}
 use borrow.Author.Needs.{needs}
 use Rattle.rows.proofs.Strips.{key-from, corner-copied, corner-kept}
 use Rattle.rows.proofs.corner_for.Statement.{statement}
 use Rattle.rows.proofs.corner_for.Tie as tie
-use Rattle.rows.proofs.corner_for.Reads as reads
-use Rattle.rows.proofs.corner_for.Lts as lts
-use Rattle.lists.proofs.at.Reads as at-reads
-use Rattle.lists.proofs.byte_at.Reads as byte-at-reads
-use Rattle.rows.proofs.is_copied.Reads as is-copied-reads
 
 add-n : tie.Need-add-n
 add-n c = search needs

@@ -1,3 +1,4 @@
+-- `rows::first_found` meets its contract. Assumes nothing.
 use native.Mathlib.Omega.{arith}
 use borrow.Author.Needs.{needs}
 use mathlib.Core.Path.{_≡_, refl, sym, _∙_}
@@ -5,11 +6,6 @@ use Rattle.rows.specs.Rows.{tryFrom}
 use Rattle.rows.proofs.Copies.{try-none, try-found, try-again}
 use Rattle.rows.proofs.first_found.Statement.{statement}
 use Rattle.rows.proofs.first_found.Tie as tie
-use Rattle.rows.proofs.first_found.Reads as reads
-use Rattle.rows.proofs.first_found.Lts as lts
-use Rattle.points.proofs.add.Reads as add-reads
-use Rattle.points.proofs.mul.Reads as mul-reads
-use Rattle.projection.proofs.project.Reads as project-reads
 
 abbrev Inv-loop : tie.InvT-loop
 Inv-loop b len p d mask step₀ left₀ step left = tryFrom left b p d mask step ≡ tryFrom left₀ b p d mask step₀

@@ -1,3 +1,4 @@
+-- `rows::gather` meets its contract. Assumes nothing.
 use native.Mathlib.Omega.{arith}
 use borrow.Author.Needs.{needs}
 use Rattle.rows.proofs.Stages.{order-room, list-room, numbering, seaming, worked, counts-are, seams-few}

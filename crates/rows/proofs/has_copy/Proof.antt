@@ -1,3 +1,4 @@
+-- `rows::has_copy` meets its contract. Assumes nothing.
 use native.Mathlib.Omega.{arith}
 use Prim.Native.Nat.{_≤_}
 use borrow.Author.Needs.{needs}
@@ -5,9 +6,6 @@ use Rattle.sheet.proofs.Masks.{shl-is, pow-small}
 use Rattle.rows.specs.Steps.{copiedBy}
 use Rattle.rows.proofs.has_copy.Statement.{statement}
 use Rattle.rows.proofs.has_copy.Tie as tie
-use Rattle.rows.proofs.has_copy.Reads as reads
-use Rattle.rows.proofs.has_copy.Lts as lts
-use Rattle.smoothed.proofs.ones.Reads as ones-reads
 
 shl-p : tie.Need-shl-p
 shl-p c = search needs

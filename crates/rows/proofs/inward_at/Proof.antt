@@ -1,15 +1,9 @@
+-- `rows::inward_at` meets its contract. Assumes nothing.
 use native.Mathlib.Omega.{arith}
 use borrow.Author.Needs.{needs}
 use Rattle.rows.proofs.Strips.{inward-by}
 use Rattle.rows.proofs.inward_at.Statement.{statement}
 use Rattle.rows.proofs.inward_at.Tie as tie
-use Rattle.rows.proofs.inward_at.Reads as reads
-use Rattle.rows.proofs.inward_at.Lts as lts
-use Rattle.points.proofs.point_at.Reads as point-at-reads
-use Rattle.points.proofs.sub.Reads as sub-reads
-use Rattle.rows.proofs.centres_at.Reads as centres-at-reads
-use Rattle.smoothed.proofs.span_at.Reads as span-at-reads
-use Rattle.smoothing.proofs.mean.Reads as mean-reads
 
 add-n : tie.Need-add-n
 add-n c = search needs

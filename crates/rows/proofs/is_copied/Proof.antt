@@ -1,11 +1,8 @@
-use native.Mathlib.Omega.{arith}
+-- `rows::is_copied` meets its contract. Assumes nothing.
 use borrow.Author.Needs.{needs}
 use Rattle.rows.proofs.Copies.{copied-at}
 use Rattle.rows.proofs.is_copied.Statement.{statement}
 use Rattle.rows.proofs.is_copied.Tie as tie
-use Rattle.rows.proofs.is_copied.Reads as reads
-use Rattle.rows.proofs.is_copied.Lts as lts
-use Rattle.rows.proofs.has_copy.Reads as has-copy-reads
 
 add-has-copy : tie.Need-add-has-copy
 add-has-copy c = search needs

@@ -1,14 +1,10 @@
+-- `rows::is_seam` meets its contract. Assumes nothing.
 use native.Mathlib.Omega.{arith}
 use borrow.Author.Needs.{needs}
 use Rattle.census.proofs.Walk.{walked-of}
 use Rattle.rows.proofs.Strips.{place-low, two-next, seam-yes, seam-no}
 use Rattle.rows.proofs.is_seam.Statement.{statement}
 use Rattle.rows.proofs.is_seam.Tie as tie
-use Rattle.rows.proofs.is_seam.Reads as reads
-use Rattle.rows.proofs.is_seam.Lts as lts
-use Rattle.census.proofs.kind_at.Reads as kind-at-reads
-use Rattle.lists.proofs.at.Reads as at-reads
-use Rattle.lists.proofs.byte_at.Reads as byte-at-reads
 
 add-order : tie.Need-add-order
 add-order c = search needs

@@ -1,12 +1,10 @@
+-- `rows::list_seams` meets its contract. Assumes nothing.
 use native.Mathlib.Omega.{arith}
 use borrow.Author.Needs.{needs}
 use Prim.Native.Nat.{_-_, _*_}
 use Rattle.rows.proofs.Strips.{SeamLoop, seams-start, seams-turn, seams-end}
 use Rattle.rows.proofs.list_seams.Statement.{statement}
 use Rattle.rows.proofs.list_seams.Tie as tie
-use Rattle.rows.proofs.list_seams.Reads as reads
-use Rattle.rows.proofs.list_seams.Lts as lts
-use Rattle.rows.proofs.put_seam.Reads as put-seam-reads
 
 abbrev Inv-loop : tie.InvT-loop
 Inv-loop quads labels np nq w₀ next₀ i₀ w next i = SeamLoop np nq quads labels w₀ w next i

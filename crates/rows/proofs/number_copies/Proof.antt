@@ -1,3 +1,4 @@
+-- `rows::number_copies` meets its contract. Assumes nothing.
 use native.Mathlib.Omega.{arith}
 use borrow.Author.Needs.{needs}
 use mathlib.Core.Path.{refl}
@@ -5,10 +6,6 @@ use Prim.Native.Nat.{_-_, _*_}
 use Rattle.rows.proofs.Copies.{num-le, NumberLoop, numbers-start, next-small, number-put, numbers-turn, numbers-end}
 use Rattle.rows.proofs.number_copies.Statement.{statement}
 use Rattle.rows.proofs.number_copies.Tie as tie
-use Rattle.rows.proofs.number_copies.Reads as reads
-use Rattle.rows.proofs.number_copies.Lts as lts
-use Rattle.census.proofs.one_if.Reads as one-if-reads
-use Rattle.rows.proofs.is_copied.Reads as is-copied-reads
 
 abbrev Inv-loop : tie.InvT-loop
 Inv-loop np masks num w₀ next₀ k₀ w next k = NumberLoop np masks num w₀ w next k

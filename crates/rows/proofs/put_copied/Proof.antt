@@ -1,3 +1,4 @@
+-- `rows::put_copied` meets its contract. Assumes nothing.
 use native.Mathlib.Omega.{arith}
 use borrow.Author.Needs.{needs}
 use Prim.Native.Nat.{_-_, _*_}
@@ -7,9 +8,6 @@ use Rattle.refine.proofs.Loops.{front-filled}
 use Rattle.rows.specs.Steps.{cornerIn, masksAt}
 use Rattle.rows.proofs.put_copied.Statement.{statement}
 use Rattle.rows.proofs.put_copied.Tie as tie
-use Rattle.rows.proofs.put_copied.Reads as reads
-use Rattle.rows.proofs.put_copied.Lts as lts
-use Rattle.rows.proofs.corner_for.Reads as corner-for-reads
 
 abbrev Inv-loop : tie.InvT-loop
 Inv-loop points quads labels np nq w out₀ c₀ out c = Filled (cornerIn np quads labels (part (masksAt np nq) np w)) out₀ (4 * nq) out c

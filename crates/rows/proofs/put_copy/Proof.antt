@@ -1,3 +1,4 @@
+-- `rows::put_copy` meets its contract. Assumes nothing.
 use native.Mathlib.Omega.{arith}
 use borrow.Author.Needs.{needs}
 use Rattle.rows.proofs.Put.{put-none, put-fails, put-found, number-read, number-room}

@@ -1,9 +1,9 @@
+-- `rows::put_quads` meets its contract. Assumes nothing.
 use native.Mathlib.Omega.{arith}
 use borrow.Author.Needs.{needs}
 use Rattle.lists.proofs.Laws.{length-tab}
 use lib.Seq.{length-take-le}
-use Rattle.rows.proofs.Rule.{front-behind}
-use Rattle.rows.proofs.Rule.{end-room}
+use Rattle.rows.proofs.Rule.{front-behind, end-room}
 use Prim.Native.Nat.{_*_}
 use Rattle.rows.proofs.put_quads.Statement.{statement}
 use Rattle.rows.proofs.put_quads.Tie as tie

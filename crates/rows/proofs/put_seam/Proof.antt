@@ -1,12 +1,10 @@
+-- `rows::put_seam` meets its contract. Assumes nothing.
 use native.Mathlib.Omega.{arith}
 use borrow.Author.Needs.{needs}
 use lib.ListN.{length-set}
 use Rattle.rows.proofs.Strips.{seam-next, seam-stay, seam-turn}
 use Rattle.rows.proofs.put_seam.Statement.{statement}
 use Rattle.rows.proofs.put_seam.Tie as tie
-use Rattle.rows.proofs.put_seam.Reads as reads
-use Rattle.rows.proofs.put_seam.Lts as lts
-use Rattle.rows.proofs.is_seam.Reads as is-seam-reads
 
 is-seam-requires : tie.Need-is-seam-requires
 is-seam-requires c κs = let S = c .before .before .before .before .pre .0 in (S .cornered, (S .labelled, (S .order, c .before .before .before .before .pre .1)))

@@ -1,13 +1,10 @@
+-- `rows::put_strip` meets its contract. Assumes nothing.
 use native.Mathlib.Omega.{arith}
 use borrow.Author.Needs.{needs}
 use Rattle.rows.proofs.Strips.{key-from, key-to, strip-read}
 use mathlib.Core.Path.{refl}
 use Rattle.rows.proofs.put_strip.Statement.{statement}
 use Rattle.rows.proofs.put_strip.Tie as tie
-use Rattle.rows.proofs.put_strip.Reads as reads
-use Rattle.rows.proofs.put_strip.Lts as lts
-use Rattle.lists.proofs.byte_at.Reads as byte-at-reads
-use Rattle.refine.proofs.put_quad.Reads as put-quad-reads
 
 add-num : tie.Need-add-num
 add-num c = search needs

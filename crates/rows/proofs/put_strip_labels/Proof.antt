@@ -1,3 +1,4 @@
+-- `rows::put_strip_labels` meets its contract. Assumes nothing.
 use native.Mathlib.Omega.{arith}
 use borrow.Author.Needs.{needs}
 use mathlib.Core.Path.{ap}
@@ -9,9 +10,6 @@ use Rattle.rows.specs.Steps.{seamsOf, cornerLabel}
 use Rattle.rows.proofs.Strips.{seam-read, seam-low, map-own}
 use Rattle.rows.proofs.put_strip_labels.Statement.{statement}
 use Rattle.rows.proofs.put_strip_labels.Tie as tie
-use Rattle.rows.proofs.put_strip_labels.Reads as reads
-use Rattle.rows.proofs.put_strip_labels.Lts as lts
-use Rattle.lists.proofs.at.Reads as at-reads
 
 abbrev Inv-loop : tie.InvT-loop
 Inv-loop points quads labels np nq m w out₀ at t₀ out t = Filled (λ k. cornerLabel labels (getD (seamsOf np nq quads labels) k 0)) out₀ m out t

@@ -1,20 +1,14 @@
+-- `rows::put_strips` meets its contract. Assumes nothing.
 use native.Mathlib.Omega.{arith}
 use borrow.Author.Needs.{needs}
-use mathlib.Core.Path.{sym, ap, _∙_}
-use Prim.Native.Nat.{ℕ, _-_}
-use mathlib.Core.List.{List}
+use Prim.Native.Nat.{_-_}
 use lib.ListN.{getD}
 use Rattle.lists.specs.Regions.{part}
-use Rattle.refine.specs.Requests.{withQuad}
 use Rattle.refine.proofs.Loops.{QuadLoop, quads-start, quads-turn, quads-end}
 use Rattle.rows.specs.Steps.{seamsOf, stripIn, masksAt}
 use Rattle.rows.proofs.Strips.{seam-read, seam-low, map-own}
 use Rattle.rows.proofs.put_strips.Statement.{statement}
 use Rattle.rows.proofs.put_strips.Tie as tie
-use Rattle.rows.proofs.put_strips.Reads as reads
-use Rattle.rows.proofs.put_strips.Lts as lts
-use Rattle.lists.proofs.at.Reads as at-reads
-use Rattle.rows.proofs.put_strip.Reads as put-strip-reads
 
 abbrev Inv-loop : tie.InvT-loop
 Inv-loop points quads labels np nq m w out₀ at t₀ out t = QuadLoop (λ k. stripIn np quads labels (part (masksAt np nq) np w) (getD (seamsOf np nq quads labels) k 0)) m out₀ out t

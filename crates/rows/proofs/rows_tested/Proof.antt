@@ -1,4 +1,4 @@
-use native.Mathlib.Omega.{arith}
+-- `rows::rows_tested` meets its contract. Assumes nothing.
 use borrow.Author.Needs.{needs}
 use mathlib.Core.Path.{sym, _∙_}
 use Rattle.rows.proofs.Rule.{tested-gathering, tested-over, tested-finished, tested-done}

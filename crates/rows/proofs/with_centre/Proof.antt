@@ -1,11 +1,8 @@
-use native.Mathlib.Omega.{arith}
+-- `rows::with_centre` meets its contract. Assumes nothing.
 use borrow.Author.Needs.{needs}
 use Rattle.rows.proofs.Copies.{centre-not, centre-more}
 use Rattle.rows.proofs.with_centre.Statement.{statement}
 use Rattle.rows.proofs.with_centre.Tie as tie
-use Rattle.rows.proofs.with_centre.Reads as reads
-use Rattle.rows.proofs.with_centre.Lts as lts
-use Rattle.points.proofs.add.Reads as add-reads
 
 returns : tie.Need-returns
 returns c = let a = c .before .args in centre-not (a .test) (a .c) (a .p) (c .if1 .taken)
