@@ -181,7 +181,7 @@ neighbour {np} {nq} {Q} {E} i b S h l s =
 -- ---- the keys of requests
 
 -- a pair of numbers below n is known by its key
-pub key-parts : (n a b c d : ℕ) → b < n → d < n → a * n + b ≡ c * n + d → (a ≡ c) × (b ≡ d)
+key-parts : (n a b c d : ℕ) → b < n → d < n → a * n + b ≡ c * n + d → (a ≡ c) × (b ≡ d)
 key-parts n a b c d lb ld e = (
   omega (arith, ap (λ k. k / n) e, mul-add-div-right {m = n} (omega arith) a b, mul-add-div-right {m = n} (omega arith) c d, div-eq-of-lt {n = b} {m = n} lb, div-eq-of-lt {n = d} {m = n} ld),
   sym (mod-eq-of-lt lb) ∙ (sym (mul-add-mod-self-right a n b) ∙ (ap (λ k. k % n) e ∙ (mul-add-mod-self-right c n d ∙ mod-eq-of-lt ld))),

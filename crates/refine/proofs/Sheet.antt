@@ -73,7 +73,7 @@ module _ {np nq : ℕ} {Q : List ℕ} (C : Cornered np nq Q) where
   count-is = rw (count-own (5 * nq) (omega arith), ← count-used (keyAt np Q) (5 * nq) (firstOf np nq Q) (first-of C) (5 * nq) (omega arith), asked-is)
 
   -- the keys that are asked for are those of the first requests
-  pub asked-made-to : (t : ℕ) → t ≤ 5 * nq → usedTo (keyAt np Q) t ≡ madeTo (firstsOf np nq Q) (keyAt np Q) t
+  asked-made-to : (t : ℕ) → t ≤ 5 * nq → usedTo (keyAt np Q) t ≡ madeTo (firstsOf np nq Q) (keyAt np Q) t
   unfolding madeTo
   asked-made-to zero h = used-zero (keyAt np Q)
   asked-made-to (suc t) h =
@@ -86,14 +86,14 @@ module _ {np nq : ℕ} {Q : List ℕ} (C : Cornered np nq Q) where
   pub asked-keys : asked np (quadsOf nq Q) ≡ madeTo (firstsOf np nq Q) (keyAt np Q) (5 * nq)
   asked-keys = sym asked-is ∙ asked-made-to (5 * nq) (omega arith)
 
-  pub key-edge : (q j : ℕ) → j < 4 → keyAt np Q (5 * q + j) ≡ edgeKey np (corner Q q j) (corner Q q ((j + 1) % 4))
+  key-edge : (q j : ℕ) → j < 4 → keyAt np Q (5 * q + j) ≡ edgeKey np (corner Q q j) (corner Q q ((j + 1) % 4))
   unfolding keyAt
   key-edge q j h =
       let d : (5 * q + j) / 5 ≡ q = omega arith in
       let r : (5 * q + j) % 5 ≡ j = omega arith in
       rw (d, r, ne-eqb j 4 (λ e. omega arith))
 
-  pub key-centre : (q : ℕ) → keyAt np Q (5 * q + 4) ≡ centreKey np q
+  key-centre : (q : ℕ) → keyAt np Q (5 * q + 4) ≡ centreKey np q
   unfolding keyAt
   key-centre q =
       let d : (5 * q + 4) / 5 ≡ q = omega arith in

@@ -62,7 +62,7 @@ fn in_range(np: usize, n: usize, quads: &[u32]) -> bool
 }
 
 // The request for the edge of corner c.
-pub fn request_of(c: usize) -> usize
+fn request_of(c: usize) -> usize
     requires { ⌜ c < 2 ^ 32 ⌝ }
     ensures { λ r. ⌜ r ≡ requestOf c ⌝ }
 {

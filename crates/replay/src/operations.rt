@@ -11,6 +11,9 @@ const MOST_POINTS: u64 = 384;
 
 const MOST_QUADS: u64 = 256;
 
+// Where the numbers of a record's band begin.
+const BAND: usize = 64;
+
 // Where the result of a record with a sheet of these sizes begins.
 fn result_at(n: Sizes) -> usize
     requires { ⌜ Small n ⌝ }
@@ -95,11 +98,97 @@ fn refine(bytes: &[u8], n: Sizes, number: u64) -> bool
         )
 }
 
-// Whether the operation on a record's sheet answers as the record says; a larger sheet is not taken.
+// Whether eight counts, and then tight and valid, are those of a record's result from a place on.
+fn same_tally(bytes: &[u8], at: usize, answer: &[u64; 10]) -> bool
+    requires { ⌜ at ≤ 4000 ⌝ }
+{
+    let mut i = 0;
+    while i < 8 {
+        if answer[i] != numbers::word_at(bytes, at + 8 * i) {
+            return false;
+        }
+        i += 1;
+    }
+    let flags = numbers::byte_at(bytes, 6);
+    answer[8] == flags / 4 % 2 && answer[9] == flags / 2 % 2
+}
+
+// Whether a measure is the one stored at a place; zeros of either sign are equal.
+fn same_measure(bytes: &[u8], at: usize, x: f64) -> bool
+    requires { ⌜ at ≤ 4096 ⌝ }
+{
+    let stored = numbers::word_at(bytes, at);
+    numbers::bits_of(x) == stored || (x == 0.0 && stored % 0x8000_0000_0000_0000 == 0)
+}
+
+// Whether four measures are those stored from a place on; the second counts only where the record says so.
+fn same_measures(bytes: &[u8], at: usize, m: &[f64; 4]) -> bool
+    requires { ⌜ at ≤ 4064 ⌝ }
+{
+    let scored = numbers::byte_at(bytes, 6) / 8 % 2 == 1;
+    same_measure(bytes, at, m[0])
+        & (!scored | same_measure(bytes, at + 8, m[1]))
+        & same_measure(bytes, at + 16, m[2])
+        & same_measure(bytes, at + 24, m[3])
+}
+
+// Whether `quality` answers as the record says; k holds the band.
+fn quality(bytes: &[u8], n: Sizes, k: &[f64], number: u64) -> bool
+    requires { ⌜ Small n ⌝ }
+{
+    if k.len() < 18 {
+        return false;
+    }
+    let mut points = [0.0; 192];
+    let mut quads = [0u32; 256];
+    let mut labels = [0u8; 64];
+    sheets::load(bytes, n, &mut points, &mut quads, &mut labels);
+    let mut work = [0u32; 8192];
+    let mut floats = [0.0; 2048];
+    let mut answer = [0u64; 10];
+    let mut measures = [0.0; 4];
+    let got = quads::quads_quality(
+        &points,
+        &quads,
+        &labels,
+        n.points,
+        n.quads,
+        n.labels,
+        numbers::byte_at(bytes, 7) as u32,
+        &k[0..10],
+        &k[10..16],
+        k[16],
+        k[17],
+        &mut work,
+        &mut floats,
+        &mut answer,
+        &mut measures,
+    );
+    if got != 0 {
+        return got as u64 == number;
+    }
+    let at = result_at(n);
+    number == 0 && same_tally(bytes, at, &answer) && same_measures(bytes, at + 64, &measures)
+}
+
+// Whether the operation on a record's sheet of these sizes answers as the record says.
+fn agrees_on(bytes: &[u8], n: Sizes, operation: u64, number: u64) -> bool
+    requires { ⌜ Small n ⌝ }
+{
+    let mut k = [0.0; 18];
+    numbers::load_floats(bytes, BAND, &mut k);
+    match operation {
+        1 => refine(bytes, n, number),
+        8 => quality(bytes, n, &k, number),
+        _ => false,
+    }
+}
+
+// The same of a sheet of any size; a larger one is not taken.
 pub fn agrees(bytes: &[u8], operation: u64, number: u64) -> bool {
     let n = sheets::sizes_of(bytes);
     if sheets::is_small(n) {
-        return refine(bytes, n, number) && operation == 1;
+        return agrees_on(bytes, n, operation, number);
     }
     false
 }

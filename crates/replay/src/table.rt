@@ -4,6 +4,7 @@
 fn print_name(operation: usize) {
     match operation {
         1 => io::write_all(1, b"refine "),
+        8 => io::write_all(1, b"quality "),
         9 => io::write_all(1, b"project "),
         10 => io::write_all(1, b"value "),
         11 => io::write_all(1, b"gradient "),

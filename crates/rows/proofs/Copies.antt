@@ -25,7 +25,8 @@ use Rattle.smoothing.specs.Smooth.{sumOf}
 use Rattle.smoothing.specs.Rounded.{pointwise}
 use Rattle.refine.proofs.Requests.{map-append}
 use Rattle.smoothed.specs.Steps.{cornerCentre, keep}
-use Rattle.smoothed.proofs.Sums.{part-suc, fold-snoc}
+use Rattle.smoothing.proofs.Coordinates.{sum-snoc}
+use Rattle.smoothed.proofs.Sums.{part-suc}
 use Rattle.smoothed.proofs.CreaseLoop.{keep-append, keep-le}
 use Rattle.rows.specs.declared.Centres.{Centres}
 use Rattle.rows.specs.Rows.{half, orElse, tryFrom}
@@ -98,8 +99,8 @@ module _ {np masks pos : ℕ} {v w : List ℕ} {next k : ℕ} (I : NumberLoop np
 -- ---- the centres of the quads of one label
 
 centres-add : (P : List Float) (Q l : List ℕ) (c : ℕ) → centresOf P Q (l ++ (c ∷ [])) ≡ withCentre (centresOf P Q l) (cornerCentre P Q c)
-unfolding centresOf withCentre sumOf
-centres-add P Q l c = rw (map-append (cornerCentre P Q) l (c ∷ []), fold-snoc addP (pointwise .whole 0) (map (cornerCentre P Q) l) (cornerCentre P Q c), length-append l (c ∷ []))
+unfolding centresOf withCentre
+centres-add P Q l c = rw (map-append (cornerCentre P Q) l (c ∷ []), sum-snoc pointwise (map (cornerCentre P Q) l), length-append l (c ∷ []))
 
 count-is : (P : List Float) (Q l : List ℕ) → centresOf P Q l .count ≡ length l
 unfolding centresOf

@@ -1,7 +1,7 @@
 -- Sums over a part of the work slice, one element more at a time. Assumes nothing.
 use Prim.Native.Nat.{ℕ, _+_, _-_, _*_, _/_, _%_, _≤_, _<_}
-use mathlib.Core.Path.{_≡_, refl, ap, _∙_}
-use mathlib.Core.List.{List, [], _∷_, _++_, map, foldl}
+use mathlib.Core.Path.{_≡_, ap, _∙_}
+use mathlib.Core.List.{List, [], _∷_, _++_, map}
 use native.Mathlib.Omega.{arith}
 use native.Mathlib.Numerals.{add-one}
 use lib.ListN.{length, getD, drop, length-drop}
@@ -13,7 +13,7 @@ use Rattle.smoothing.specs.Smooth.{sumOf}
 use Rattle.smoothing.specs.Rounded.{pointwise}
 use Rattle.refine.specs.Loops.{Held}
 use Rattle.refine.proofs.Requests.{map-append}
-use Rattle.smoothing.proofs.Coordinates.{halfway-by}
+use Rattle.smoothing.proofs.Coordinates.{sum-snoc, halfway-by}
 use Rattle.points.specs.Points.{addP, halfwayP, pointAt}
 use Rattle.smoothed.specs.Steps.{Below, otherEnd, halfwayTo}
 
@@ -22,10 +22,6 @@ pub part-suc : {A : Type 0} (d : A) (from j : ℕ) (w : List A) → from + j < l
 part-suc d from j w h =
     let l : length (drop from w) ≡ length w - from = length-drop from w in
     rw (add-one j, take-suc (drop from w) j d (omega arith), getD-drop from w j d)
-
-pub fold-snoc : {A B : Type 0} (f : B → A → B) (z : B) (l : List A) (x : A) → foldl f z (l ++ (x ∷ [])) ≡ f (foldl f z l) x
-fold-snoc f z [] x = refl
-fold-snoc f z (y ∷ l) x = fold-snoc f (f z y) l x
 
 -- an element of the part is below the bound
 pub below-at : {bound from n : ℕ} {w : List ℕ} (j x : ℕ) → Below bound from n w → j < n → x ≡ getD w (from + j) 0 → x < bound
@@ -42,10 +38,9 @@ sum-start g from m w s e = record { j≤ = omega arith; is = e }
 
 pub sum-turn : {g : ℕ → Point} {from m : ℕ} {w : List ℕ} {s : Point} {j : ℕ} (x : ℕ) (p r : Point) → Sum g from m w s j → j < m → from + m ≤ length w
     → x ≡ getD w (from + j) 0 → p ≡ g x → r ≡ addP s p → Sum g from m w r (j + 1)
-unfolding sumOf
 sum-turn {g} {from} {m} {w} {s} {j} x p r I h fits ex ep er = record {
   j≤ = omega arith;
-  is = rw (er, ep, ex, part-suc 0 from j w (omega arith), map-append g (part from j w), fold-snoc addP) (ap (λ (q : Point). addP q (g (getD w (from + j) 0))) (I .is));
+  is = rw (er, ep, ex, part-suc 0 from j w (omega arith), map-append g (part from j w), sum-snoc pointwise (map g (part from j w))) (ap (λ (q : Point). addP q (g (getD w (from + j) 0))) (I .is));
 }
 
 pub sum-end : {g : ℕ → Point} {from m : ℕ} {w : List ℕ} {s : Point} {j : ℕ} → Sum g from m w s j → m ≤ j → s ≡ sumOf pointwise (map g (part from m w))

@@ -165,7 +165,7 @@ pub record Spans (nq : ℕ) (Q : List ℕ) (v from size : ℕ) (w : List ℕ) : 
   pub below : Below (4 * nq) from size w
   pub few : size ≤ 4 * nq
 
--- the corners of the points of Q and of the ends H of the edges, by point; nothing is marked at 0
+-- the corners of the quads Q and the ends H of the edges by their points; no marks are kept, and the region of marks is at 0
 pub record Listed (np nq : ℕ) (Q H w : List ℕ) : Type 0 where
   pub corners : Incident np nq Q (startsAt np nq) (listAt np nq) 0 w
   pub ends : Incident np nq H (endStartsAt np nq) (endListAt np nq) 0 w

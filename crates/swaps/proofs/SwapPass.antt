@@ -54,7 +54,7 @@ in-list S i a b c d ab e = go (decLt i (length S))
     go (yes l) = l
     go (no n) = absurd (ab (is-pos a b (omega (arith, e (λ p m n. is p m), ap (corners (λ p m n. is p m)) (List·getD-eq-default S noneQuad {n = i} (omega arith)), is-self 0, is-le d a, is-le b c, is-le c d))))
 
-two-quads : (S : List Quad) (i j h0 h1 h2 h3 h4 h5 : ℕ) → Six h0 h1 h2 h3 h4 h5
+pub two-quads : (S : List Quad) (i j h0 h1 h2 h3 h4 h5 : ℕ) → Six h0 h1 h2 h3 h4 h5
     → ((f : ℕ → ℕ → ℕ → ℕ) → corners f (getD S i noneQuad) ≡ corners f (quad h0 h3 h4 h5))
     → ((f : ℕ → ℕ → ℕ → ℕ) → corners f (getD S j noneQuad) ≡ corners f (quad h3 h0 h1 h2)) → i ≢ j
 two-quads S i j h0 h1 h2 h3 h4 h5 six qi qj p =

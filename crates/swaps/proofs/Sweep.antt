@@ -32,7 +32,7 @@ not-false false e = refl
 pub no-edge : (S : List Quad) (a b : ℕ) → not (isEdge S a b) ≡ true → side S a b + side S b a ≡ 0
 no-edge S a b e = let l = ltb-false 0 (side S a b + side S b a) (not-false (isEdge S a b) e) in omega arith
 
-six-of : (a b c d e f : ℕ) → sixDiffer a b c d e f ≡ true → Six a b c d e f
+pub six-of : (a b c d e f : ℕ) → sixDiffer a b c d e f ≡ true → Six a b c d e f
 six-of a b c d e f h = let z : is a b + (is a c + (is a d + (is a e + (is a f + (is b c + (is b d + (is b e + (is b f + (is c d + (is c e + (is c f + (is d e + (is d f + (is e f)))))))))))))) ≡ 0 = eqb-true (is a b + (is a c + (is a d + (is a e + (is a f + (is b c + (is b d + (is b e + (is b f + (is c d + (is c e + (is c f + (is d e + (is d f + (is e f))))))))))))))) 0 h in record {
   n01 = λ p. omega (arith, z, is-self a, ap (is a) p);
   n02 = λ p. omega (arith, z, is-self a, ap (is a) p);
@@ -69,7 +69,7 @@ bar-more (q ∷ S) (b ∷ bs) f e zero h = go b (f q) h
     go false false (inr h) = h
 bar-more (q ∷ S) (b ∷ bs) f e (suc k) h = bar-more S bs f (omega arith) k h
 
-bar-length : (S0 : List Quad) (bs : List Bool) (f : Quad → Bool) → length bs ≡ length S0 → length (barList S0 bs f) ≡ length S0
+pub bar-length : (S0 : List Quad) (bs : List Bool) (f : Quad → Bool) → length bs ≡ length S0 → length (barList S0 bs f) ≡ length S0
 bar-length [] bs f e = refl
 bar-length (q ∷ S) [] f e = absurd (omega arith)
 bar-length (q ∷ S) (b ∷ bs) f e = ap suc (bar-length S bs f (omega arith))

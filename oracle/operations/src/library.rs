@@ -1,144 +1,97 @@
-//! The exports of the static library `quads`, and its answer to a call.
+//! A call of the library: everything it is lent, and what it answers.
+use crate::exports::call;
+use crate::flat::{Flat, FlatBand, Work};
 use oracle::call::{Answer, Call, Operation};
-use oracle::quads::QuadMesh;
+use oracle::quads::Quality;
 
-// A slice passes as its pointer and its length.
-unsafe extern "C" {
-    fn quads_refine(
-        points: *const f64,
-        points_len: usize,
-        quads: *const u32,
-        quads_len: usize,
-        labels: *const u8,
-        labels_len: usize,
-        np: usize,
-        nq: usize,
-        nl: usize,
-        new_points: *mut f64,
-        new_points_len: usize,
-        new_quads: *mut u32,
-        new_quads_len: usize,
-        new_labels: *mut u8,
-        new_labels_len: usize,
-        work: *mut u32,
-        work_len: usize,
-        floats: *mut f64,
-        floats_len: usize,
-        answer: *mut u64,
-        answer_len: usize,
-    ) -> u32;
+/// All that an operation is lent; what it writes is filled with what must be overwritten.
+pub struct Lent {
+    sheet: Flat,
+    band: FlatBand,
+    result: Flat,
+    work: Work,
+    answer: [u64; 10],
+    measures: [f64; 4],
 }
 
-/// A sheet in flat lists, with its counts.
-struct Flat {
-    points: Vec<f64>,
-    quads: Vec<u32>,
-    labels: Vec<u8>,
-    counts: [usize; 3],
-}
-
-impl Flat {
-    /// A lent sheet.
-    fn of(sheet: &QuadMesh) -> Flat {
-        Flat {
-            points: sheet.points.as_flattened().to_vec(),
-            quads: sheet.quads.as_flattened().iter().map(|&corner| corner as u32).collect(),
-            labels: sheet.labels.clone(),
-            counts: [sheet.points.len(), sheet.quads.len(), sheet.labels.len()],
+impl Lent {
+    /// What the call lends; a finer sheet has room for what it can be and some more.
+    pub fn of(call: &Call) -> Lent {
+        let sheet = Flat::of(&call.sheet);
+        let [points, quads, _] = sheet.counts;
+        let finer = matches!(call.operation, Operation::Refine | Operation::Subdivide);
+        let room = if finer { [points + 5 * quads + 1, 4 * quads + 1, 4 * quads + 1] } else { [0; 3] };
+        Lent {
+            work: Work::of(sheet.counts),
+            sheet,
+            band: FlatBand::of(&call.band),
+            result: Flat::room(room),
+            answer: [u64::MAX; 10],
+            measures: [f64::NAN; 4],
         }
     }
 
-    /// Room for a sheet of these counts, filled with what must be overwritten.
-    fn room(counts: [usize; 3]) -> Flat {
-        let [points, quads, labels] = counts;
-        Flat { points: vec![f64::NAN; 3 * points], quads: vec![u32::MAX; 4 * quads], labels: vec![255; labels], counts }
+    /// Calls the operation: 0, or the number of its refusal. None where the library has no such export yet.
+    pub fn run(&mut self, operation: Operation) -> Option<u32> {
+        // SAFETY: each pointer and the length after it are of one list of `self`, and no two lists overlap.
+        unsafe {
+            match operation {
+                Operation::Refine => Some(call!(self.quads_refine [] sheet made work)),
+                Operation::Subdivide => Some(call!(self.quads_subdivide [] sheet band made work)),
+                Operation::Quality => Some(call!(self.quads_quality [] sheet band work measures)),
+                _ => None,
+            }
+        }
     }
 
-    /// The sheet of these counts, if all behind it is zero.
-    fn sheet(&self, counts: [usize; 3]) -> Option<QuadMesh> {
-        let [points, quads, labels] = counts;
-        let (p, behind_p) = self.points.split_at_checked(3 * points)?;
-        let (q, behind_q) = self.quads.split_at_checked(4 * quads)?;
-        let (l, behind_l) = self.labels.split_at_checked(labels)?;
-        let zero = behind_p.iter().all(|x| x.to_bits() == 0) && behind_q.iter().all(|&x| x == 0) && behind_l.iter().all(|&x| x == 0);
-        zero.then(|| QuadMesh {
-            points: p.as_chunks().0.to_vec(),
-            quads: q.as_chunks().0.iter().map(|quad: &[u32; 4]| quad.map(|corner| corner as usize)).collect(),
-            labels: l.to_vec(),
-        })
-    }
-}
-
-/// The two work slices of a lent sheet, filled with what must be cleared.
-struct Work {
-    whole: Vec<u32>,
-    floats: Vec<f64>,
-}
-
-impl Work {
-    /// What document 01 asks for a sheet of these counts.
-    fn of([points, quads, _]: [usize; 3]) -> Work {
-        let n = points + quads;
-        Work { whole: vec![u32::MAX; 64 * n], floats: vec![f64::NAN; 16 * n] }
+    /// The sheet that an operation made; none if something is left behind it.
+    fn made(&self) -> Option<Answer> {
+        let counts = [self.answer[1], self.answer[2], self.answer[3]].map(|n| n as usize);
+        Some(Answer::sheet(self.answer[0] as usize, &self.result.sheet(counts)?))
     }
 
-    /// Whether both are zero.
-    fn is_zero(&self) -> bool {
-        self.whole.iter().all(|&x| x == 0) && self.floats.iter().all(|x| x.to_bits() == 0)
+    /// The measures that `quality` wrote: eight counts, tight and valid, and four floats.
+    fn measured(&self) -> Option<Answer> {
+        let n = |i: usize| self.answer[i] as usize;
+        let quality = Quality {
+            quads: n(0),
+            irregular_vertices: n(1),
+            boundary_edges: n(2),
+            nonmanifold_edges: n(3),
+            orientation_errors: n(4),
+            bad_vertex_links: n(5),
+            duplicate_faces: n(6),
+            invalid_cells: n(7),
+            minimum_shape: self.measures[0],
+            shape_size_p05: self.measures[1],
+            shape_size_mean: self.measures[2],
+            minimum_sampled_jacobian: self.measures[3],
+        };
+        let bits = n(8) < 2 && n(9) == usize::from(quality.is_valid());
+        bits.then(|| Answer::quality(&quality, n(8) == 1))
     }
-}
 
-/// The answer of an operation that makes a sheet; none if it left something behind.
-fn made(number: u32, answer: [u64; 4], result: &Flat, work: &Work) -> Option<Answer> {
-    let counts = [answer[1], answer[2], answer[3]].map(|n| n as usize);
-    let sheet = result.sheet(counts)?;
-    match number {
-        _ if !work.is_zero() => None,
-        0 => Some(Answer::sheet(answer[0] as usize, &sheet)),
-        number => Some(Answer::refused(number as u8)),
+    /// Whether a refusal left zeros in everything that would have been made.
+    fn is_bare(&self, operation: Operation) -> bool {
+        let answers = if operation == Operation::Quality { 10 } else { 4 };
+        let measures = operation != Operation::Quality || self.measures.iter().all(|x| x.to_bits() == 0);
+        self.answer[..answers].iter().all(|&n| n == 0) && measures && self.result.sheet([0; 3]).is_some()
     }
-}
 
-/// `refine`, into slices of at most what it can make and some more.
-fn refine(call: &Call) -> Option<Answer> {
-    let lent = Flat::of(&call.sheet);
-    let [points, quads, labels] = lent.counts;
-    let mut result = Flat::room([points + 5 * quads + 1, 4 * quads + 1, 4 * quads + 1]);
-    let mut work = Work::of(lent.counts);
-    let mut answer = [u64::MAX; 4];
-    // SAFETY: each pointer and the length after it are of one list; the result, the work and the answer are written, the sheet is read.
-    let number = unsafe {
-        quads_refine(
-            lent.points.as_ptr(),
-            lent.points.len(),
-            lent.quads.as_ptr(),
-            lent.quads.len(),
-            lent.labels.as_ptr(),
-            lent.labels.len(),
-            points,
-            quads,
-            labels,
-            result.points.as_mut_ptr(),
-            result.points.len(),
-            result.quads.as_mut_ptr(),
-            result.quads.len(),
-            result.labels.as_mut_ptr(),
-            result.labels.len(),
-            work.whole.as_mut_ptr(),
-            work.whole.len(),
-            work.floats.as_mut_ptr(),
-            work.floats.len(),
-            answer.as_mut_ptr(),
-            answer.len(),
-        )
-    };
-    made(number, answer, &result, &work)
+    /// The answer to a call that ended with this number; none if it left something behind.
+    fn answer(&self, operation: Operation, number: u32) -> Option<Answer> {
+        match (number, operation) {
+            _ if !self.work.is_zero() => None,
+            (0, Operation::Quality) => self.measured(),
+            (0, _) => self.made(),
+            (number, _) => self.is_bare(operation).then(|| Answer::refused(number as u8)),
+        }
+    }
 }
 
 /// What the library answers, or none where it has no such export yet or left something behind.
 pub fn answer(call: &Call) -> Option<Answer> {
-    match call.operation {
-        Operation::Refine => refine(call),
-        _ => None,
-    }
+    let mut lent = Lent::of(call);
+    let number = lent.run(call.operation)?;
+    lent.answer(call.operation, number)
 }

@@ -16,7 +16,8 @@ fn band(r: &mut Random) -> BandNumbers {
         0 | 1 => BandNumbers { field: Field::Ball([c[0], c[1], c[2], 0.0]), bounds, levels: shell },
         2 => BandNumbers { field: Field::Plane([1.0 + c[0], 2.0 * c[1], 2.0 * c[2], 0.0]), bounds, levels: wall },
         _ => {
-            let k = [1.0, r.between(-1.0, 1.0), r.between(-1.0, 1.0), 0.0, 0.0, 0.0, c[0], c[1], r.between(-1.0, 1.0), 0.0];
+            let k =
+                [1.0, r.between(-1.0, 1.0), r.between(-1.0, 1.0), 0.0, 0.0, 0.0, c[0], c[1], r.between(-1.0, 1.0), 0.0];
             BandNumbers { field: Field::Quadric(k), bounds, levels: wall }
         }
     }

@@ -24,7 +24,7 @@ const LEAVES: [(Operation, usize); 6] = [
 const SHEETS: usize = 60;
 
 /// How many random calls of each operation on a sheet the sample holds.
-const OPERATIONS: [(Operation, usize); 1] = [(Operation::Refine, 40)];
+const OPERATIONS: [(Operation, usize); 2] = [(Operation::Refine, 40), (Operation::Quality, 60)];
 
 /// The roots of document 01, of zeros, of limits and of what has no root.
 const ROOTS: [f64; 20] = [
@@ -156,7 +156,9 @@ fn is_small(sheet: &QuadMesh) -> bool {
 /// The operations on the changed cubes and on random small sheets.
 fn operations(seed: u64) -> Vec<Record> {
     let mut r = Random::new(seed);
-    let mut calls = vec![];
+    let flat = BandNumbers { field: Field::Plane([0.0; 4]), ..UNIT };
+    let upper = changed(|s| s.labels.fill(0));
+    let mut calls = vec![Call { operation: Operation::Quality, argument: 0, band: flat, sheet: upper }];
     for (operation, count) in OPERATIONS {
         let on = |sheet| Call { operation, argument: 2, band: UNIT, sheet };
         calls.extend(changed_cubes().into_iter().map(on));
@@ -192,7 +194,8 @@ mod tests {
         let tests = [(Validate, 0), (Validate, 1)];
         let sheet = [0, 1, 5, 6, 7].map(|number| (Constraints, number));
         let refine = [0, 5, 6].map(|number| (Refine, number));
-        let expected = leaf.into_iter().chain(tests).chain(sheet).chain(refine).collect();
+        let quality = [0, 1, 5, 6, 7, 11].map(|number| (Quality, number));
+        let expected = leaf.into_iter().chain(tests).chain(sheet).chain(refine).chain(quality).collect();
         assert_eq!(seen(&records(SEED)), expected);
     }
 

@@ -9,8 +9,8 @@ sizes-of-requires c κs = search needs
 is-small-requires : tie.Need-is-small-requires
 is-small-requires c κs = search needs
 
-refine-requires : tie.Need-refine-requires
-refine-requires c κs = c .before .is-small .ensures (c .if1 .taken)
+agrees-on-requires : tie.Need-agrees-on-requires
+agrees-on-requires c κs = c .before .is-small .ensures (c .if1 .taken)
 
 returns : tie.Need-returns
 returns c = search needs
@@ -18,10 +18,7 @@ returns c = search needs
 returns-2 : tie.Need-returns-2
 returns-2 c = search needs
 
-returns-3 : tie.Need-returns-3
-returns-3 c = search needs
-
 pub agrees-spec : {M : Type 1} → statement M
 agrees-spec =
     tie.close
-    (tie.spec sizes-of-requires is-small-requires refine-requires returns returns-2 returns-3)
+    (tie.spec sizes-of-requires is-small-requires agrees-on-requires returns returns-2)

@@ -1,0 +1,15 @@
+-- `fits::no_worse` meets its contract. Assumes nothing.
+use borrow.Author.Needs.{needs}
+use Rattle.fits.specs.Shaped.{noWorse}
+use Rattle.fits.proofs.no_worse.Statement.{statement}
+use Rattle.fits.proofs.no_worse.Tie as tie
+
+min-requires : tie.Need-min-requires
+min-requires c κs = search needs
+
+returns : tie.Need-returns
+unfolding noWorse
+returns c = cc
+
+pub no-worse-spec : {M : Type 1} → statement M
+no-worse-spec = tie.close (tie.spec min-requires returns)

@@ -1,0 +1,3 @@
+pub mod Shaped
+pub mod SwapFits
+pub mod MergeFits

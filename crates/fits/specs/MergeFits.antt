@@ -1,0 +1,88 @@
+-- What a merge's rule reads of the points, and the position of the merged point. Document 01, "The merged sheet".
+use Prim.Native.Nat.{ℕ, _/_, _<_}
+use mathlib.Core.Bool.{Bool, false, not, cond, _||_}
+use mathlib.Core.List.{List}
+use lib.ListN.{length, getD}
+use lib.Dec.{eqb}
+use lib.Ieee.{Float}
+use Rattle.lists.specs.Every.{every}
+use Rattle.points.specs.declared.Point.{Point}
+use Rattle.points.specs.Points.{halfwayP}
+use Rattle.field.specs.declared.Field.{Field}
+use Rattle.band.specs.declared.Band.{Band}
+use Rattle.band.specs.Bands.{lengthOf, normalWith}
+use Rattle.projection.specs.declared.Projected.{Projected}
+use Rattle.projection.specs.declared.Projected.the-variants.{Onto, Refused}
+use Rattle.projection.specs.Project.{projectOf}
+use Rattle.sheet.specs.Quads.{Quad, hasLabel, pack}
+use Rattle.sheet.specs.Flat.{quadAt}
+use Rattle.sheet.specs.Sheet.{Sheet}
+use Rattle.swaps.specs.Swaps.{noneQuad}
+use Rattle.merges.specs.Merges.{nonePoint}
+use Rattle.merges.specs.Coarse.{hasCorner, MergeFits, Position}
+use Rattle.fits.specs.declared.Merge.{Merge}
+use Rattle.fits.specs.Shaped.{pointIn, centreOf, quadShape, noWorse}
+
+-- "The joined mask": the labels of either point
+unfoldable pub joinedMask : List Quad → List ℕ → ℕ → ℕ → ℕ
+joinedMask S labels a c = pack (λ l. hasLabel S labels a l || hasLabel S labels c l)
+
+-- the projection of the halfway point of a and c, with the joined mask of the sheet at the pass's start
+unfoldable pub movedTo : Band → Sheet → List Point → ℕ → ℕ → Projected
+movedTo b s ps a c = projectOf b (halfwayP (pointIn ps a) (pointIn ps c)) (joinedMask (s .quads) (s .labels) a c)
+
+-- the places with the merged point in place of both
+unfoldable pub movedAt : (ℕ → Point) → Merge → ℕ → Point
+movedAt at m v = cond (eqb v (m .a) || eqb v (m .c)) (m .to) (at v)
+
+-- a quad of the label l, measured with the normal "at the old quad's centre", does not fall "below the smaller of its old shape and 0.25"
+unfoldable pub quadStays : Field → Float → (ℕ → Point) → ℕ → Quad → Merge → Bool
+quadStays f len at l q m =
+    let n = normalWith f len (centreOf at q) l in
+    noWorse (quadShape (movedAt at m) n q) (quadShape at n q)
+
+-- "No other quad at either": quad j is the merge's own, or is at neither point, or stays
+abbrev pub otherStays : Band → Sheet → List Point → Merge → ℕ → Bool
+otherStays b s ps m j =
+    eqb j (m .face) || not (hasCorner (getD (s .quads) j noneQuad) (m .a) || hasCorner (getD (s .quads) j noneQuad) (m .c))
+    || quadStays (b .field) (lengthOf b) (pointIn ps) (getD (s .labels) j 0) (getD (s .quads) j noneQuad) m
+
+-- the merge of the corners a and c of quad f at p
+abbrev pub mergeAt : ℕ → ℕ → ℕ → Point → Merge
+mergeAt f a c p = record { face = f; a = a; c = c; to = p }
+
+-- "If projecting the halfway point is refused, that diagonal is passed over."
+abbrev pub fitsAt : Band → Sheet → List Point → ℕ → ℕ → ℕ → Projected → Bool
+fitsAt b s ps f a c (Onto p) = every (otherStays b s ps (mergeAt f a c p)) (length (s .quads))
+fitsAt b s ps f a c Refused = false
+
+-- the part of the merges' rule that reads the points
+unfoldable pub mergeFits : Band → Sheet → MergeFits
+mergeFits b s ps S f a c = fitsAt b s ps f a c (movedTo b s ps a c)
+
+-- the point of a projection; where it is refused, no position is asked for
+abbrev pub ontoOr : Projected → Point
+ontoOr (Onto p) = p
+ontoOr Refused = nonePoint
+
+-- the position of the merged point
+unfoldable pub mergePosition : Band → Sheet → Position
+mergePosition b s ps a c = ontoOr (movedTo b s ps a c)
+
+-- ---- the same, one point at a time
+
+-- quad j of a flat list is the merge's own, or stays
+abbrev pub faceStays : Field → Float → (ℕ → Point) → List ℕ → List ℕ → Merge → ℕ → Bool
+faceStays f len at labels Q m j = eqb j (m .face) || quadStays f len at (getD labels j 0) (quadAt Q j) m
+
+-- the same of the quad of corner i of a list of corners
+abbrev pub cornerStays : Field → Float → (ℕ → Point) → List ℕ → List ℕ → Merge → List ℕ → ℕ → Bool
+cornerStays f len at labels Q m cs i = faceStays f len at labels Q m (getD cs i 0 / 4)
+
+-- each of the numbers is below n
+pub record AllBelow (n : ℕ) (l : List ℕ) : Type 0 where
+  pub each : (i : ℕ) → i < length l → getD l i 0 < n
+
+-- quad j is not at v, or is the merge's own, or stays
+abbrev pub staysAt : Field → Float → (ℕ → Point) → List ℕ → List ℕ → Merge → ℕ → ℕ → Bool
+staysAt f len at labels Q m v j = not (hasCorner (quadAt Q j) v) || faceStays f len at labels Q m j

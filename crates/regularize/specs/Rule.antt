@@ -1,0 +1,74 @@
+-- The rules of `regularize` and `improve_layout`, from lent slices to what is left in them. Document 01, "The swapped sheet".
+use Prim.Native.Nat.{ℕ, _+_, _*_, _≤_}
+use mathlib.Core.Path.{_≡_}
+use mathlib.Core.List.{List}
+use lib.ListN.{length}
+use lib.Ieee.{Float}
+use Rattle.band.specs.declared.Band.{Band}
+use Rattle.sheet.specs.declared.Counts.{Counts}
+use Rattle.sheet.specs.declared.Verdict.{Verdict}
+use Rattle.sheet.specs.declared.Verdict.the-variants.{Accepted, Refused}
+use Rattle.sheet.specs.Quads.{Quad}
+use Rattle.sheet.specs.Flat.{flatQuads}
+use Rattle.sheet.specs.Sheet.{Sheet, sheetOf, LentSheet, lentVerdict, sheetVerdict}
+use Rattle.results.specs.Results.{padded}
+use Rattle.swaps.specs.Runs.{Answer, capped}
+use Rattle.swaps.specs.Swaps.{swapRun}
+use Rattle.fits.specs.SwapFits.{swapFits}
+use Rattle.regularize.specs.declared.Cleaned as answers
+use Rattle.regularize.specs.declared.Cleaned.{Cleaned}
+
+-- what a rule gives: the number of a refusal, or the quads that are left and the swaps made
+pub data Outcome : Type 0 where
+  refuses : ℕ → Outcome
+  cleans : Answer (List Quad) → Outcome
+
+-- at most k passes over a sheet, half the gain of each swap at least m
+abbrev pub swapSheet : ℕ → Band → ℕ → Sheet → Answer (List Quad)
+swapSheet m b k s = swapRun (length (s .points)) (s .labels) m (swapFits b (s .points) (s .labels)) k (s .quads)
+
+-- what 12, 13, 1, 5, 6 and 7 leave of the slices
+pub record Cleanable (b : Band) (least : ℕ) (c : Counts) (P : List Float) (Q labels w : List ℕ) : Type 0 where
+  pub least≤ : least ≤ 1
+  pub sheet : LentSheet c (length P) (length Q) (length labels)
+  pub work : 64 * (c .points + c .quads) ≤ length w
+  pub accepted : sheetVerdict b (sheetOf c P Q labels) ≡ Accepted
+
+-- the quads that are left stand in the slice, zeros behind them; r is the count
+pub record Cleans (a : Answer (List Quad)) (Q : List ℕ) (r : ℕ) (R : List ℕ) : Type 0 where
+  pub count : r ≡ capped (a .count)
+  pub quads : R ≡ padded 0 (length Q) (flatQuads (a .left))
+
+-- "Order for a lent sheet: 12, 13 (counts or work), 1, 5, 6, 7"; "Zero passes still validate."
+abbrev pub afterTests : Verdict → Outcome → Outcome
+afterTests Accepted o = o
+afterTests (Refused n) o = refuses n
+
+-- the rule over slices: points P, quads Q, labels, and work slices of w and f elements
+unfoldable pub cleanRule : ℕ → Band → ℕ → Counts → List Float → List ℕ → List ℕ → ℕ → ℕ → Outcome
+cleanRule m b k c P Q labels w f =
+    afterTests (lentVerdict c (length P) (length Q) (length labels) w f)
+    (afterTests (sheetVerdict b (sheetOf c P Q labels)) (cleans (swapSheet m b k (sheetOf c P Q labels))))
+
+-- "regularize needs more than 0"
+abbrev pub regularizeRule : Band → ℕ → Counts → List Float → List ℕ → List ℕ → ℕ → ℕ → Outcome
+regularizeRule = cleanRule 1
+
+-- "improve_layout also takes 0"
+abbrev pub improveRule : Band → ℕ → Counts → List Float → List ℕ → List ℕ → ℕ → ℕ → Outcome
+improveRule = cleanRule 0
+
+-- the answer of an outcome: its number, or its count
+abbrev pub answerOf : Outcome → Cleaned
+answerOf (refuses n) = answers.the-variants.Refused n
+answerOf (cleans a) = answers.the-variants.Done (capped (a .count))
+
+-- the quads that an outcome leaves in a slice that held Q: "A sheet altered in its own slices stays unchanged" on a refusal; "so are unused tails after success"
+abbrev pub quadsLeft : Outcome → List ℕ → List ℕ
+quadsLeft (refuses n) Q = Q
+quadsLeft (cleans a) Q = padded 0 (length Q) (flatQuads (a .left))
+
+-- the answer r of an operation, and the quads R at its end, Q being those that it was lent
+pub record Leaves (o : Outcome) (Q : List ℕ) (r : Cleaned) (R : List ℕ) : Type 0 where
+  pub answer : r ≡ answerOf o
+  pub quads : R ≡ quadsLeft o Q

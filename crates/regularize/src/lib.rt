@@ -1,0 +1,178 @@
+// The swapped sheet: `regularize` and `improve_layout`, passes of swaps until one swaps nothing.
+
+use band::Band;
+use passes::Trial;
+use sheet::Counts;
+use sheet::Verdict;
+ghost use mathlib.Core.Path.{_≡_};
+ghost use Prim.Native.Nat.{_+_, _≤_};
+ghost use lib.ListN.{length, replicate};
+ghost use Rattle.numeric.specs.Num.{zeroF};
+ghost use Rattle.sheet.specs.Sheet.{sheetOf};
+ghost use Rattle.passes.specs.Choice.{Passable};
+ghost use Rattle.swaps.specs.Runs.{capped};
+ghost use Rattle.regularize.specs.Runs.{Ran};
+ghost use Rattle.regularize.specs.Rule.{Cleanable, Cleans, swapSheet, cleanRule, regularizeRule, improveRule, Leaves};
+
+// The least half gain of a swap: more than 0, or 0.
+const GAIN: usize = 1;
+
+const NEUTRAL: usize = 0;
+
+// The largest count.
+const MOST: usize = 18446744073709551615;
+
+// What a clean-up answers: the swaps made in all its passes, or the number of a refusal.
+pub enum Cleaned {
+    Done(usize),
+    Refused(u32),
+}
+
+// The sum of two counts, at most the largest.
+fn add_capped(a: usize, b: usize) -> usize
+    ensures { λ r. ⌜ r ≡ capped (a + b) ⌝ }
+{
+    if b > MOST - a {
+        return MOST;
+    }
+    a + b
+}
+
+// At most so many passes, until one swaps nothing; the swaps made in all of them.
+fn run_passes(
+    passes: usize,
+    np: usize,
+    nq: usize,
+    t: Trial,
+    points: &[f64],
+    labels: &[u8],
+    quads: &mut [u32],
+    w: &mut [u32],
+) -> usize
+    requires { ⌜ Passable np nq t (now points) (now quads) (now labels) (now w) ⌝ }
+    ensures { λ r. ⌜ Ran np nq t (now (points .entry)) (now (labels .entry)) passes (now (quads .entry)) (now (quads .exit)) r ⌝ }
+{
+    let mut total: usize = 0;
+    let mut left = passes;
+    while left > 0 {
+        let count = passes::swap_pass(np, nq, t, points, labels, quads, w);
+        if count == 0 {
+            return total;
+        }
+        total = add_capped(total, count);
+        left -= 1;
+    }
+    total
+}
+
+// Cleans an accepted sheet; zeros behind its quads.
+fn clean_accepted(
+    b: Band,
+    passes: usize,
+    least: usize,
+    c: Counts,
+    points: &[f64],
+    quads: &mut [u32],
+    labels: &[u8],
+    w: &mut [u32],
+) -> usize
+    requires { ⌜ Cleanable b least c (now points) (now quads) (now labels) (now w) ⌝ }
+    ensures { λ r. ⌜ Cleans (swapSheet least b passes (sheetOf c (now (points .entry)) (now (quads .entry)) (now (labels .entry)))) (now (quads .entry)) r (now (quads .exit)) ⌝ }
+{
+    let field = b.field;
+    let t = Trial {
+        least,
+        field,
+        length: band::length(b),
+    };
+    let nq = c.quads;
+    let count = run_passes(passes, c.points, nq, t, points, labels, quads, w);
+    results::clear_behind(4 * nq, quads);
+    count
+}
+
+// The clean-up, or the first refusal; the work slice may hold anything.
+fn clean_or_refusal(
+    b: Band,
+    passes: usize,
+    least: usize,
+    c: Counts,
+    points: &[f64],
+    quads: &mut [u32],
+    labels: &[u8],
+    w: &mut [u32],
+    floats: usize,
+) -> Cleaned
+    requires { ⌜ least ≤ 1 ⌝ }
+    ensures { λ r. ⌜ Leaves (cleanRule least b passes c (now (points .entry)) (now (quads .entry)) (now (labels .entry)) (length (now (w .entry))) floats) (now (quads .entry)) r (now (quads .exit)) ⌝ }
+{
+    let v = sheet::lent(c, points.len(), quads.len(), labels.len(), w.len(), floats);
+    if let Verdict::Refused(n) = v {
+        return Cleaned::Refused(n);
+    }
+    let tested = sheet::constraints(b, c, points, quads, labels, &mut w[..c.points]);
+    if let Verdict::Refused(n) = tested {
+        return Cleaned::Refused(n);
+    }
+    Cleaned::Done(clean_accepted(b, passes, least, c, points, quads, labels, w))
+}
+
+// Swaps diagonals where the valences gain, at most so many passes. The quads are altered in place; the answer has the swaps made.
+pub fn regularize(
+    b: Band,
+    passes: usize,
+    c: Counts,
+    points: &[f64],
+    quads: &mut [u32],
+    labels: &[u8],
+    work: &mut [u32],
+    floats: &mut [f64],
+) -> Cleaned
+    ensures { λ r. ⌜ Leaves (regularizeRule b passes c (now (points .entry)) (now (quads .entry)) (now (labels .entry)) (length (now (work .entry))) (length (now (floats .entry)))) (now (quads .entry)) r (now (quads .exit)) ⌝ }
+    ensures { λ _. ⌜ now (work .exit) ≡ replicate (length (now (work .entry))) 0 ⌝ }
+    ensures { λ _. ⌜ now (floats .exit) ≡ replicate (length (now (floats .entry))) zeroF ⌝ }
+{
+    let r = clean_or_refusal(
+        b,
+        passes,
+        GAIN,
+        c,
+        points,
+        quads,
+        labels,
+        work,
+        floats.len(),
+    );
+    results::clear_work(work, floats);
+    r
+}
+
+// The same, also where the valences gain nothing and the least shape rises.
+pub fn improve_layout(
+    b: Band,
+    passes: usize,
+    c: Counts,
+    points: &[f64],
+    quads: &mut [u32],
+    labels: &[u8],
+    work: &mut [u32],
+    floats: &mut [f64],
+) -> Cleaned
+    ensures { λ r. ⌜ Leaves (improveRule b passes c (now (points .entry)) (now (quads .entry)) (now (labels .entry)) (length (now (work .entry))) (length (now (floats .entry)))) (now (quads .entry)) r (now (quads .exit)) ⌝ }
+    ensures { λ _. ⌜ now (work .exit) ≡ replicate (length (now (work .entry))) 0 ⌝ }
+    ensures { λ _. ⌜ now (floats .exit) ≡ replicate (length (now (floats .entry))) zeroF ⌝ }
+{
+    let r = clean_or_refusal(
+        b,
+        passes,
+        NEUTRAL,
+        c,
+        points,
+        quads,
+        labels,
+        work,
+        floats.len(),
+    );
+    results::clear_work(work, floats);
+    r
+}

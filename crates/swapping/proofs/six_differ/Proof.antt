@@ -1,0 +1,10 @@
+-- `swapping::six_differ` meets its contract. Assumes nothing.
+use Rattle.swapping.proofs.Hexagons.{six-differ}
+use Rattle.swapping.proofs.six_differ.Statement.{statement}
+use Rattle.swapping.proofs.six_differ.Tie as tie
+
+returns : tie.Need-returns
+returns c = six-differ (c .before .before .before .before .before .before .before .before .before .before .before .before .before .before .before .args .h)
+
+pub six-differ-spec : {M : Type 1} → statement M
+six-differ-spec = tie.close (tie.spec returns)

@@ -1,0 +1,86 @@
+//! benchmark [CELLS]: the library's operations and the original's on the same drawn sheets at 8, 16, .. cells, in one process. Each figure is the
+//! best of several runs, taken in turns; growth is the library's time over that at half as many cells.
+use operations::library::Lent;
+use oracle::arguments;
+use oracle::call::{Call, Operation, original};
+use oracle::field::{BandNumbers, Field};
+use oracle::quads::{self, QuadMesh};
+use std::hint::black_box;
+use std::process::ExitCode;
+use std::time::Instant;
+
+/// The operations that are timed, each with its number of passes.
+const OPERATIONS: [(Operation, u64); 3] = [(Operation::Refine, 0), (Operation::Subdivide, 0), (Operation::Quality, 0)];
+
+/// A shell, and a shell that the box cuts.
+const BANDS: [(&str, BandNumbers); 2] = [
+    (
+        "shell",
+        BandNumbers { field: Field::Ball([0.0, 0.0, 0.0, 0.0]), bounds: [[-1.0; 3], [1.0; 3]], levels: [0.25, 0.64] },
+    ),
+    (
+        "cut shell",
+        BandNumbers { field: Field::Ball([0.0, 0.0, 0.0, 0.0]), bounds: [[-0.7; 3], [0.7; 3]], levels: [0.25, 0.64] },
+    ),
+];
+
+/// Milliseconds of one run.
+fn milliseconds<T>(run: impl FnOnce() -> T) -> f64 {
+    let start = Instant::now();
+    black_box(run());
+    start.elapsed().as_secs_f64() * 1e3
+}
+
+/// The best times of the library and of the original, in turns until both have run for a while.
+fn best(call: &Call) -> (f64, f64) {
+    let (mut ours, mut theirs, mut total) = (f64::INFINITY, f64::INFINITY, 0.0);
+    let mut turns = 0;
+    while turns < 3 || (turns < 40 && total < 1500.0) {
+        let mut lent = Lent::of(call);
+        let (a, b) = (milliseconds(|| lent.run(call.operation)), milliseconds(|| original(call)));
+        (ours, theirs) = (ours.min(a), theirs.min(b));
+        total += a + b;
+        turns += 1;
+    }
+    (ours, theirs)
+}
+
+/// A line for each operation on a drawn sheet; the library's times for the next doubling.
+fn lines(name: &str, cells: usize, band: &BandNumbers, sheet: &QuadMesh, before: &[f64]) -> Vec<f64> {
+    let time = |(i, &(operation, argument)): (usize, &(Operation, u64))| {
+        let call = Call { operation, argument, band: *band, sheet: sheet.clone() };
+        let (ours, theirs) = best(&call);
+        let growth = before.get(i).map_or(String::new(), |last| format!("{:.1}", ours / last));
+        let head = format!("{name}, {cells} | {} | {}", sheet.quads.len(), operation.name());
+        println!("| {head} | {ours:.2} | {theirs:.2} | {:.2} | {growth} |", ours / theirs);
+        ours
+    };
+    OPERATIONS.iter().enumerate().map(time).collect()
+}
+
+/// The table.
+fn table(cells: usize) {
+    println!("| sheet, cells | quads | operation | library ms | original ms | ratio | growth |");
+    println!("|---|---|---|---|---|---|---|");
+    for (name, band) in &BANDS {
+        let mut before = vec![];
+        for cells in [8, 16, 32, 64, 128].into_iter().filter(|&n| n <= cells) {
+            if let Ok(sheet) = quads::extract_candidate(&band.band(), cells) {
+                before = lines(name, cells, band, &sheet, &before);
+            }
+        }
+    }
+}
+
+fn main() -> ExitCode {
+    match arguments::number(1, 128) {
+        Ok(cells) => {
+            table(cells as usize);
+            ExitCode::SUCCESS
+        }
+        Err(wrong) => {
+            eprintln!("{wrong}: benchmark [CELLS]");
+            ExitCode::FAILURE
+        }
+    }
+}

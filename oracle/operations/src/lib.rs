@@ -1,0 +1,4 @@
+//! The operations of the static library `quads`, as Rust calls them.
+pub mod exports;
+pub mod flat;
+pub mod library;
