@@ -13,6 +13,7 @@ use Rattle.results.specs.declared.Made.the-variants.{Done, Refused}
 use Rattle.exports.specs.Given.{bandOf, bandVerdict}
 use Rattle.refine.specs.Finer.{afterLent}
 use Rattle.subdivide.specs.Subdivide.{subdivideRule}
+use Rattle.rows.specs.Rows.{rowsRule}
 use Rattle.results.specs.Results.{Outcome, refuses, answerOf, shownCounts, Leaves}
 
 -- an answer slice of n elements: fewer than 4 are too short, 13
@@ -41,3 +42,8 @@ answerLeft o l = cond (ltb (length l) 4) l (answered 0 (shownCounts (answerOf o)
 unfoldable pub subdivideBy : List Float → List ℕ → List ℕ → Counts → ℕ → List Float → List Float → Float → Float → ℕ → ℕ → ℕ → ℕ → ℕ → Outcome
 subdivideBy P Q labels c kind numbers bounds lower upper w f p q l =
     afterLent (bandVerdict kind (length numbers) (length bounds)) (subdivideRule (bandOf kind numbers bounds lower upper) c P Q labels w f p q l)
+
+-- `boundary_rows` with a band as an export is given it: 13 and 1 of the band come first
+unfoldable pub rowsBy : List Float → List ℕ → List ℕ → Counts → ℕ → List Float → List Float → Float → Float → ℕ → ℕ → ℕ → ℕ → ℕ → Outcome
+rowsBy P Q labels c kind numbers bounds lower upper w f p q l =
+    afterLent (bandVerdict kind (length numbers) (length bounds)) (rowsRule (bandOf kind numbers bounds lower upper) c P Q labels w f p q l)

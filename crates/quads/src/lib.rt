@@ -14,7 +14,7 @@ ghost use Rattle.numeric.specs.Num.{zeroF};
 ghost use Rattle.sheet.specs.Quads.{num};
 ghost use Rattle.results.specs.Results.{Leaves};
 ghost use Rattle.refine.specs.Finer.{refineRule};
-ghost use Rattle.quads.specs.Exports.{roomFor, madeNumber, answered, Exports, answerLeft, subdivideBy};
+ghost use Rattle.quads.specs.Exports.{roomFor, madeNumber, answered, Exports, answerLeft, subdivideBy, rowsBy};
 ghost use Rattle.regularize.specs.Rule.{answerOf, quadsLeft};
 ghost use Rattle.quads.specs.Cleanings.{cleanedNumber, cleanedCount, cleanedCounts, cleanBy, cleanRoom, countLeft, CleanedBy};
 ghost use Rattle.quads.specs.Assessments.{noQuality, countsOf, measuresOf, countsShown, measuresShown, fronted, qualityBy, answersBy, assessedNumber, countsLeft, measuresLeft};
@@ -180,6 +180,114 @@ pub extern "C" fn quads_subdivide(
         return sheet::SHORT;
     }
     let r = subdivide_by(
+        points,
+        quads,
+        labels,
+        c,
+        kind,
+        numbers,
+        bounds,
+        lower,
+        upper,
+        new_points,
+        new_quads,
+        new_labels,
+        work,
+        floats,
+    );
+    put_answer(answer, 0, results::shown_counts(r));
+    made_number(r)
+}
+
+// `boundary_rows` with a band as an export is given it.
+fn rows_by(
+    points: &[f64],
+    quads: &[u32],
+    labels: &[u8],
+    c: Counts,
+    kind: u32,
+    numbers: &[f64],
+    bounds: &[f64],
+    lower: f64,
+    upper: f64,
+    new_points: &mut [f64],
+    new_quads: &mut [u32],
+    new_labels: &mut [u8],
+    work: &mut [u32],
+    floats: &mut [f64],
+) -> Made
+    ensures { λ r. ⌜ Leaves (rowsBy (now (points .entry)) (now (quads .entry)) (now (labels .entry)) c kind (now (numbers .entry)) (now (bounds .entry)) lower upper (length (now (work .entry))) (length (now (floats .entry))) (length (now («new_points» .entry))) (length (now («new_quads» .entry))) (length (now («new_labels» .entry)))) (length (now («new_points» .entry))) (length (now («new_quads» .entry))) (length (now («new_labels» .entry))) r (now («new_points» .exit)) (now («new_quads» .exit)) (now («new_labels» .exit)) ⌝ }
+    ensures { λ _. ⌜ now (work .exit) ≡ replicate (length (now (work .entry))) 0 ⌝ }
+    ensures { λ _. ⌜ now (floats .exit) ≡ replicate (length (now (floats .entry))) zeroF ⌝ }
+{
+    let v = exports::band_verdict(kind, numbers.len(), bounds.len());
+    if let Verdict::Refused(n) = v {
+        let none = Counts {
+            points: 0,
+            quads: 0,
+            labels: 0,
+        };
+        results::clear_unused(none, new_points, new_quads, new_labels);
+        results::clear_work(work, floats);
+        return Made::Refused(n);
+    }
+    let b = exports::band_of(kind, numbers, bounds, lower, upper);
+    rows::boundary_rows(
+        b,
+        c,
+        points,
+        quads,
+        labels,
+        new_points,
+        new_quads,
+        new_labels,
+        work,
+        floats,
+    )
+}
+
+// `boundary_rows`: the counts of the sheet with rows go to answer[1..4], answer[0] is 0.
+#[no_mangle]
+pub extern "C" fn quads_boundary_rows(
+    points: &[f64],
+    quads: &[u32],
+    labels: &[u8],
+    np: usize,
+    nq: usize,
+    nl: usize,
+    kind: u32,
+    numbers: &[f64],
+    bounds: &[f64],
+    lower: f64,
+    upper: f64,
+    new_points: &mut [f64],
+    new_quads: &mut [u32],
+    new_labels: &mut [u8],
+    work: &mut [u32],
+    floats: &mut [f64],
+    answer: &mut [u64],
+) -> u32
+    ensures { λ r. ⌜ Exports (roomFor (length (now (answer .entry))) (rowsBy (now (points .entry)) (now (quads .entry)) (now (labels .entry)) (record { points = np; quads = nq; labels = nl }) kind (now (numbers .entry)) (now (bounds .entry)) lower upper (length (now (work .entry))) (length (now (floats .entry))) (length (now («new_points» .entry))) (length (now («new_quads» .entry))) (length (now («new_labels» .entry))))) (length (now («new_points» .entry))) (length (now («new_quads» .entry))) (length (now («new_labels» .entry))) r (now («new_points» .exit)) (now («new_quads» .exit)) (now («new_labels» .exit)) ⌝ }
+    ensures { λ _. ⌜ now (answer .exit) ≡ answerLeft (rowsBy (now (points .entry)) (now (quads .entry)) (now (labels .entry)) (record { points = np; quads = nq; labels = nl }) kind (now (numbers .entry)) (now (bounds .entry)) lower upper (length (now (work .entry))) (length (now (floats .entry))) (length (now («new_points» .entry))) (length (now («new_quads» .entry))) (length (now («new_labels» .entry)))) (now (answer .entry)) ⌝ }
+    ensures { λ _. ⌜ now (work .exit) ≡ replicate (length (now (work .entry))) 0 ⌝ }
+    ensures { λ _. ⌜ now (floats .exit) ≡ replicate (length (now (floats .entry))) zeroF ⌝ }
+{
+    let c = Counts {
+        points: np,
+        quads: nq,
+        labels: nl,
+    };
+    if answer.len() < 4 {
+        let none = Counts {
+            points: 0,
+            quads: 0,
+            labels: 0,
+        };
+        results::clear_unused(none, new_points, new_quads, new_labels);
+        results::clear_work(work, floats);
+        return sheet::SHORT;
+    }
+    let r = rows_by(
         points,
         quads,
         labels,

@@ -193,7 +193,7 @@ fn position(points: &[f64], quads: &[u32], np: usize, nq: usize, q: usize, j: us
 }
 
 // Copies the first n points.
-fn copy_points(n: usize, points: &[f64], out: &mut [f64])
+pub fn copy_points(n: usize, points: &[f64], out: &mut [f64])
     requires { ⌜ 3 * n ≤ length (now points) ⌝ }
     requires { ⌜ 3 * n ≤ length (now out) ⌝ }
     ensures { λ _. ⌜ Front (flatPoints (pointsOf n (now (points .entry)))) (now (out .exit)) ⌝ }
@@ -252,7 +252,7 @@ fn put_points(
 }
 
 // Puts a quad at place i.
-fn put_quad(quads: &mut [u32], i: usize, a: u32, b: u32, c: u32, d: u32)
+pub fn put_quad(quads: &mut [u32], i: usize, a: u32, b: u32, c: u32, d: u32)
     requires { ⌜ 4 * i + 4 ≤ length (now quads) ⌝ }
     ensures { λ _. ⌜ now (quads .exit) ≡ withQuad (now (quads .entry)) i (quad a b c d) ⌝ }
 {

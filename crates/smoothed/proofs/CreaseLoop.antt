@@ -24,7 +24,7 @@ keep-append p (x ∷ l) m = go (p x) (keep-append p l m)
     go true e = ap (λ (r : List ℕ). x ∷ r) e
     go false e = e
 
-keep-le : (p : ℕ → Bool) (l : List ℕ) → length (keep p l) ≤ length l
+pub keep-le : (p : ℕ → Bool) (l : List ℕ) → length (keep p l) ≤ length l
 keep-le p [] = omega arith
 keep-le p (x ∷ l) = go (p x) (keep-le p l)
   where

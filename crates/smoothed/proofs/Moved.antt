@@ -43,13 +43,13 @@ map-ext d f g (x ∷ l) h =
     let e : f x ≡ g x = h 0 (omega arith) in
     rw (e, map-ext d f g l (λ i b. h (suc i) (omega arith)))
 
-each-append : (P : ℕ → Type 0) (l m : List ℕ) → Each 0 P l → Each 0 P m → Each 0 P (l ++ m)
+pub each-append : (P : ℕ → Type 0) (l m : List ℕ) → Each 0 P l → Each 0 P m → Each 0 P (l ++ m)
 each-append P [] m a b i h = b i h
 each-append P (x ∷ l) m a b zero h = a 0 (omega arith)
 each-append P (x ∷ l) m a b (suc i) h = each-append P l m (λ j k. a (suc j) (omega arith)) b i (omega arith)
 
 -- the numbers below n that pass a test are below n
-those-below : (p : ℕ → Bool) (m n : ℕ) → n ≤ m → Each 0 (λ x. x < m) (those p n)
+pub those-below : (p : ℕ → Bool) (m n : ℕ) → n ≤ m → Each 0 (λ x. x < m) (those p n)
 unfolding those joinTo
 those-below p m zero h i l = absurd (omega arith)
 those-below p m (suc n) h i l = each-append (λ x. x < m) (those p n) (consIf (p n) n []) (those-below p m n (omega arith)) (one (p n)) i l
@@ -65,7 +65,7 @@ keep-all (x ∷ l) = rw (keep-all l)
 
 -- ---- the bits of a mask
 
-ones-count : (t : ℕ → Bool) → onesOf (pack t) ≡ countTo t 8
+pub ones-count : (t : ℕ → Bool) → onesOf (pack t) ≡ countTo t 8
 unfolding onesOf countTo
 ones-count t =
     let z : pack t / 1 ≡ pack t = omega arith in
@@ -105,7 +105,7 @@ module _ {np nq : ℕ} {Q : List ℕ} (C : Cornered np nq Q) (P : List Float) (l
       let c : (j : ℕ) → j < 4 → pointOf (flatSheet np nq P Q labels) (corner Q i j) ≡ pointAt P (corner Q i j) = λ j b. point-is (corner Q i j) (C .points (4 * i + j) (omega arith)) in
       rw (getD-tab (quadAt Q) nq i (quad 0 0 0 0) h, c 0 (omega arith), c 1 (omega arith), c 2 (omega arith), c 3 (omega arith))
 
-  centres-are : (v : ℕ) → map (cornerCentre P Q) (pointCorners Q nq v) ≡ map (centreAt (flatSheet np nq P Q labels)) (pointQuads (quadsOf nq Q) v)
+  pub centres-are : (v : ℕ) → map (cornerCentre P Q) (pointCorners Q nq v) ≡ map (centreAt (flatSheet np nq P Q labels)) (pointQuads (quadsOf nq Q) v)
   unfolding cornerCentre
   centres-are v =
       rw (point-quads nq Q v, map-map (centreAt (flatSheet np nq P Q labels)) quadOf (pointCorners Q nq v))

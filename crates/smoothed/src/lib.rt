@@ -53,7 +53,7 @@ pub struct Creases {
 }
 
 // How many bits of a mask of eight are set.
-fn ones(m: u32) -> u32
+pub fn ones(m: u32) -> u32
     ensures { λ r. ⌜ r ≡ onesOf m ⌝ }
 {
     m % 2 + m / 2 % 2 + m / 4 % 2 + m / 8 % 2 + m / 16 % 2 + m / 32 % 2 + m / 64 % 2 + m / 128 % 2
@@ -104,7 +104,7 @@ fn put_seconds(nq: usize, order: usize, second: usize, w: &mut [u32])
 }
 
 // The centre of quad q.
-fn centre_at(points: &[f64], quads: &[u32], np: usize, nq: usize, q: usize) -> Point
+pub fn centre_at(points: &[f64], quads: &[u32], np: usize, nq: usize, q: usize) -> Point
     requires { ⌜ Held np nq (now points) (now quads) ⌝ }
     requires { ⌜ q < nq ⌝ }
     ensures { λ r. ⌜ r ≡ centreOf (pointAt (now (points .entry))) (quadAt (now (quads .entry)) q) ⌝ }
@@ -243,7 +243,7 @@ fn creases_at(
 }
 
 // The corners of point v in the list of corners by point.
-fn span_at(
+pub fn span_at(
     np: usize,
     nq: usize,
     quads: &[u32],

@@ -1,0 +1,41 @@
+-- The case of document 01 marked * that concerns `boundary_rows`: the unit cube with rows. Assumes nothing.
+use mathlib.Core.Path.{_≡_, refl}
+use mathlib.Core.Bool.{Bool, true}
+use mathlib.Core.List.{List, [], _∷_}
+use lib.Dec.{eqb}
+use lib.Ieee.{Float}
+use lib.ListN.{length}
+use Rattle.numeric.specs.Num.{zeroF}
+use Rattle.points.specs.declared.Point.{Point}
+use Rattle.points.specs.Points.{one}
+use Rattle.lists.specs.Sort.{tabulate, bucket}
+use Rattle.lists.specs.Every.{countTo}
+use Rattle.band.specs.declared.Band.{Band}
+use Rattle.sheet.specs.Quads.{all}
+use Rattle.sheet.specs.Edges.{joinTo, joinOf, edgesOf}
+use Rattle.sheet.specs.Sheet.{Sheet}
+use Rattle.refine.proofs.Stars.{cube, Row}
+use Rattle.smoothed.specs.Smoothed.{those, labelCount}
+use Rattle.rows.specs.Rows.{isCopied, copies, copiedQuads, sidesOf, edgeSides, rowSides, rowsSheet}
+
+abbrev corner : Float → Float → Float → Point
+corner x y z = record { x = x; y = y; z = z }
+
+-- "Unit cube as its own box, 6 quads labelled 2 to 7"
+unfoldable pub cubeSheet : Sheet
+cubeSheet = record {
+  points = corner zeroF zeroF zeroF ∷ corner one zeroF zeroF ∷ corner zeroF one zeroF ∷ corner one one zeroF ∷ corner zeroF zeroF one ∷ corner one zeroF one ∷ corner zeroF one one ∷ corner one one one ∷ [];
+  quads = cube;
+  labels = 2 ∷ 3 ∷ 4 ∷ 5 ∷ 6 ∷ 7 ∷ [];
+}
+
+abbrev fits : Row → Bool
+fits r = eqb (r .found) (r .said)
+
+-- "With rows: 32 points, 30 quads."
+pub stars : Band → List Row
+stars b = record { found = length (rowsSheet b cubeSheet .points); said = 32 } ∷ record { found = length (rowsSheet b cubeSheet .quads); said = 30 } ∷ []
+
+pub stars-hold : (b : Band) → all fits (stars b) ≡ true
+unfolding stars cubeSheet cube rowsSheet copies those joinTo isCopied labelCount countTo copiedQuads tabulate rowSides joinOf edgesOf edgeSides sidesOf bucket
+stars-hold b = refl
