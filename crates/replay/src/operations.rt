@@ -4,6 +4,7 @@ use crate::sheets;
 use crate::sheets::Sizes;
 use crate::words;
 ghost use Prim.Native.Nat.{_≤_};
+ghost use lib.ListN.{length};
 ghost use Rattle.replay.specs.Sizes.{Small};
 
 // The most points and quads of a finer sheet that are compared.
@@ -54,100 +55,103 @@ fn same_made(
         && words::same_sheet(bytes, result_at(n), made, points, quads, labels)
 }
 
-// Whether `refine` answers as the record says.
-fn refine(bytes: &[u8], n: Sizes, number: u64) -> bool
-    requires { ⌜ Small n ⌝ }
+// Calls `refine` or, as operation 2, `subdivide` with the band in k: the number of its answer.
+fn ask_finer(
+    operation: u64,
+    n: Sizes,
+    kind: u32,
+    k: &[f64],
+    points: &[f64],
+    corners: &[u32],
+    labels: &[u8],
+    new_points: &mut [f64],
+    new_corners: &mut [u32],
+    new_labels: &mut [u8],
+    work: &mut [u32],
+    floats: &mut [f64],
+    answer: &mut [u64],
+) -> u32
+    requires { ⌜ 18 ≤ length (now k) ⌝ }
 {
-    let mut points = [0.0; 192];
-    let mut quads = [0u32; 256];
-    let mut labels = [0u8; 64];
-    sheets::load(bytes, n, &mut points, &mut quads, &mut labels);
-    let mut new_points = [0.0; 1152];
-    let mut new_quads = [0u32; 1024];
-    let mut new_labels = [0u8; 256];
-    let mut work = [0u32; 8192];
-    let mut floats = [0.0; 2048];
-    let mut answer = [0u64; 4];
-    let got = quads::quads_refine(
-        &points,
-        &quads,
-        &labels,
+    if operation == 1 {
+        return quads::quads_refine(
+            points,
+            corners,
+            labels,
+            n.points,
+            n.quads,
+            n.labels,
+            new_points,
+            new_corners,
+            new_labels,
+            work,
+            floats,
+            answer,
+        );
+    }
+    quads::quads_subdivide(
+        points,
+        corners,
+        labels,
         n.points,
         n.quads,
         n.labels,
-        &mut new_points,
-        &mut new_quads,
-        &mut new_labels,
-        &mut work,
-        &mut floats,
-        &mut answer,
-    );
-    if got != 0 {
-        return got as u64 == number;
-    }
-    number == 0
-        && same_made(
-            bytes,
-            n,
-            answer[1],
-            answer[2],
-            answer[3],
-            &new_points,
-            &new_quads,
-            &new_labels,
-        )
-}
-
-// Whether `subdivide` answers as the record says; k holds the band.
-fn subdivide(bytes: &[u8], n: Sizes, k: &[f64], number: u64) -> bool
-    requires { ⌜ Small n ⌝ }
-{
-    if k.len() < 18 {
-        return false;
-    }
-    let mut points = [0.0; 192];
-    let mut quads = [0u32; 256];
-    let mut labels = [0u8; 64];
-    sheets::load(bytes, n, &mut points, &mut quads, &mut labels);
-    let mut new_points = [0.0; 1152];
-    let mut new_quads = [0u32; 1024];
-    let mut new_labels = [0u8; 256];
-    let mut work = [0u32; 8192];
-    let mut floats = [0.0; 2048];
-    let mut answer = [0u64; 4];
-    let got = quads::quads_subdivide(
-        &points,
-        &quads,
-        &labels,
-        n.points,
-        n.quads,
-        n.labels,
-        numbers::byte_at(bytes, 7) as u32,
+        kind,
         &k[0..10],
         &k[10..16],
         k[16],
         k[17],
+        new_points,
+        new_corners,
+        new_labels,
+        work,
+        floats,
+        answer,
+    )
+}
+
+// Whether `refine` or `subdivide` answers as the record says; k holds the band.
+fn finer(bytes: &[u8], operation: u64, n: Sizes, k: &[f64], number: u64) -> bool
+    requires { ⌜ Small n ⌝ }
+    requires { ⌜ 18 ≤ length (now k) ⌝ }
+{
+    let mut points = [0.0; 192];
+    let mut corners = [0u32; 256];
+    let mut labels = [0u8; 64];
+    sheets::load(bytes, n, &mut points, &mut corners, &mut labels);
+    let mut new_points = [0.0; 1152];
+    let mut new_corners = [0u32; 1024];
+    let mut new_labels = [0u8; 256];
+    let mut work = [0u32; 8192];
+    let mut floats = [0.0; 2048];
+    let mut answer = [0u64; 4];
+    let got = ask_finer(
+        operation,
+        n,
+        numbers::byte_at(bytes, 7) as u32,
+        k,
+        &points,
+        &corners,
+        &labels,
         &mut new_points,
-        &mut new_quads,
+        &mut new_corners,
         &mut new_labels,
         &mut work,
         &mut floats,
         &mut answer,
     );
-    if got != 0 {
-        return got as u64 == number;
-    }
-    number == 0
-        && same_made(
-            bytes,
-            n,
-            answer[1],
-            answer[2],
-            answer[3],
-            &new_points,
-            &new_quads,
-            &new_labels,
-        )
+    got as u64 == number
+        && (got != 0
+            || same_made(
+                bytes,
+                n,
+                answer[1],
+                answer[2],
+                answer[3],
+                &new_points,
+                &new_corners,
+                &new_labels,
+            ))
 }
 
 // Whether eight counts, and then tight and valid, are those of a record's result from a place on.
@@ -230,8 +234,8 @@ fn agrees_on(bytes: &[u8], n: Sizes, operation: u64, number: u64) -> bool
     let mut k = [0.0; 18];
     numbers::load_floats(bytes, BAND, &mut k);
     match operation {
-        1 => refine(bytes, n, number),
-        2 => subdivide(bytes, n, &k, number),
+        1 => finer(bytes, operation, n, &k, number),
+        2 => finer(bytes, operation, n, &k, number),
         8 => quality(bytes, n, &k, number),
         _ => false,
     }

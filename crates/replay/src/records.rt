@@ -3,6 +3,7 @@ use crate::numbers;
 use crate::operations;
 use crate::sheets;
 ghost use Prim.Native.Nat.{_≤_};
+ghost use lib.ListN.{length};
 
 // Where the floats of a record begin.
 const FLOATS: usize = 64;
@@ -39,6 +40,65 @@ fn put(out: &mut [f64], x: f64) -> u32 {
     0
 }
 
+// `project` of the point k[18..21] by a mask, with the band in k.
+fn project(kind: u32, k: &[f64], mask: u8, out: &mut [f64]) -> u32
+    requires { ⌜ 21 ≤ length (now k) ⌝ }
+{
+    let numbers = &k[0..10];
+    let bounds = &k[10..16];
+    leaves::leaf_project(
+        kind,
+        numbers,
+        bounds,
+        k[16],
+        k[17],
+        k[18],
+        k[19],
+        k[20],
+        mask,
+        out,
+    )
+}
+
+// `gradient` at that point.
+fn gradient(kind: u32, k: &[f64], out: &mut [f64]) -> u32
+    requires { ⌜ 21 ≤ length (now k) ⌝ }
+{
+    let numbers = &k[0..10];
+    let bounds = &k[10..16];
+    leaves::leaf_gradient(
+        kind,
+        numbers,
+        bounds,
+        k[16],
+        k[17],
+        k[18],
+        k[19],
+        k[20],
+        out,
+    )
+}
+
+// `normal` at that point for a label.
+fn normal(kind: u32, k: &[f64], label: u8, out: &mut [f64]) -> u32
+    requires { ⌜ 21 ≤ length (now k) ⌝ }
+{
+    let numbers = &k[0..10];
+    let bounds = &k[10..16];
+    leaves::leaf_normal(
+        kind,
+        numbers,
+        bounds,
+        k[16],
+        k[17],
+        k[18],
+        k[19],
+        k[20],
+        label,
+        out,
+    )
+}
+
 // What the proved function of an operation answers: its number, and in out the point or the value.
 fn ask(bytes: &[u8], operation: u64, k: &[f64], out: &mut [f64]) -> u32 {
     if k.len() < 21 {
@@ -46,50 +106,17 @@ fn ask(bytes: &[u8], operation: u64, k: &[f64], out: &mut [f64]) -> u32 {
     }
     let kind = numbers::byte_at(bytes, 7) as u32;
     let byte = numbers::byte_at(bytes, 8) as u8;
-    let numbers = &k[0..10];
-    let bounds = &k[10..16];
-    let lower = k[16];
-    let upper = k[17];
     match operation {
-        9 => leaves::leaf_project(
-            kind,
-            numbers,
-            bounds,
-            lower,
-            upper,
-            k[18],
-            k[19],
-            k[20],
-            byte,
+        9 => project(kind, k, byte, out),
+        10 => put(
             out,
+            leaves::leaf_value(kind, &k[0..10], k[18], k[19], k[20]),
         ),
-        10 => put(out, leaves::leaf_value(kind, numbers, k[18], k[19], k[20])),
-        11 => leaves::leaf_gradient(
-            kind,
-            numbers,
-            bounds,
-            lower,
-            upper,
-            k[18],
-            k[19],
-            k[20],
-            out,
-        ),
-        12 => leaves::leaf_normal(
-            kind,
-            numbers,
-            bounds,
-            lower,
-            upper,
-            k[18],
-            k[19],
-            k[20],
-            byte,
-            out,
-        ),
+        11 => gradient(kind, k, out),
+        12 => normal(kind, k, byte, out),
         13 => put(out, leaves::leaf_sqrt(k[18])),
         14 => sheets::test(bytes, kind, k),
-        15 => leaves::leaf_validate(kind, numbers, bounds, lower, upper),
+        15 => leaves::leaf_validate(kind, &k[0..10], &k[10..16], k[16], k[17]),
         _ => UNKNOWN,
     }
 }

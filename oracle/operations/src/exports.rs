@@ -31,6 +31,7 @@ macro_rules! export {
 
 export!(quads_refine [] sheet made work);
 export!(quads_subdivide [] sheet band made work);
+export!(quads_boundary_rows [] sheet band made work);
 export!(quads_regularize [] own_quads band passes work);
 export!(quads_improve_layout [] own_quads band passes work);
 export!(quads_quality [] sheet band work measures);

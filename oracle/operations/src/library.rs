@@ -18,12 +18,15 @@ pub struct Lent {
 }
 
 impl Lent {
-    /// What the call lends; a finer sheet has room for what it can be and some more.
+    /// What the call lends; a sheet that is to be made has room for what it can be and some more.
     pub fn of(call: &Call) -> Lent {
         let sheet = Flat::with_tails(&call.sheet);
         let [points, quads, _] = sheet.counts;
-        let finer = matches!(call.operation, Operation::Refine | Operation::Subdivide);
-        let room = if finer { [points + 5 * quads + 1, 4 * quads + 1, 4 * quads + 1] } else { [0; 3] };
+        let room = match call.operation {
+            Operation::Refine | Operation::Subdivide => [points + 5 * quads + 1, 4 * quads + 1, 4 * quads + 1],
+            Operation::Rows => [5 * points + 1, 5 * quads + 1, 5 * quads + 1],
+            _ => [0; 3],
+        };
         Lent {
             work: Work::of(sheet.counts),
             came: sheet.clone(),
@@ -43,6 +46,7 @@ impl Lent {
             match operation {
                 Operation::Refine => Some(call!(self.quads_refine [] sheet made work)),
                 Operation::Subdivide => Some(call!(self.quads_subdivide [] sheet band made work)),
+                Operation::Rows => Some(call!(self.quads_boundary_rows [] sheet band made work)),
                 Operation::Regularize => Some(call!(self.quads_regularize [] sheet band passes work)),
                 Operation::ImproveLayout => Some(call!(self.quads_improve_layout [] sheet band passes work)),
                 Operation::Quality => Some(call!(self.quads_quality [] sheet band work measures)),

@@ -10,11 +10,12 @@ use std::process::ExitCode;
 use std::time::Instant;
 
 /// The operations that are timed, each with its number of passes.
-const OPERATIONS: [(Operation, u64); 5] = [
+const OPERATIONS: [(Operation, u64); 6] = [
     (Operation::Refine, 0),
     (Operation::Subdivide, 0),
     (Operation::Regularize, 1),
     (Operation::ImproveLayout, 1),
+    (Operation::Rows, 0),
     (Operation::Quality, 0),
 ];
 
@@ -37,15 +38,23 @@ fn milliseconds<T>(run: impl FnOnce() -> T) -> f64 {
     start.elapsed().as_secs_f64() * 1e3
 }
 
-/// The best times of the library and of the original, in turns until both have run for two seconds.
-fn best(call: &Call) -> (f64, f64) {
-    let (mut ours, mut theirs, mut total) = (f64::INFINITY, f64::INFINITY, 0.0);
+/// Whether the original takes minutes: it walks its whole edge map six times for each swap.
+fn is_slow(operation: Operation, cells: usize) -> bool {
+    cells > 64 && matches!(operation, Operation::Regularize | Operation::ImproveLayout)
+}
+
+/// The best times of the library and of the original, in turns until both have run for two seconds; the original's only if it is asked for.
+fn best(call: &Call, with_original: bool) -> (f64, Option<f64>) {
+    let (mut ours, mut theirs, mut total) = (f64::INFINITY, None::<f64>, 0.0);
     let mut turns = 0;
     while turns == 0 || (turns < 40 && total < 2000.0) {
         let mut lent = Lent::of(call);
-        let (a, b) = (milliseconds(|| lent.run(call.operation)), milliseconds(|| original(call)));
-        (ours, theirs) = (ours.min(a), theirs.min(b));
-        total += a + b;
+        let time = milliseconds(|| lent.run(call.operation));
+        (ours, total) = (ours.min(time), total + time);
+        if with_original {
+            let time = milliseconds(|| original(call));
+            (theirs, total) = (Some(theirs.map_or(time, |last| last.min(time))), total + time);
+        }
         turns += 1;
     }
     (ours, theirs)
@@ -55,10 +64,15 @@ fn best(call: &Call) -> (f64, f64) {
 fn lines(name: &str, cells: usize, band: &BandNumbers, sheet: &QuadMesh, before: &[f64]) -> Vec<f64> {
     let time = |(i, &(operation, argument)): (usize, &(Operation, u64))| {
         let call = Call { operation, argument, band: *band, sheet: sheet.clone() };
-        let (ours, theirs) = best(&call);
+        let (ours, theirs) = best(&call, !is_slow(operation, cells));
         let growth = before.get(i).map_or(String::new(), |last| format!("{:.1}", ours / last));
-        let head = format!("{name}, {cells} | {} | {}", sheet.quads.len(), operation.name());
-        println!("| {head} | {ours:.2} | {theirs:.2} | {:.2} | {growth} |", ours / theirs);
+        let (theirs, ratio) =
+            theirs.map_or((String::new(), String::new()), |t| (format!("{t:.2}"), format!("{:.3}", ours / t)));
+        println!(
+            "| {name}, {cells} | {} | {} | {ours:.2} | {theirs} | {ratio} | {growth} |",
+            sheet.quads.len(),
+            operation.name()
+        );
         ours
     };
     OPERATIONS.iter().enumerate().map(time).collect()

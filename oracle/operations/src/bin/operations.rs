@@ -6,12 +6,13 @@ use oracle::{arguments, driver};
 use std::process::ExitCode;
 
 /// The operations that are compared, each with its share of 100 calls.
-const SHARES: [(Operation, u64); 5] = [
+const SHARES: [(Operation, u64); 6] = [
     (Operation::Refine, 10),
-    (Operation::Subdivide, 25),
-    (Operation::Regularize, 20),
-    (Operation::ImproveLayout, 20),
-    (Operation::Quality, 25),
+    (Operation::Subdivide, 30),
+    (Operation::Regularize, 10),
+    (Operation::ImproveLayout, 10),
+    (Operation::Rows, 10),
+    (Operation::Quality, 30),
 ];
 
 fn main() -> ExitCode {
