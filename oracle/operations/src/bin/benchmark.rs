@@ -1,6 +1,6 @@
 //! benchmark [CELLS]: the library's operations and the original's on the same drawn sheets at 8, 16, .. cells, in one process. Each figure is the
 //! best of several runs, taken in turns; growth is the library's time over that at half as many cells.
-use operations::library::Lent;
+use operations::library::{self, Lent};
 use oracle::arguments;
 use oracle::call::{Call, Operation, original};
 use oracle::field::{BandNumbers, Field};
@@ -60,16 +60,22 @@ fn best(call: &Call, with_original: bool) -> (f64, Option<f64>) {
     (ours, theirs)
 }
 
-/// A line for each operation on a drawn sheet; the library's times for the next doubling.
+/// Whether both answer the same.
+fn agrees(call: &Call) -> bool {
+    library::answer(call).is_some_and(|answer| original(call).same(&answer, call.operation))
+}
+
+/// A line for each operation on a drawn sheet, with a word if the answers differ; the library's times for the next doubling.
 fn lines(name: &str, cells: usize, band: &BandNumbers, sheet: &QuadMesh, before: &[f64]) -> Vec<f64> {
     let time = |(i, &(operation, argument)): (usize, &(Operation, u64))| {
         let call = Call { operation, argument, band: *band, sheet: sheet.clone() };
         let (ours, theirs) = best(&call, !is_slow(operation, cells));
         let growth = before.get(i).map_or(String::new(), |last| format!("{:.1}", ours / last));
+        let differs = if theirs.is_some() && !agrees(&call) { " DIFFERS" } else { "" };
         let (theirs, ratio) =
             theirs.map_or((String::new(), String::new()), |t| (format!("{t:.2}"), format!("{:.3}", ours / t)));
         println!(
-            "| {name}, {cells} | {} | {} | {ours:.2} | {theirs} | {ratio} | {growth} |",
+            "| {name}, {cells} | {} | {} | {ours:.2} | {theirs} | {ratio} | {growth} |{differs}",
             sheet.quads.len(),
             operation.name()
         );
