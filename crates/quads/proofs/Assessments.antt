@@ -18,7 +18,7 @@ use Rattle.quality.specs.declared.report.Quality.{Quality}
 use Rattle.quality.specs.declared.report.Assessed.{Assessed}
 use Rattle.quality.specs.declared.report.Assessed.the-variants.{Done, Refused}
 use Rattle.quality.specs.Quality.{isValid, qualityRule}
-use Rattle.quads.specs.Assessments.{noQuality, countsOf, measuresOf, countsShown, measuresShown, assessedNumber, fronted, qualityBy, isShort, answersBy, countsLeft, measuresLeft}
+use Rattle.quads.specs.Assessments.{noQuality, countsOf, measuresOf, countsShown, measuresShown, assessedNumber, fronted, qualityBy, tooShort, answersBy, countsLeft, measuresLeft}
 
 -- ---- stores one after the other
 
@@ -74,7 +74,7 @@ module _ (P : List Float) (Q labels : List ℕ) (c : Counts) (kind : ℕ) (numbe
 
 -- ---- the two slices that are left
 
-pub room-for : (n m : ℕ) → isShort n m ≡ false → (10 ≤ n) × (4 ≤ m)
+pub room-for : (n m : ℕ) → tooShort n m ≡ false → (10 ≤ n) × (4 ≤ m)
 room-for n m = go (ltb n 10) refl (ltb m 4) refl
   where
     go : (a : Bool) → ltb n 10 ≡ a → (b : Bool) → ltb m 4 ≡ b → (a || b) ≡ false → (10 ≤ n) × (4 ≤ m)
@@ -83,11 +83,11 @@ room-for n m = go (ltb n 10) refl (ltb m 4) refl
     go false ea false eb h = (ltb-false n 10 ea, ltb-false m 4 eb)
 
 module _ (o : Assessed) (s : List ℕ) (m : List Float) where
-  pub short-left : isShort (length s) (length m) ≡ true → (short ≡ answersBy (length s) (length m) o) × ((s ≡ countsLeft (length m) o s) × (m ≡ measuresLeft (length s) o m))
+  pub short-left : tooShort (length s) (length m) ≡ true → (short ≡ answersBy (length s) (length m) o) × ((s ≡ countsLeft (length m) o s) × (m ≡ measuresLeft (length s) o m))
   unfolding answersBy countsLeft measuresLeft
   short-left h = rw h (refl, (refl, refl))
 
-  pub shown-left : {r : Assessed} {k : ℕ} {s′ : List ℕ} {m′ : List Float} → isShort (length s) (length m) ≡ false → r ≡ o
+  pub shown-left : {r : Assessed} {k : ℕ} {s′ : List ℕ} {m′ : List Float} → tooShort (length s) (length m) ≡ false → r ≡ o
       → (k ≡ assessedNumber r) × ((s′ ≡ fronted (countsShown r) s) × (m′ ≡ fronted (measuresShown r) m))
       → (k ≡ answersBy (length s) (length m) o) × ((s′ ≡ countsLeft (length m) o s) × (m′ ≡ measuresLeft (length s) o m))
   unfolding answersBy countsLeft measuresLeft

@@ -75,15 +75,15 @@ qualityBy P Q labels c kind numbers bounds lower upper w f =
     afterTests (bandVerdict kind (length numbers) (length bounds)) (qualityRule (bandOf kind numbers bounds lower upper) c P Q labels w f)
 
 -- slices of n numbers for the answer and m for the measures: fewer than 10 and 4 are too short, 13
-abbrev pub isShort : ℕ → ℕ → Bool
-isShort n m = ltb n 10 || ltb m 4
+abbrev pub tooShort : ℕ → ℕ → Bool
+tooShort n m = ltb n 10 || ltb m 4
 
 -- the number that the export returns, and the two slices that it leaves: untouched if one is too short
 unfoldable pub answersBy : ℕ → ℕ → Assessed → ℕ
-answersBy n m r = cond (isShort n m) short (assessedNumber r)
+answersBy n m r = cond (tooShort n m) short (assessedNumber r)
 
 unfoldable pub countsLeft : ℕ → Assessed → List ℕ → List ℕ
-countsLeft m r s = cond (isShort (length s) m) s (fronted (countsShown r) s)
+countsLeft m r s = cond (tooShort (length s) m) s (fronted (countsShown r) s)
 
 unfoldable pub measuresLeft : ℕ → Assessed → List Float → List Float
-measuresLeft n r s = cond (isShort n (length s)) s (fronted (measuresShown r) s)
+measuresLeft n r s = cond (tooShort n (length s)) s (fronted (measuresShown r) s)
