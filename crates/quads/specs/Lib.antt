@@ -1,3 +1,1 @@
 pub mod Exports
-pub mod Assessments
-pub mod Cleanings

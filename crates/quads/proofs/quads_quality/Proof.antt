@@ -1,6 +1,6 @@
 -- `quads::quads_quality` meets its contract. Assumes nothing.
 use borrow.Author.Needs.{needs}
-use Rattle.quads.proofs.Assessments.{room-for, short-left, shown-left}
+use Rattle.assessing.proofs.Assessments.{room-for, short-left, shown-left}
 use Rattle.quads.proofs.quads_quality.Statement.{statement}
 use Rattle.quads.proofs.quads_quality.Tie as tie
 

@@ -1,0 +1,2 @@
+-- `Making` has the laws of the definitions of the same name.
+pub mod Making
