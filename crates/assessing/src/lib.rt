@@ -9,7 +9,7 @@ ghost use Prim.Native.Nat.{_≤_};
 ghost use lib.ListN.{length, replicate};
 ghost use Rattle.numeric.specs.Num.{zeroF};
 ghost use Rattle.sheet.specs.Quads.{num};
-ghost use Rattle.assessing.specs.Assessments.{noQuality, countsOf, measuresOf, countsShown, measuresShown, fronted, qualityBy, assessedNumber};
+ghost use Rattle.assessing.specs.Assessments.{noQuality, countsOf, measuresOf, countsShown, measuresShown, fronted, qualityBy, assessedNumber, answersBy, countsLeft, measuresLeft};
 
 // Writes the counts of a record, tight and valid.
 fn put_counts(answer: &mut [u64], q: Quality, tight: bool, valid: bool)
@@ -60,7 +60,7 @@ fn no_quality() -> Quality
 }
 
 // Writes what an answer of `quality` shows, and gives its number: 0 if accepted.
-pub fn put_assessed(answer: &mut [u64], measures: &mut [f64], r: Assessed) -> u32
+fn put_assessed(answer: &mut [u64], measures: &mut [f64], r: Assessed) -> u32
     requires { ⌜ 10 ≤ length (now answer) ⌝ }
     requires { ⌜ 4 ≤ length (now measures) ⌝ }
     ensures { λ n. ⌜ n ≡ assessedNumber r ⌝ }
@@ -82,7 +82,7 @@ pub fn put_assessed(answer: &mut [u64], measures: &mut [f64], r: Assessed) -> u3
 }
 
 // `quality` with a band as an export is given it.
-pub fn quality_by(
+fn quality_by(
     points: &[f64],
     quads: &[u32],
     labels: &[u8],
@@ -106,4 +106,46 @@ pub fn quality_by(
     }
     let b = exports::band_of(kind, numbers, bounds, lower, upper);
     quality::quality(b, c, points, quads, labels, work, floats)
+}
+
+// The same with its number and its two slices for the answer.
+pub fn quality_answered(
+    points: &[f64],
+    quads: &[u32],
+    labels: &[u8],
+    c: Counts,
+    kind: u32,
+    numbers: &[f64],
+    bounds: &[f64],
+    lower: f64,
+    upper: f64,
+    work: &mut [u32],
+    floats: &mut [f64],
+    answer: &mut [u64],
+    measures: &mut [f64],
+) -> u32
+    ensures { λ r. ⌜ r ≡ answersBy (length (now (answer .entry))) (length (now (measures .entry))) (qualityBy (now (points .entry)) (now (quads .entry)) (now (labels .entry)) c kind (now (numbers .entry)) (now (bounds .entry)) lower upper (length (now (work .entry))) (length (now (floats .entry)))) ⌝ }
+    ensures { λ _. ⌜ now (answer .exit) ≡ countsLeft (length (now (measures .entry))) (qualityBy (now (points .entry)) (now (quads .entry)) (now (labels .entry)) c kind (now (numbers .entry)) (now (bounds .entry)) lower upper (length (now (work .entry))) (length (now (floats .entry)))) (now (answer .entry)) ⌝ }
+    ensures { λ _. ⌜ now (measures .exit) ≡ measuresLeft (length (now (answer .entry))) (qualityBy (now (points .entry)) (now (quads .entry)) (now (labels .entry)) c kind (now (numbers .entry)) (now (bounds .entry)) lower upper (length (now (work .entry))) (length (now (floats .entry)))) (now (measures .entry)) ⌝ }
+    ensures { λ _. ⌜ now (work .exit) ≡ replicate (length (now (work .entry))) 0 ⌝ }
+    ensures { λ _. ⌜ now (floats .exit) ≡ replicate (length (now (floats .entry))) zeroF ⌝ }
+{
+    if (answer.len() < 10) | (measures.len() < 4) {
+        results::clear_work(work, floats);
+        return sheet::SHORT;
+    }
+    let r = quality_by(
+        points,
+        quads,
+        labels,
+        c,
+        kind,
+        numbers,
+        bounds,
+        lower,
+        upper,
+        work,
+        floats,
+    );
+    put_assessed(answer, measures, r)
 }

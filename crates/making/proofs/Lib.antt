@@ -1,2 +1,3 @@
--- `Making` has the laws of the definitions of the same name.
+-- `Making` and `Exports` have the laws of the definitions of the same name.
 pub mod Making
+pub mod Exports

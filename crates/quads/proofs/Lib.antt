@@ -1,2 +1,0 @@
--- `Exports` has the laws of the definitions of the same name.
-pub mod Exports

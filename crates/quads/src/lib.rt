@@ -1,6 +1,5 @@
 // The public face: every operation under its name, as a function that C and Rust can link. A slice passes as its pointer and its length.
 
-use results::Made;
 use sheet::Counts;
 ghost use mathlib.Core.Path.{_≡_};
 ghost use mathlib.Core.Bool.{true, false};
@@ -11,17 +10,7 @@ ghost use Rattle.regularize.specs.Rule.{answerOf, quadsLeft};
 ghost use Rattle.making.specs.Making.{subdivideBy, rowsBy};
 ghost use Rattle.cleaning.specs.Cleanings.{cleanedNumber, cleanBy, cleanRoom, countLeft};
 ghost use Rattle.assessing.specs.Assessments.{qualityBy, answersBy, countsLeft, measuresLeft};
-ghost use Rattle.quads.specs.Exports.{roomFor, madeNumber, Exports, answerLeft};
-
-// The number of an answer: 0 if accepted.
-fn made_number(r: Made) -> u32
-    ensures { λ n. ⌜ n ≡ madeNumber r ⌝ }
-{
-    match r {
-        Made::Done(_) => 0,
-        Made::Refused(n) => n,
-    }
-}
+ghost use Rattle.making.specs.Exports.{roomFor, madeNumber, Exports, answerLeft};
 
 // `refine`: the counts of the finer sheet go to answer[1..4], answer[0] is 0.
 #[no_mangle]
@@ -49,29 +38,18 @@ pub extern "C" fn quads_refine(
         quads: nq,
         labels: nl,
     };
-    if answer.len() < 4 {
-        let none = Counts {
-            points: 0,
-            quads: 0,
-            labels: 0,
-        };
-        results::clear_unused(none, new_points, new_quads, new_labels);
-        results::clear_work(work, floats);
-        return sheet::SHORT;
-    }
-    let r = refine::refine(
-        c,
+    making::refine_answered(
         points,
         quads,
         labels,
+        c,
         new_points,
         new_quads,
         new_labels,
         work,
         floats,
-    );
-    exports::put_answer(answer, 0, results::shown_counts(r));
-    made_number(r)
+        answer,
+    )
 }
 
 // `subdivide`: the counts of the finer sheet go to answer[1..4], answer[0] is 0.
@@ -105,17 +83,7 @@ pub extern "C" fn quads_subdivide(
         quads: nq,
         labels: nl,
     };
-    if answer.len() < 4 {
-        let none = Counts {
-            points: 0,
-            quads: 0,
-            labels: 0,
-        };
-        results::clear_unused(none, new_points, new_quads, new_labels);
-        results::clear_work(work, floats);
-        return sheet::SHORT;
-    }
-    let r = making::subdivide_by(
+    making::subdivide_answered(
         points,
         quads,
         labels,
@@ -130,9 +98,8 @@ pub extern "C" fn quads_subdivide(
         new_labels,
         work,
         floats,
-    );
-    exports::put_answer(answer, 0, results::shown_counts(r));
-    made_number(r)
+        answer,
+    )
 }
 
 // `boundary_rows`: the counts of the sheet with rows go to answer[1..4], answer[0] is 0.
@@ -166,17 +133,7 @@ pub extern "C" fn quads_boundary_rows(
         quads: nq,
         labels: nl,
     };
-    if answer.len() < 4 {
-        let none = Counts {
-            points: 0,
-            quads: 0,
-            labels: 0,
-        };
-        results::clear_unused(none, new_points, new_quads, new_labels);
-        results::clear_work(work, floats);
-        return sheet::SHORT;
-    }
-    let r = making::rows_by(
+    making::rows_answered(
         points,
         quads,
         labels,
@@ -191,9 +148,8 @@ pub extern "C" fn quads_boundary_rows(
         new_labels,
         work,
         floats,
-    );
-    exports::put_answer(answer, 0, results::shown_counts(r));
-    made_number(r)
+        answer,
+    )
 }
 
 // `quality`: the eight counts in the record's order, tight and valid go to answer[..10], the four measures to measures[..4].
@@ -226,11 +182,7 @@ pub extern "C" fn quads_quality(
         quads: nq,
         labels: nl,
     };
-    if (answer.len() < 10) | (measures.len() < 4) {
-        results::clear_work(work, floats);
-        return sheet::SHORT;
-    }
-    let r = assessing::quality_by(
+    assessing::quality_answered(
         points,
         quads,
         labels,
@@ -242,8 +194,9 @@ pub extern "C" fn quads_quality(
         upper,
         work,
         floats,
-    );
-    assessing::put_assessed(answer, measures, r)
+        answer,
+        measures,
+    )
 }
 
 // `regularize`: the count goes to answer[0], the counts of the sheet to answer[1..4].

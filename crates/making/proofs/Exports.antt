@@ -11,8 +11,8 @@ use Rattle.sheet.specs.declared.Counts.{Counts}
 use Rattle.results.specs.declared.Made.{Made}
 use Rattle.exports.specs.Answers.{answered}
 use Rattle.results.specs.Results.{cleared, shownCounts, Outcome, refuses, answerOf, Leaves}
 use Rattle.making.proofs.Making.{cleared-leaves}
-use Rattle.quads.specs.Exports.{roomFor, madeNumber, Exports, answerLeft}
+use Rattle.making.specs.Exports.{roomFor, madeNumber, Exports, answerLeft}
 
 module _ (o : Outcome) where
   -- 13, and cleared slices, where the answer slice has n elements and n is too small

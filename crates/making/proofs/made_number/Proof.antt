@@ -1,8 +1,8 @@
--- `quads::made_number` meets its contract. Assumes nothing.
-use Rattle.quads.specs.Exports.{madeNumber}
+-- `making::made_number` meets its contract. Assumes nothing.
+use Rattle.making.specs.Exports.{madeNumber}
 use borrow.Author.Needs.{needs}
-use Rattle.quads.proofs.made_number.Statement.{statement}
-use Rattle.quads.proofs.made_number.Tie as tie
+use Rattle.making.proofs.made_number.Statement.{statement}
+use Rattle.making.proofs.made_number.Tie as tie
 
 enum-told : tie.Need-enum-told
 enum-told c = search needs

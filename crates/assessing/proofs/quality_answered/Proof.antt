@@ -1,8 +1,8 @@
--- `quads::quads_quality` meets its contract. Assumes nothing.
+-- `assessing::quality_answered` meets its contract. Assumes nothing.
 use borrow.Author.Needs.{needs}
 use Rattle.assessing.proofs.Assessments.{room-for, short-left, shown-left}
-use Rattle.quads.proofs.quads_quality.Statement.{statement}
-use Rattle.quads.proofs.quads_quality.Tie as tie
+use Rattle.assessing.proofs.quality_answered.Statement.{statement}
+use Rattle.assessing.proofs.quality_answered.Tie as tie
 
 clear-work-requires : tie.Need-clear-work-requires
 clear-work-requires c κs = search needs
@@ -42,8 +42,8 @@ returns-2 c = let p = c .before .before .before .before in
     let L = shown-left _ _ _ (q .before .before .before .if1 .left) (q .quality-by .ensures .0) (p .put-assessed .ensures) in
     (L .0, (L .1 .0, (L .1 .1, q .quality-by .ensures .1)))
 
-pub quads-quality-spec : {M : Type 1} → statement M
-quads-quality-spec =
+pub quality-answered-spec : {M : Type 1} → statement M
+quality-answered-spec =
     tie.close
     (tie.spec
     clear-work-requires
