@@ -9,14 +9,13 @@ use lib.Ieee.{Float}
 use borrow.Author.Tests.{ltb-true}
 use Rattle.lists.specs.Every.{every}
 use Rattle.band.specs.declared.Band.{Band}
-use Rattle.band.specs.Bands.{validOf}
 use Rattle.sheet.specs.declared.Counts.{Counts}
 use Rattle.sheet.specs.declared.Verdict.{Verdict}
 use Rattle.sheet.specs.declared.Verdict.the-variants.{Accepted, Refused}
-use Rattle.sheet.specs.Numbers.{box, bare, short}
+use Rattle.sheet.specs.Numbers.{short}
 use Rattle.sheet.specs.Quads.{Quad, num, touches, hasLabel, maskOf}
 use Rattle.sheet.specs.Flat.{quadsOf, flatQuads}
-use Rattle.sheet.specs.Sheet.{Sheet, isLarge, isBare, isShort, lentVerdict, quadsVerdict, sheetVerdict}
+use Rattle.sheet.specs.Sheet.{Sheet, isLarge, isShort, sheetVerdict}
 use Rattle.sheet.proofs.Flat.{length-quads}
 use Rattle.sheet.proofs.Masks.{bit-pack}
 use Rattle.sheet.proofs.Tests.{or-left, lent-is}
@@ -41,18 +40,15 @@ use Rattle.closed.specs.Clean.{Sound, squaredOf}
 use Rattle.closed.specs.Demand3 as commands
 use Rattle.closed.proofs.Fine.{accepted-of}
 use Rattle.closed.proofs.Demand.{Good, Keeps, keeps-same, keeps-trans, swaps-kept, coarse-kept, regularize-done, regularize-again}
-use Rattle.closed.proofs.Demand3.{good-of, sound-of, one-call}
-use Rattle.closed.proofs.Caps.{regularize-uncapped}
+use Rattle.closed.proofs.Demand3.{good-of, sound-of, one-call, coarse-accepted}
 use Rattle.coarsen.specs.declared.Coarsened.{Coarsened}
 use Rattle.coarsen.specs.Rule as coarsen
 use Rattle.coarsen.specs.Rule.{coarseSheet, coarsenRule, coarsens}
 use Rattle.calls.specs.Calls.{Lent, held, Call, regularizeCall, improveCall, coarsenCall, subdivideCall, Contract, lent, withQuads, mergedCounts, resultOr, left, countIn, swapsIn, Run, after, swapsOf, Touches, Apart, NoneLeft, Demand3}
 use Rattle.calls.proofs.Slices.{quads-padded, length-padded, held-padded}
 use Rattle.calls.proofs.Finer.{made-kept}
-
--- 12 and 13
-abbrev lengthsVerdict : Lent → ℕ → ℕ → Verdict
-lengthsVerdict x w f = lentVerdict (x .counts) (length (x .points)) (length (x .quads)) (length (x .labels)) w f
+use Rattle.calls.proofs.Caps.{uncapped}
+use Rattle.calls.proofs.Tested.{lengthsVerdict, tested, passes, done-tested}
 
 -- ---- `regularize` and `improve_layout`
 
@@ -85,6 +81,14 @@ module _ (b : Band) (k : ℕ) (x : Lent) (a : Good (held x)) where
   coarsen-call Accepted Accepted r P Q L l =
       rw (l .answer, l .points, l .quads, l .labelled, held-padded (coarseSheet b k (held x) .left) (length (x .points)) (length (x .quads)) (length (x .labels)))
       (coarse-kept (mergeFits b) (mergePosition b) (merge-finite b) k (held x) a .0)
+
+-- "No pass after the first can refuse": what any passes leave of a sheet that 12, 1, 5, 6 and 7 accept, closed or not, they accept again
+pub later-passes : (b : Band) (k : ℕ) (s : Sheet) → isLarge (countsOf s) ≡ false → sheetVerdict b s ≡ Accepted
+    → (isLarge (countsOf (coarseSheet b k s .left)) ≡ false) × (sheetVerdict b (coarseSheet b k s .left) ≡ Accepted)
+later-passes b k s e v =
+    let T = tested b s v in
+    let A = coarse-accepted (mergeFits b) (mergePosition b) (merge-finite b) k s (record { not-large = e; not-bare = T .not-bare; corners = T .corners; masks = T .masks }) in
+    (A .not-large, passes b (coarseSheet b k s .left) (T .valid) A)
 
 -- ---- `subdivide`
 
@@ -126,7 +130,7 @@ one : (c : Call) → Good (held (lent c)) → Contract c → Keeps (held (lent c
 unfolding cleanRule coarsenRule
 one (regularizeCall b k x w f r Q) a C =
     let fits = swapFits b (held x .points) (held x .labels) in
-    swap-call 1 b k x a countIn (λ n. refl) (rw (regularize-uncapped (held x) fits k a) (one-call (commands.regularizeCall true k (λ ps. swapFits b ps (held x .labels))) (held x) a)) (lengthsVerdict x w f) (sheetVerdict b (held x)) r Q C
+    swap-call 1 b k x a countIn (λ n. refl) (rw (uncapped (held x) fits k (accepted-of (held x) (a .fine))) (one-call (commands.regularizeCall true k (λ ps. swapFits b ps (held x .labels))) (held x) a)) (lengthsVerdict x w f) (sheetVerdict b (held x)) r Q C
 one (improveCall b k x w f r Q) a C =
     swap-call 0 b k x a (λ r. 0) (λ n. refl) (one-call (commands.improveCall true k (λ ps. swapFits b ps (held x .labels))) (held x) a) (lengthsVerdict x w f) (sheetVerdict b (held x)) r Q C
 one (coarsenCall b k x w f r P Q L) a C = coarsen-call b k x a (lengthsVerdict x w f) (coarsen.passesVerdict b k (held x)) r P Q L C
@@ -156,46 +160,27 @@ apart-of s c v j h low high =
 
 -- ---- the last call
 
--- 1 finds nothing where a sheet is accepted
-valid : (b : Band) (s : Sheet) → sheetVerdict b s ≡ Accepted → validOf b ≡ true
-unfolding sheetVerdict
-valid b s = go (validOf b)
-  where
-    go : (v : Bool) → cond v (cond (isBare s) (Refused bare) (quadsVerdict (length (s .points)) (s .quads) (s .labels))) (Refused box) ≡ Accepted → v ≡ true
-    go true e = refl
-    go false e = absurd (let z : _≡_ {A = ℕ} 0 1 = cc in omega arith)
-
 module _ (b : Band) (k : ℕ) (x : Lent) (w f n : ℕ) (Q : List ℕ) (a : Good (held x)) (C : Contract (regularizeCall b k x w f (cleaned.Done n) Q)) where
-  -- it passed the tests
-  tested : (lengthsVerdict x w f ≡ Accepted) × (sheetVerdict b (held x) ≡ Accepted)
-  unfolding cleanRule
-  tested = go _ refl _ refl C
-    where
-      go : (u : Verdict) → lengthsVerdict x w f ≡ u → (v : Verdict) → sheetVerdict b (held x) ≡ v
-          → regularize.Leaves (regularize.afterTests u (regularize.afterTests v (cleans (swapSheet 1 b k (held x))))) (x .quads) (cleaned.Done n) Q
-          → (lengthsVerdict x w f ≡ Accepted) × (sheetVerdict b (held x) ≡ Accepted)
-      go (Refused i) eu v ev L = absurd (let z : _≡_ {A = ℕ} 0 1 = cc (L .answer) in omega arith)
-      go Accepted eu (Refused i) ev L = absurd (let z : _≡_ {A = ℕ} 0 1 = cc (L .answer) in omega arith)
-      go Accepted eu Accepted ev L = (eu, ev)
+  abbrev passed : (lengthsVerdict x w f ≡ Accepted) × (sheetVerdict b (held x) ≡ Accepted)
+  passed = done-tested b k x w f n Q C
 
   abbrev remain : List Quad
   remain = swapSheet 1 b k (held x) .left
 
   quads-are : Q ≡ padded 0 (length (x .quads)) (flatQuads remain)
   unfolding cleanRule
-  quads-are = rw (tested .0, tested .1) at (C .quads)
+  quads-are = rw (passed .0, passed .1) at (C .quads)
 
   quads-length : length Q ≡ length (x .quads)
   quads-length = rw quads-are (length-padded 0 (length (x .quads)) (flatQuads remain)
-      (omega (arith, length-flat-quads remain, as-many 1 b k x a, lent-is (x .counts) (length (x .points)) (length (x .quads)) (length (x .labels)) w f (tested .0) .0 .quads)))
+      (omega (arith, length-flat-quads remain, as-many 1 b k x a, lent-is (x .counts) (length (x .points)) (length (x .quads)) (length (x .labels)) w f (passed .0) .0 .quads)))
 
   remain-is : quadsOf (x .counts .quads) Q ≡ remain
   remain-is = rw quads-are (quads-padded remain (x .counts .quads) (length (x .quads)) (as-many 1 b k x a))
 
-  -- what is left is accepted again
-  accepted-again : Good (closed.withQuads (held x) remain) → sheetVerdict b (closed.withQuads (held x) remain) ≡ Accepted
-  unfolding sheetVerdict quadsVerdict
-  accepted-again g = let A = accepted-of (closed.withQuads (held x) remain) (g .fine) in rw (valid b (held x) (tested .1), A .not-bare, A .corners, A .masks)
+  -- what is left passes the tests again
+  passes-again : sheetVerdict b (closed.withQuads (held x) remain) ≡ Accepted
+  passes-again = passes b _ (tested b (held x) (passed .1) .valid) (accepted-of _ (swaps-kept (held x) 1 (swapFits b (held x .points) (held x .labels)) k a .good .fine))
 
   none-left : squaredOf (held x) < 2 * k → NoneLeft b k (withQuads x Q) w f
   unfolding cleanRule
@@ -204,8 +189,8 @@ module _ (b : Band) (k : ℕ) (x : Lent) (w f n : ℕ) (Q : List ℕ) (a : Good 
       record {
         no-swap = rw remain-is (regularize-done (held x) fits k a h);
         again = λ r R L.
-            let v : lengthsVerdict (withQuads x Q) w f ≡ Accepted = rw quads-length (tested .0) in
-            let u : sheetVerdict b (held (withQuads x Q)) ≡ Accepted = rw remain-is (accepted-again (swaps-kept (held x) 1 fits k a .good)) in
+            let v : lengthsVerdict (withQuads x Q) w f ≡ Accepted = rw quads-length (passed .0) in
+            let u : sheetVerdict b (held (withQuads x Q)) ≡ Accepted = rw remain-is passes-again in
             let o : swapSheet 1 b k (held (withQuads x Q)) ≡ record { left = remain; count = 0 } = rw remain-is (regularize-again (held x) fits k a h k) in
             let D : regularize.Leaves (cleans (record { left = remain; count = 0 })) Q r R = rw (v, u, o) at L in
             (D .answer, D .quads ∙ rw quads-length (sym quads-are));
@@ -222,5 +207,5 @@ demand3 s cs a run = go (every-call s cs (good-of s a) run)
       apart = apart-of (after s cs) (k .good .fine .no-clash);
       euler = k .euler;
       falls = k .falls;
-      last = λ b j x w f n Q e C h. none-left b j x w f n Q (rw e (k .good)) C h;
+      last = λ b j x w f n Q e h C. none-left b j x w f n Q (rw e (k .good)) C h;
     }

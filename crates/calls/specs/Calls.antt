@@ -36,15 +36,15 @@ pub record Lent : Type 0 where
 abbrev pub held : Lent → Sheet
 held x = sheetOf (x .counts) (x .points) (x .quads) (x .labels)
 
--- A call that was made: its band ("each call may bring its own field and band") and passes, the sheet x that it was lent, work slices of w and f elements,
--- its answer r, and what stands at its end in the slices that it may write; those of `subdivide` are result slices of p, q and l elements.
+-- A call that was made: its band b ("each call may bring its own field and band") and passes, the sheet x that it was lent, work slices of w and f elements,
+-- its answer r, and at its end the slices that it may write; those of `subdivide` are result slices of p, q and l elements.
 pub data Call : Type 0 where
   regularizeCall : (b : Band) (passes : ℕ) (x : Lent) (w f : ℕ) (r : Cleaned) (quads : List ℕ) → Call
   improveCall : (b : Band) (passes : ℕ) (x : Lent) (w f : ℕ) (r : Cleaned) (quads : List ℕ) → Call
   coarsenCall : (b : Band) (passes : ℕ) (x : Lent) (w f : ℕ) (r : Coarsened) (points : List Float) (quads labels : List ℕ) → Call
   subdivideCall : (b : Band) (x : Lent) (w f p q l : ℕ) (r : Made) (points : List Float) (quads labels : List ℕ) → Call
 
--- the contract of the operation, as its function states it
+-- all that is known of a call: the contract of its operation, as the function states it
 abbrev pub Contract : Call → Type 0
 Contract (regularizeCall b k x w f r Q) = regularize.Leaves (regularize.regularizeRule b k (x .counts) (x .points) (x .quads) (x .labels) w f) (x .quads) r Q
 Contract (improveCall b k x w f r Q) = regularize.Leaves (regularize.improveRule b k (x .counts) (x .points) (x .quads) (x .labels) w f) (x .quads) r Q
@@ -118,16 +118,21 @@ unfoldable pub Apart : Sheet → Type 0
 Apart s = (v j : ℕ) → j < 4 → Touches s v (2 * j) → Touches s v (2 * j + 1) → ⊥
 
 -- "No swap is left if, on the sheet left with nothing barred, no edge meets regularize's rule with what that call brought: the same call once more counts 0 and changes nothing."
+-- x is what the call left.
 pub record NoneLeft (b : Band) (k : ℕ) (x : Lent) (w f : ℕ) : Type 0 where
   pub no-swap : NoSwap (length (held x .points)) (held x .labels) 1 (swapFits b (held x .points) (held x .labels)) (held x .quads)
   pub again : (r : Cleaned) (Q : List ℕ) → Contract (regularizeCall b k x w f r Q) → (r ≡ cleaned.Done 0) × (Q ≡ x .quads)
 
--- Demand 3 of a list of calls from the sheet s on. `sound`: the sheet after it is accepted, closed, and one ring at each point, as s was. `apart`: it keeps levels and opposite
--- faces apart. `euler`: points minus edges plus quads is kept. `falls`: the sum of (quads at a point minus 4) squared never rises, and falls by 2 for each swap of `regularize`.
--- `last`: one more call, an accepted `regularize` with more passes than half that sum, leaves no swap.
+-- demand 3 of a list of calls from the sheet s on
 pub record Demand3 (s : Sheet) (cs : List Call) : Type 0 where
+  -- the sheet after it is what s was: accepted, closed, and at each point one ring
   pub sound : Sound (after s cs)
+  -- and no level or face is joined to its opposite
   pub apart : Apart (after s cs)
+  -- points minus edges plus quads is kept
   pub euler : SameEuler s (after s cs)
+  -- the sum of (quads at a point minus 4) squared never rises, and falls by 2 for each swap of `regularize`
   pub falls : squaredOf (after s cs) + 2 * swapsOf cs ≤ squaredOf s
-  pub last : (b : Band) (k : ℕ) (x : Lent) (w f n : ℕ) (Q : List ℕ) → held x ≡ after s cs → Contract (regularizeCall b k x w f (cleaned.Done n) Q) → squaredOf (held x) < 2 * k → NoneLeft b k (withQuads x Q) w f
+  -- one more call, an accepted `regularize` with more passes than half that sum, leaves no swap
+  pub last : (b : Band) (k : ℕ) (x : Lent) (w f n : ℕ) (Q : List ℕ) → held x ≡ after s cs → squaredOf (held x) < 2 * k
+      → Contract (regularizeCall b k x w f (cleaned.Done n) Q) → NoneLeft b k (withQuads x Q) w f
