@@ -9,6 +9,7 @@ ghost use Rattle.refine.specs.Finer.{refineRule};
 ghost use Rattle.regularize.specs.Rule.{answerOf, quadsLeft};
 ghost use Rattle.making.specs.Making.{subdivideBy, rowsBy};
 ghost use Rattle.cleaning.specs.Cleanings.{cleanedNumber, cleanBy, cleanRoom, countLeft};
+ghost use Rattle.coarsening.specs.Coarsenings.{coarsenBy, Coarsens};
 ghost use Rattle.assessing.specs.Assessments.{qualityBy, answersBy, countsLeft, measuresLeft};
 ghost use Rattle.making.specs.Exports.{roomFor, madeNumber, Exports, answerLeft};
 
@@ -279,6 +280,51 @@ pub extern "C" fn quads_improve_layout(
     };
     cleaning::clean_answered(
         true,
+        points,
+        quads,
+        labels,
+        c,
+        kind,
+        numbers,
+        bounds,
+        lower,
+        upper,
+        passes,
+        work,
+        floats,
+        answer,
+    )
+}
+
+// `coarsen`: the merges go to answer[0], the counts of the sheet that is left to answer[1..4].
+#[no_mangle]
+pub extern "C" fn quads_coarsen(
+    points: &mut [f64],
+    quads: &mut [u32],
+    labels: &mut [u8],
+    np: usize,
+    nq: usize,
+    nl: usize,
+    kind: u32,
+    numbers: &[f64],
+    bounds: &[f64],
+    lower: f64,
+    upper: f64,
+    passes: usize,
+    work: &mut [u32],
+    floats: &mut [f64],
+    answer: &mut [u64],
+) -> u32
+    ensures { λ r. ⌜ Coarsens (coarsenBy (now (points .entry)) (now (quads .entry)) (now (labels .entry)) (record { points = np; quads = nq; labels = nl }) kind (now (numbers .entry)) (now (bounds .entry)) lower upper passes (length (now (work .entry))) (length (now (floats .entry)))) (now (points .entry)) (now (quads .entry)) (now (labels .entry)) (now (answer .entry)) r (now (points .exit)) (now (quads .exit)) (now (labels .exit)) (now (answer .exit)) ⌝ }
+    ensures { λ _. ⌜ now (work .exit) ≡ replicate (length (now (work .entry))) 0 ⌝ }
+    ensures { λ _. ⌜ now (floats .exit) ≡ replicate (length (now (floats .entry))) zeroF ⌝ }
+{
+    let c = Counts {
+        points: np,
+        quads: nq,
+        labels: nl,
+    };
+    coarsening::coarsen_answered(
         points,
         quads,
         labels,
