@@ -1,7 +1,7 @@
 -- `vertices::draw_points` meets its contract. Assumes nothing.
 use native.Mathlib.Omega.{arith}
-use Prim.Native.Nat.{_*_, _-_, _≤_}
 use native.Mathlib.Nat.{mul-le-mul-right}
+use Prim.Native.Nat.{_*_, _-_, _≤_}
 use Rattle.drawing.proofs.Counts.{cube-small}
 use Rattle.vertices.proofs.Cells.{Drawn, drawn-start, cell-paths, place-room, drawn-turn, drawn-end}
 use Rattle.vertices.proofs.draw_points.Statement.{statement}
