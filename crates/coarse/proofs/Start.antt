@@ -122,6 +122,7 @@ module _ {np nq : ℕ} {Q labels w : List ℕ} (S : Started np nq Q labels w) wh
   pub passing-of : {P : List Float} {v : List ℕ} → Mergeable np nq P Q labels v → Passing np nq labels (length P) Q w
   passing-of {P} {v} M = record {
     grounds = S .grounds;
+    touched = S .touched;
     masked = S .masked;
     labelled = M .labelled;
     points = M .points;
