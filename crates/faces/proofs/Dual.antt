@@ -73,7 +73,7 @@ module _ (i : Inner) (u w : ℕ) (h : u < 2) (l : w < 2) where
   edge-axis = omega arith
 
   -- it begins where the inner edge begins
-  pub same-edge : {n : ℕ} → InnerIn n i → edgeSite (cellBy i u w) (edgeBy i u w) ≡ innerSite i
+  same-edge : {n : ℕ} → InnerIn n i → edgeSite (cellBy i u w) (edgeBy i u w) ≡ innerSite i
   unfolding innerSite
   same-edge I =
       let q = edge-axis in
@@ -86,9 +86,10 @@ module _ (i : Inner) (u w : ℕ) (h : u < 2) (l : w < 2) where
   pub cell-within : {n : ℕ} → InnerIn n i → Within n (cellBy i u w)
   cell-within {n} I = place-within n (i .axis) (i .a) (i .b - u) (i .d - w) (I .axis<) (I .a<) (omega (arith, I .b<)) (omega (arith, I .d<))
 
-  pub cell-crosses : {n : ℕ} (g : Grid) → InnerIn n i → crossedAt g (innerSite i) (i .axis) ≡ true → edgeCrosses g (cellBy i u w) (edgeBy i u w) ≡ true
+  cell-crosses : {n : ℕ} (g : Grid) → InnerIn n i → crossedAt g (innerSite i) (i .axis) ≡ true → edgeCrosses g (cellBy i u w) (edgeBy i u w) ≡ true
   cell-crosses g I x = crosses-is g (cellBy i u w) (edgeBy i u w) (omega (arith, I .axis<)) ∙ (rw (same-edge I, edge-axis) x)
 
+  -- the slot of the edge there, and what it has
   pub slot-in : {g : Grid} {n : ℕ} {s : List ℕ} {c : Site} (x : ℕ) → AllNumbered g n s → InnerIn n i → c ≡ cellBy i u w → x ≡ indexOf n c → 12 * x + edgeBy i u w < length s
   slot-in {n = n} x N I q f =
       let e : edgeBy i u w < 12 = omega (arith, I .axis<) in
@@ -118,7 +119,7 @@ unfolding cornerOf
 slot-number g n i u w s e = let l = label-low g (cellBy i u w) (edgeBy i u w) in omega arith
 
 -- the label, in the cell at the edge's own place
-pub slot-label : {n : ℕ} (g : Grid) (i : Inner) (s : ℕ) → InnerIn n i → s ≡ slotBy g n i 0 0 → s % 8 ≡ crossedLabel g (innerSite i) (i .axis)
+slot-label : {n : ℕ} (g : Grid) (i : Inner) (s : ℕ) → InnerIn n i → s ≡ slotBy g n i 0 0 → s % 8 ≡ crossedLabel g (innerSite i) (i .axis)
 unfolding crossedLabel crossingAt
 slot-label {n} g i s I e =
     let c = cellBy i 0 0 in
@@ -143,7 +144,7 @@ module _ (g : Grid) (n : ℕ) (i : Inner) (p q s t place : ℕ) (Q labels : List
   put-outside e f h =
       (rw (← e, f) (rw (slot-number g n i 1 1 p ep, slot-number g n i 0 1 q eq, slot-number g n i 0 0 s es, slot-number g n i 1 0 t et) at h), ap (set labels place) (slot-label g i s I es))
 
--- ---- a cell by its number
+-- ---- offsets
 
 pub offset-low : (k : ℕ) → k < 4 → (offsetU k < 2) × (offsetW k < 2)
 offset-low zero h = (omega arith, omega arith)
@@ -154,7 +155,7 @@ offset-low (suc (suc (suc (suc k)))) h = absurd (omega arith)
 
 -- ---- no dual cell is incomplete
 
-pub dual-cell : (g : Grid) (n : ℕ) (i : Inner) (u w : ℕ) → InnerIn n i → crossedAt g (innerSite i) (i .axis) ≡ true → u < 2 → w < 2 → DualCell g n i u w
+dual-cell : (g : Grid) (n : ℕ) (i : Inner) (u w : ℕ) → InnerIn n i → crossedAt g (innerSite i) (i .axis) ≡ true → u < 2 → w < 2 → DualCell g n i u w
 unfolding cornerOf
 dual-cell g n i u w I x h l =
     let W = cell-within i u w h l I in

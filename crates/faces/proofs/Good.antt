@@ -1,19 +1,16 @@
 -- The quads and labels that are drawn pass the tests of a sheet's corners: four different points each, and labels of at most 7. Assumes nothing.
-use Prim.Native.Nat.{ℕ, zero, suc, _-_, _*_, _≤_, _<_}
-use mathlib.Core.Path.{_≡_, refl, sym, ap, _∙_}
+use Prim.Native.Nat.{ℕ, zero, suc, _-_, _*_, _<_}
+use mathlib.Core.Path.{_≡_, refl, sym, ap}
 use mathlib.Core.Bool.{Bool, true, false, cond}
 use mathlib.Core.List.{List, [], _∷_, _++_}
 use native.Mathlib.Omega.{arith}
-use lib.ListN.{length, take}
+use lib.ListN.{length}
 use borrow.Author.Tests.{lt-ltb, le-leb, ne-eqb}
 use Rattle.lists.specs.Sort.{consIf}
-use Rattle.lists.specs.Every.{every}
 use Rattle.lists.proofs.Every.{and-left, and-right}
 use Rattle.sheet.specs.Quads.{quad, all}
 use Rattle.sheet.specs.Edges.{joinTo}
-use Rattle.sheet.specs.Flat.{quadsOf}
-use Rattle.sheet.specs.Tests.{inRange, distinct, proper, lowLabel, goodCorners, goodQuadAt}
-use Rattle.sheet.proofs.Tests.{corners-tested}
+use Rattle.sheet.specs.Tests.{inRange, distinct, proper, lowLabel, goodCorners}
 use Rattle.sampling.specs.declared.Grid.{Grid}
 use Rattle.crossings.specs.Crossings.{crossingOf, crossedLabel}
 use Rattle.lattice.specs.Lattice.{insideAt}
@@ -151,8 +148,3 @@ drawn-good g n =
     let b : all (proper (length (pointsTo g n (n * n * n)))) (joinTo (quadIf g n) (innerCount n)) ≡ true =
     all-join (proper (length (pointsTo g n (n * n * n)))) (quadIf g n) (innerCount n) (λ t h. all-one (proper (length (pointsTo g n (n * n * n)))) (innerCrosses g n t) (innerQuad g n (innerAt n t)) (λ x. quad-proper g n t h x)) in
     rw (a, b) refl
-
--- the same of slices that hold them, one quad at a time
-pub drawn-every : (g : Grid) (n nq : ℕ) (Q labels : List ℕ) → nq ≤ length labels → quadsOf nq Q ≡ joinTo (quadIf g n) (innerCount n) → take nq labels ≡ joinTo (labelIf g n) (innerCount n)
-    → every (goodQuadAt (length (pointsTo g n (n * n * n))) Q labels) nq ≡ true
-drawn-every g n nq Q labels h e f = corners-tested (length (pointsTo g n (n * n * n))) nq Q labels h ∙ (rw (e, f) (drawn-good g n))

@@ -18,7 +18,7 @@ use Rattle.sampling.specs.declared.Grid.{Grid}
 use Rattle.crossings.specs.Crossings.{nextSite, crossedLabel}
 use Rattle.lattice.specs.Lattice.{insideAt}
 use Rattle.paths.specs.Paths.{crossedAt}
-use Rattle.drawing.specs.Drawing.{Inner, innerCount, innerAt, innerSite, innerQuad, innerCrosses, quadIf, labelIf}
+use Rattle.drawing.specs.Drawing.{innerCount, innerAt, innerSite, innerQuad, innerCrosses, quadIf, labelIf}
 use Rattle.drawing.proofs.Putting.{join-below}
 use Rattle.faces.specs.declared.Row.{Row}
 use Rattle.faces.specs.Faces.{edgeIn, rowCount, edgeNumber, RowAt, Counted, Drawn}
@@ -80,6 +80,20 @@ counted-more {g} {n} {t} C x = record {
   count≤ = omega (arith, C .count≤);
 }
 
+-- ---- numbers of edges
+
+-- an edge of a row is one of all
+pub edge-lt : (n r j : ℕ) → r < rowCount n → j < n - 1 → edgeNumber n r j < innerCount n
+edge-lt n r j h l =
+    let b : suc r * (n - 1) ≤ 3 * (n * (n - 1)) * (n - 1) = mul-le-mul-right (n - 1) h in
+    omega arith
+
+pub edges-few : (n : ℕ) → n ≤ 130 → innerCount n ≤ 6489990
+edges-few n h =
+    let a : (n - 1) * (n - 1) ≤ 129 * (n - 1) = mul-le-mul-right (n - 1) (omega arith) in
+    let b : n * ((n - 1) * (n - 1)) ≤ 130 * ((n - 1) * (n - 1)) = mul-le-mul-right ((n - 1) * (n - 1)) h in
+    omega arith
+
 -- ---- quads and labels
 
 length-with-quad : (s : List ℕ) (k : ℕ) (q : Quad) → length (withQuad s k q) ≡ length s
@@ -103,45 +117,39 @@ pub record Fits (count : ℕ) (Q labels : List ℕ) : Type 0 where
   pub quads : 4 * count + 4 ≤ length Q
   pub labels< : count < length labels
 
-pub drawn-fits : {g : Grid} {n t count : ℕ} {Q labels : List ℕ} → Drawn g n t count Q labels → t < innerCount n → innerCrosses g n t ≡ true → Fits count Q labels
-drawn-fits {g} {n} {t} D h x =
-    let q : length (quadIf g n t) ≡ 1 = rw x refl in
-    let b = join-below (quadIf g n) t (innerCount n) h in
+pub drawn-fits : {g : Grid} {n r count : ℕ} {row : Row} {Q labels : List ℕ} (j : ℕ) → Drawn g n (edgeNumber n r j) count Q labels → RowAt n r row → j < n - 1 → innerCrosses g n (edgeNumber n r j) ≡ true
+    → Fits count Q labels
+drawn-fits {g} {n} {r} j D R h x =
+    let q : length (quadIf g n (edgeNumber n r j)) ≡ 1 = rw x refl in
+    let b = join-below (quadIf g n) (edgeNumber n r j) (innerCount n) (edge-lt n r j (R .r<) h) in
     let m = labels-many g n (innerCount n) in
     record { quads = omega (arith, D .counted .is, D .quads≤); labels< = omega (arith, D .counted .is, D .labels≤) }
 
-pub drawn-more : {g : Grid} {n t count : ℕ} {i : Inner} {Q labels Q′ labels′ : List ℕ} → Drawn g n t count Q labels → Fits count Q labels → innerCrosses g n t ≡ true → innerAt n t ≡ i
-    → (Q′ ≡ withQuad Q count (innerQuad g n i)) × (labels′ ≡ set labels count (crossedLabel g (innerSite i) (i .axis))) → Drawn g n (t + 1) (count + 1) Q′ labels′
-drawn-more {g} {n} {t} {count} {i} {Q} {labels} D F x z E =
-    let q = quads-more g n t x in
-    let l = labels-more g n t x in
+pub drawn-more : {g : Grid} {n r count : ℕ} {row : Row} {Q labels Q′ labels′ : List ℕ} (j : ℕ) → Drawn g n (edgeNumber n r j) count Q labels → RowAt n r row → j < n - 1
+    → innerCrosses g n (edgeNumber n r j) ≡ true
+    → (Q′ ≡ withQuad Q count (innerQuad g n (edgeIn row j))) × (labels′ ≡ set labels count (crossedLabel g (innerSite (edgeIn row j)) (row .axis)))
+    → Drawn g n (edgeNumber n r j + 1) (count + 1) Q′ labels′
+drawn-more {g} {n} {r} {count} {row} {Q} {labels} j D R h x E =
+    let t = edgeNumber n r j in
+    let i = edgeIn row j in
+    let F = drawn-fits j D R h x in
+    let q : joinTo (quadIf g n) (t + 1) ≡ joinTo (quadIf g n) t ++ (innerQuad g n i ∷ []) = rw (R .edges j h) at (quads-more g n t x) in
+    let l : joinTo (labelIf g n) (t + 1) ≡ joinTo (labelIf g n) t ++ (crossedLabel g (innerSite i) (row .axis) ∷ []) = rw (R .edges j h) at (labels-more g n t x) in
     record {
       counted = counted-more (D .counted) x;
-      quads = rw (E .0, q, z) (front-quad (joinTo (quadIf g n) t) count (innerQuad g n i) (D .quads) (D .counted .is) (F .quads));
-      labelled = rw (E .1, l, z) (front-next count (crossedLabel g (innerSite i) (i .axis)) (D .labelled) (D .counted .is ∙ sym (labels-many g n t)) (F .labels<));
+      quads = rw (E .0, q) (front-quad (joinTo (quadIf g n) t) count (innerQuad g n i) (D .quads) (D .counted .is) (F .quads));
+      labelled = rw (E .1, l) (front-next count (crossedLabel g (innerSite i) (row .axis)) (D .labelled) (D .counted .is ∙ sym (labels-many g n t)) (F .labels<));
       quads≤ = rw (E .0, length-with-quad Q count (innerQuad g n i)) (D .quads≤);
-      labels≤ = rw (E .1, length-set labels count (crossedLabel g (innerSite i) (i .axis))) (D .labels≤);
+      labels≤ = rw (E .1, length-set labels count (crossedLabel g (innerSite i) (row .axis))) (D .labels≤);
     }
 
 -- ---- rows
 
--- an edge of a row is one of all
-pub edge-lt : (n r j : ℕ) → r < rowCount n → j < n - 1 → edgeNumber n r j < innerCount n
-edge-lt n r j h l =
-    let b : suc r * (n - 1) ≤ 3 * (n * (n - 1)) * (n - 1) = mul-le-mul-right (n - 1) h in
-    omega arith
-
-pub edges-few : (n : ℕ) → n ≤ 130 → innerCount n ≤ 6489990
-edges-few n h =
-    let a : (n - 1) * (n - 1) ≤ 129 * (n - 1) = mul-le-mul-right (n - 1) (omega arith) in
-    let b : n * ((n - 1) * (n - 1)) ≤ 130 * ((n - 1) * (n - 1)) = mul-le-mul-right ((n - 1) * (n - 1)) h in
-    omega arith
-
 -- the row after begins behind the last edge
-pub row-after : (n r j : ℕ) → j ≡ n - 1 → edgeNumber n r j ≡ edgeNumber n (r + 1) 0
+row-after : (n r j : ℕ) → j ≡ n - 1 → edgeNumber n r j ≡ edgeNumber n (r + 1) 0
 row-after n r j e = rw e (omega arith)
 
-pub rows-all : (n r : ℕ) → r ≡ rowCount n → edgeNumber n r 0 ≡ innerCount n
+rows-all : (n r : ℕ) → r ≡ rowCount n → edgeNumber n r 0 ≡ innerCount n
 rows-all n r e = rw e (omega arith)
 
 pub counted-next : {g : Grid} {n count : ℕ} (r j : ℕ) → Counted g n (edgeNumber n r j + 1) count → Counted g n (edgeNumber n r (j + 1)) count

@@ -33,7 +33,12 @@ same-length-2 : tie.Need-same-length-2
 same-length-2 c = search needs
 
 returns : tie.Need-returns
-returns c = let s = c .before .before .before .before .before in let f = s .before .before .before .before .before .before .before in let p = f .pre in put-inside _ _ _ _ _ _ _ _ _ (f .args .labels .now) (row-inner _ (p .1 .0) (p .1 .1 .0)) (s .before .before .before .slot-at .ensures) (s .before .before .slot-at2 .ensures) (s .before .slot-at3 .ensures) (s .slot-at4 .ensures) (p .1 .1 .1 .1 .0) (c .before .before .before .before .if1 .taken) (c .before .before .put-quad .ensures)
+returns c = let s = c .before .before .before .before .before in
+    let f = s .before .before .before .before .before .before .before in
+    let p = f .pre in
+    let I = row-inner _ (p .1 .0) (p .1 .1 .0) in
+    put-inside _ _ _ _ _ _ _ _ _ (f .args .labels .now) I (s .before .before .before .slot-at .ensures) (s .before .before .slot-at2 .ensures) (s .before .slot-at3 .ensures) (s .slot-at4 .ensures)
+    (p .1 .1 .1 .1 .0) (c .before .before .before .before .if1 .taken) (c .before .before .put-quad .ensures)
 
 put-quad-requires-2 : tie.Need-put-quad-requires-2
 put-quad-requires-2 c κs = c .before .before .before .before .before .before .before .before .before .pre .1 .1 .1 .1 .1 .0
@@ -45,7 +50,12 @@ same-length-4 : tie.Need-same-length-4
 same-length-4 c = search needs
 
 returns-2 : tie.Need-returns-2
-returns-2 c = let s = c .before .before .before .before .before in let f = s .before .before .before .before .before .before .before in let p = f .pre in put-outside _ _ _ _ _ _ _ _ _ (f .args .labels .now) (row-inner _ (p .1 .0) (p .1 .1 .0)) (s .before .before .before .slot-at .ensures) (s .before .before .slot-at2 .ensures) (s .before .slot-at3 .ensures) (s .slot-at4 .ensures) (p .1 .1 .1 .1 .0) (c .before .before .before .before .if1 .left) (c .before .before .put-quad2 .ensures)
+returns-2 c = let s = c .before .before .before .before .before in
+    let f = s .before .before .before .before .before .before .before in
+    let p = f .pre in
+    let I = row-inner _ (p .1 .0) (p .1 .1 .0) in
+    put-outside _ _ _ _ _ _ _ _ _ (f .args .labels .now) I (s .before .before .before .slot-at .ensures) (s .before .before .slot-at2 .ensures) (s .before .slot-at3 .ensures) (s .slot-at4 .ensures)
+    (p .1 .1 .1 .1 .0) (c .before .before .before .before .if1 .left) (c .before .before .put-quad2 .ensures)
 
 pub put-quad-spec : {M : Type 1} → statement M
 put-quad-spec =

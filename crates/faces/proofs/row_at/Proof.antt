@@ -39,7 +39,10 @@ add-stride : tie.Need-add-stride
 add-stride c = search needs
 
 stride-requires : tie.Need-stride-requires
-stride-requires c κs = let p = c .before .before .pre in let R = row-places _ _ (p .1) in let e = c .before .place-on .ensures in (omega (arith, p .0), (R .axis<, (first-within _ _ (p .0) R e, own-within _ _ (p .0) R e)))
+stride-requires c κs = let p = c .before .before .pre in
+    let R = row-places _ _ (p .1) in
+    let e = c .before .place-on .ensures in
+    (omega (arith, p .0), (R .axis<, (first-within _ _ (p .0) R e, own-within _ _ (p .0) R e)))
 
 add-stride-2 : tie.Need-add-stride-2
 add-stride-2 c = search needs
@@ -48,10 +51,14 @@ add-stride-3 : tie.Need-add-stride-3
 add-stride-3 c = let R = row-places _ _ (c .before .before .before .pre .1) in omega (arith, R .axis<)
 
 stride-requires-2 : tie.Need-stride-requires-2
-stride-requires-2 c κs = let p = c .before .before .before .pre in let R = row-places _ _ (p .1) in let e = c .before .before .place-on .ensures in (omega (arith, p .0), (omega arith, (first-within _ _ (p .0) R e, last-within _ _ (p .0) R e)))
+stride-requires-2 c κs = let p = c .before .before .before .pre in
+    let R = row-places _ _ (p .1) in
+    let e = c .before .before .place-on .ensures in
+    (omega (arith, p .0), (omega arith, (first-within _ _ (p .0) R e, last-within _ _ (p .0) R e)))
 
 returns : tie.Need-returns
-returns c = let p = c .before .before .before .before .pre in row-made _ _ (p .0) (row-places _ _ (p .1)) (c .before .before .before .place-on .ensures) (p .1) _ _ _ (c .before .before .index-of .ensures .0) (c .before .stride .ensures) (c .stride2 .ensures)
+returns c = let p = c .before .before .before .before .pre in
+    row-made _ _ (p .0) (row-places _ _ (p .1)) (c .before .before .before .place-on .ensures) (p .1) _ _ _ (c .before .before .index-of .ensures .0) (c .before .stride .ensures) (c .stride2 .ensures)
 
 pub row-at-spec : {M : Type 1} → statement M
 row-at-spec =

@@ -30,7 +30,9 @@ place-on-requires : tie.Need-place-on-requires
 place-on-requires c κs = search needs
 
 index-of-requires : tie.Need-index-of-requires
-index-of-requires c κs = let p = c .before .before .before .pre in let o = offset-low _ (p .1 .1 .1 .1) in (omega (arith, p .1 .0 .n≤), rw (c .place-on .ensures) (cell-within _ _ _ (o .0) (o .1) (row-inner _ (p .1 .0) (p .1 .1 .0))))
+index-of-requires c κs = let p = c .before .before .before .pre in
+    let o = offset-low _ (p .1 .1 .1 .1) in
+    (omega (arith, p .1 .0 .n≤), rw (c .place-on .ensures) (cell-within _ _ _ (o .0) (o .1) (row-inner _ (p .1 .0) (p .1 .1 .0))))
 
 mul-result : tie.Need-mul-result
 mul-result c = let p = c .before .before .before .before .pre in let o = offset-low _ (p .1 .1 .1 .1) in omega (arith, o .0, o .1, p .1 .0 .axis<, c .index-of .ensures .1)
@@ -54,10 +56,14 @@ mul-result-4 : tie.Need-mul-result-4
 mul-result-4 c = let p = c .before .before .before .before .pre in let o = offset-low _ (p .1 .1 .1 .1) in omega (arith, o .0, o .1, p .1 .0 .axis<, c .index-of .ensures .1)
 
 shared-slice-read-result : tie.Need-shared-slice-read-result
-shared-slice-read-result c = let p = c .before .before .before .before .before .pre in let o = offset-low _ (p .1 .1 .1 .1) in slot-in _ _ _ (o .0) (o .1) _ (p .0) (row-inner _ (p .1 .0) (p .1 .1 .0)) (c .before .before .place-on .ensures) (c .before .index-of .ensures .0)
+shared-slice-read-result c = let p = c .before .before .before .before .before .pre in
+    let o = offset-low _ (p .1 .1 .1 .1) in
+    slot-in _ _ _ (o .0) (o .1) _ (p .0) (row-inner _ (p .1 .0) (p .1 .1 .0)) (c .before .before .place-on .ensures) (c .before .index-of .ensures .0)
 
 returns : tie.Need-returns
-returns c = let p = c .before .before .before .before .before .pre in let o = offset-low _ (p .1 .1 .1 .1) in slot-read _ _ _ (o .0) (o .1) _ (p .0) (row-inner _ (p .1 .0) (p .1 .1 .0)) (p .1 .1 .1 .0) (c .before .before .place-on .ensures) (c .before .index-of .ensures .0)
+returns c = let p = c .before .before .before .before .before .pre in
+    let o = offset-low _ (p .1 .1 .1 .1) in
+    slot-read _ _ _ (o .0) (o .1) _ (p .0) (row-inner _ (p .1 .0) (p .1 .1 .0)) (p .1 .1 .1 .0) (c .before .before .place-on .ensures) (c .before .index-of .ensures .0)
 
 pub slot-at-spec : {M : Type 1} → statement M
 slot-at-spec =
