@@ -12,7 +12,7 @@ ghost use Rattle.making.specs.Exports.{roomFor, madeNumber, Exports, ans
 ghost use Rattle.making.specs.Making.{subdivideBy, rowsBy};
 
 // The number of an answer: 0 if accepted.
-fn made_number(r: Made) -> u32
+pub fn made_number(r: Made) -> u32
     ensures { λ n. ⌜ n ≡ madeNumber r ⌝ }
 {
     match r {

@@ -7,11 +7,49 @@ ghost use lib.ListN.{length, replicate};
 ghost use Rattle.numeric.specs.Num.{zeroF};
 ghost use Rattle.refine.specs.Finer.{refineRule};
 ghost use Rattle.regularize.specs.Rule.{answerOf, quadsLeft};
+ghost use Rattle.extraction.specs.Extraction.{extractBy};
 ghost use Rattle.making.specs.Making.{subdivideBy, rowsBy};
 ghost use Rattle.cleaning.specs.Cleanings.{cleanedNumber, cleanBy, cleanRoom, countLeft};
 ghost use Rattle.coarsening.specs.Coarsenings.{coarsenBy, Coarsens};
 ghost use Rattle.assessing.specs.Assessments.{qualityBy, answersBy, countsLeft, measuresLeft};
 ghost use Rattle.making.specs.Exports.{roomFor, madeNumber, Exports, answerLeft};
+
+// `extract_candidate`: the counts of the drawn sheet go to answer[1..4], answer[0] is 0.
+#[no_mangle]
+pub extern "C" fn quads_extract_candidate(
+    kind: u32,
+    numbers: &[f64],
+    bounds: &[f64],
+    lower: f64,
+    upper: f64,
+    cells: usize,
+    new_points: &mut [f64],
+    new_quads: &mut [u32],
+    new_labels: &mut [u8],
+    work: &mut [u32],
+    floats: &mut [f64],
+    answer: &mut [u64],
+) -> u32
+    ensures { λ r. ⌜ Exports (roomFor (length (now (answer .entry))) (extractBy kind (now (numbers .entry)) (now (bounds .entry)) lower upper cells (length (now (work .entry))) (length (now (floats .entry))) (length (now («new_points» .entry))) (length (now («new_quads» .entry))) (length (now («new_labels» .entry))))) (length (now («new_points» .entry))) (length (now («new_quads» .entry))) (length (now («new_labels» .entry))) r (now («new_points» .exit)) (now («new_quads» .exit)) (now («new_labels» .exit)) ⌝ }
+    ensures { λ _. ⌜ now (answer .exit) ≡ answerLeft (extractBy kind (now (numbers .entry)) (now (bounds .entry)) lower upper cells (length (now (work .entry))) (length (now (floats .entry))) (length (now («new_points» .entry))) (length (now («new_quads» .entry))) (length (now («new_labels» .entry)))) (now (answer .entry)) ⌝ }
+    ensures { λ _. ⌜ now (work .exit) ≡ replicate (length (now (work .entry))) 0 ⌝ }
+    ensures { λ _. ⌜ now (floats .exit) ≡ replicate (length (now (floats .entry))) zeroF ⌝ }
+{
+    extraction::extract_answered(
+        kind,
+        numbers,
+        bounds,
+        lower,
+        upper,
+        cells,
+        new_points,
+        new_quads,
+        new_labels,
+        work,
+        floats,
+        answer,
+    )
+}
 
 // `refine`: the counts of the finer sheet go to answer[1..4], answer[0] is 0.
 #[no_mangle]
