@@ -27,6 +27,15 @@ pub fn pillow() -> QuadMesh {
     }
 }
 
+/// Two pillows of different labels that share one point.
+pub fn pillows() -> QuadMesh {
+    let QuadMesh { mut points, mut quads, mut labels } = pillow();
+    points.extend([[0.0, 0.0, 1.0], [0.0, 1.0, 1.0], [0.0, 1.0, 0.5]]);
+    quads.extend([[0, 4, 5, 6], [6, 5, 4, 0]]);
+    labels.extend([4, 4]);
+    QuadMesh { points, quads, labels }
+}
+
 /// A torus of n times m quads.
 pub fn torus(n: usize, m: usize) -> QuadMesh {
     let at = |i: usize, j: usize| (i % n) * m + j % m;
@@ -49,6 +58,38 @@ pub fn poles(n: usize) -> QuadMesh {
         points: [[0.5, 0.5, 0.1], [0.5, 0.5, 0.9]].into_iter().chain(rim).collect(),
         quads: (0..n).map(|i| [0, 2 + i, 1, 2 + (i + 1) % n]).collect(),
         labels: vec![2; n],
+    }
+}
+
+/// Point k of n on a circle around the middle of the low x face of the unit box, seen from outside.
+fn on_circle(radius: f64, k: f64, n: usize) -> Point {
+    let (sin, cos) = (std::f64::consts::TAU * k / n as f64).sin_cos();
+    [0.0, 0.5 + radius * cos, 0.5 - radius * sin]
+}
+
+/// One point that n quads share, all around it; the rim is open.
+pub fn fan(n: usize) -> QuadMesh {
+    let rim = (0..2 * n).map(|k| on_circle(0.4, k as f64, 2 * n));
+    let at = |k: usize| 1 + k % (2 * n);
+    QuadMesh {
+        points: [[0.0, 0.5, 0.5]].into_iter().chain(rim).collect(),
+        quads: (0..n).map(|i| [0, at(2 * i), at(2 * i + 1), at(2 * i + 2)]).collect(),
+        labels: vec![2; n],
+    }
+}
+
+/// A fan of n quads with n further quads around it: its spokes end in points of four quads, with points of two between them.
+pub fn wheel(n: usize) -> QuadMesh {
+    let ring = |radius, turn| (0..n).map(move |k| on_circle(radius, k as f64 + turn, n));
+    let (spoke, between, outer) = (|i: usize| 1 + i % n, |i: usize| 1 + n + i, |i: usize| 1 + 2 * n + i);
+    let hub = [[0.0, 0.5, 0.5]].into_iter();
+    QuadMesh {
+        points: hub.chain(ring(0.3, 0.0)).chain(ring(0.35, 0.5)).chain(ring(0.45, 0.5)).collect(),
+        quads: (0..n)
+            .map(|i| [0, spoke(i), between(i), spoke(i + 1)])
+            .chain((0..n).map(|i| [spoke(i), outer(i), spoke(i + 1), between(i)]))
+            .collect(),
+        labels: vec![2; 2 * n],
     }
 }
 
@@ -89,6 +130,37 @@ pub fn closed(r: &mut Random) -> QuadMesh {
         relabel(r, &mut sheet);
     }
     sheet
+}
+
+/// The corners around two quads that run opposite ways along edge k of the first: from that edge's start round the second, then round the first.
+fn corners_around(sheet: &QuadMesh, first: usize, k: usize) -> Option<(usize, [usize; 6])> {
+    let q = sheet.quads[first];
+    let back = |p: &[usize; 4]| (0..4).find(|&m| [p[m], p[(m + 1) % 4]] == [q[(k + 1) % 4], q[k]]);
+    let (second, m) = sheet.quads.iter().enumerate().find_map(|(j, p)| Some((j, back(p)?)))?;
+    let p = sheet.quads[second];
+    Some((second, [q[k], p[(m + 2) % 4], p[(m + 3) % 4], q[(k + 1) % 4], q[(k + 2) % 4], q[(k + 3) % 4]]))
+}
+
+/// Turns a random edge between two quads of one label, if it has six corners around it; more or fewer quads meet at its ends then.
+pub fn turn(r: &mut Random, sheet: &mut QuadMesh) {
+    let (first, k) = (r.below(sheet.quads.len()), r.below(4));
+    let Some((second, six)) = corners_around(sheet, first, k) else { return };
+    let differ = (0..6).all(|i| (0..i).all(|j| six[i] != six[j]));
+    if differ && sheet.labels[first] == sheet.labels[second] {
+        sheet.quads[first] = [six[1], six[2], six[3], six[4]];
+        sheet.quads[second] = [six[1], six[4], six[5], six[0]];
+    }
+}
+
+/// Takes up to three quads out of a sheet, but not the last one.
+pub fn open(r: &mut Random, sheet: &mut QuadMesh) {
+    for _ in 0..1 + r.below(3) {
+        let quad = r.below(sheet.quads.len().max(1));
+        if sheet.quads.len() > 1 && sheet.labels.len() > quad {
+            sheet.quads.remove(quad);
+            sheet.labels.remove(quad);
+        }
+    }
 }
 
 /// One damage to a sheet; a list that is empty stays so.
