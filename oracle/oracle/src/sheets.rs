@@ -61,15 +61,15 @@ pub fn poles(n: usize) -> QuadMesh {
     }
 }
 
-/// Point k of n on a circle around the middle of the low x face of the unit box, seen from outside.
-fn on_circle(radius: f64, k: f64, n: usize) -> Point {
-    let (sin, cos) = (std::f64::consts::TAU * k / n as f64).sin_cos();
+/// Point k on a circle around the middle of the low x face of the unit box, six to a turn, as seen from outside.
+fn on_circle(radius: f64, k: usize) -> Point {
+    let (sin, cos) = (std::f64::consts::TAU * (k % 6) as f64 / 6.0).sin_cos();
     [0.0, 0.5 + radius * cos, 0.5 - radius * sin]
 }
 
-/// One point that n quads share, all around it; the rim is open.
+/// One point that n well-shaped quads share; they wind around it, three to a turn, and the rim is open. No swap keeps the shape.
 pub fn fan(n: usize) -> QuadMesh {
-    let rim = (0..2 * n).map(|k| on_circle(0.4, k as f64, 2 * n));
+    let rim = (0..2 * n).map(|k| on_circle(0.4, k));
     let at = |k: usize| 1 + k % (2 * n);
     QuadMesh {
         points: [[0.0, 0.5, 0.5]].into_iter().chain(rim).collect(),
@@ -78,19 +78,20 @@ pub fn fan(n: usize) -> QuadMesh {
     }
 }
 
-/// A fan of n quads with n further quads around it: its spokes end in points of four quads, with points of two between them.
+/// A fan of n quads with n further quads around it: its spokes end in points of four quads, with points of two between them, so that a merge of the
+/// first point with any of those would gain. The last quad of the fan is so small that none of these merges keeps its shape.
 pub fn wheel(n: usize) -> QuadMesh {
-    let ring = |radius, turn| (0..n).map(move |k| on_circle(radius, k as f64 + turn, n));
+    let ring = |radius, turn| (0..n).map(move |i| on_circle(radius, 2 * i + turn));
     let (spoke, between, outer) = (|i: usize| 1 + i % n, |i: usize| 1 + n + i, |i: usize| 1 + 2 * n + i);
     let hub = [[0.0, 0.5, 0.5]].into_iter();
-    QuadMesh {
-        points: hub.chain(ring(0.3, 0.0)).chain(ring(0.35, 0.5)).chain(ring(0.45, 0.5)).collect(),
-        quads: (0..n)
-            .map(|i| [0, spoke(i), between(i), spoke(i + 1)])
-            .chain((0..n).map(|i| [spoke(i), outer(i), spoke(i + 1), between(i)]))
-            .collect(),
-        labels: vec![2; 2 * n],
+    let mut points: Vec<Point> = hub.chain(ring(0.3, 0)).chain(ring(0.35, 1)).chain(ring(0.45, 1)).collect();
+    for point in [spoke(n - 1), between(n - 1), spoke(n)] {
+        points[point] = points[point].map(|x| 0.5 + 0.01 * (x - 0.5));
+        points[point][0] = 0.0;
     }
+    let inner = (0..n).map(|i| [0, spoke(i), between(i), spoke(i + 1)]);
+    let quads = inner.chain((0..n).map(|i| [spoke(i), outer(i), spoke(i + 1), between(i)])).collect();
+    QuadMesh { points, quads, labels: vec![2; 2 * n] }
 }
 
 /// Splits a quad by a new point tied to two opposite corners.
@@ -134,7 +135,7 @@ pub fn closed(r: &mut Random) -> QuadMesh {
 
 /// The corners around two quads that run opposite ways along edge k of the first: from that edge's start round the second, then round the first.
 fn corners_around(sheet: &QuadMesh, first: usize, k: usize) -> Option<(usize, [usize; 6])> {
-    let q = sheet.quads[first];
+    let q = sheet.quads.get(first)?;
     let back = |p: &[usize; 4]| (0..4).find(|&m| [p[m], p[(m + 1) % 4]] == [q[(k + 1) % 4], q[k]]);
     let (second, m) = sheet.quads.iter().enumerate().find_map(|(j, p)| Some((j, back(p)?)))?;
     let p = sheet.quads[second];
@@ -143,10 +144,10 @@ fn corners_around(sheet: &QuadMesh, first: usize, k: usize) -> Option<(usize, [u
 
 /// Turns a random edge between two quads of one label, if it has six corners around it; more or fewer quads meet at its ends then.
 pub fn turn(r: &mut Random, sheet: &mut QuadMesh) {
-    let (first, k) = (r.below(sheet.quads.len()), r.below(4));
+    let (first, k) = (r.below(sheet.quads.len().max(1)), r.below(4));
     let Some((second, six)) = corners_around(sheet, first, k) else { return };
     let differ = (0..6).all(|i| (0..i).all(|j| six[i] != six[j]));
-    if differ && sheet.labels[first] == sheet.labels[second] {
+    if differ && sheet.labels.get(first) == sheet.labels.get(second) {
         sheet.quads[first] = [six[1], six[2], six[3], six[4]];
         sheet.quads[second] = [six[1], six[4], six[5], six[0]];
     }
