@@ -33,8 +33,10 @@ macro_rules! export {
 export!(quads_refine [] sheet made work);
 export!(quads_subdivide [] sheet band made work);
 export!(quads_boundary_rows [] sheet band made work);
+export!(quads_extract_candidate [] band number made work);
 export!(quads_regularize [] own_quads band number work);
 export!(quads_improve_layout [] own_quads band number work);
+export!(quads_coarsen [] own_sheet band number work);
 export!(quads_quality [] sheet band work measures);
 
 /// Calls an export: each group in turn adds its arguments to the list.

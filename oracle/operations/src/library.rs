@@ -59,8 +59,10 @@ impl Lent {
                 Operation::Refine => Some(call!(self.quads_refine [] sheet made work)),
                 Operation::Subdivide => Some(call!(self.quads_subdivide [] sheet band made work)),
                 Operation::Rows => Some(call!(self.quads_boundary_rows [] sheet band made work)),
+                Operation::Extract => Some(call!(self.quads_extract_candidate [] band number made work)),
                 Operation::Regularize => Some(call!(self.quads_regularize [] sheet band number work)),
                 Operation::ImproveLayout => Some(call!(self.quads_improve_layout [] sheet band number work)),
+                Operation::Coarsen => Some(call!(self.quads_coarsen [] sheet band number work)),
                 Operation::Quality => Some(call!(self.quads_quality [] sheet band work measures)),
                 _ => None,
             }

@@ -9,9 +9,10 @@ use oracle::random::Random;
 use oracle::{bands, drawn, sheets};
 
 /// The operations of the lists.
-const OPERATIONS: [Operation; 6] = [
+const OPERATIONS: [Operation; 7] = [
     Operation::Regularize,
     Operation::ImproveLayout,
+    Operation::Coarsen,
     Operation::Subdivide,
     Operation::Refine,
     Operation::Rows,

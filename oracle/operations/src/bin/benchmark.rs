@@ -12,11 +12,12 @@ use std::process::ExitCode;
 use std::time::Instant;
 
 /// The operations on a sheet that are timed, each with its number of passes.
-const OPERATIONS: [(Operation, u64); 6] = [
+const OPERATIONS: [(Operation, u64); 7] = [
     (Operation::Refine, 0),
     (Operation::Subdivide, 0),
     (Operation::Regularize, 1),
     (Operation::ImproveLayout, 1),
+    (Operation::Coarsen, 5),
     (Operation::Rows, 0),
     (Operation::Quality, 0),
 ];
@@ -86,10 +87,11 @@ fn growth(time: f64, before: Option<&f64>) -> String {
     before.map_or(String::new(), |last| format!("{:.1}", time / last))
 }
 
-/// The calls on a drawn sheet.
-fn calls(band: &BandNumbers, sheet: &QuadMesh) -> Vec<Call> {
+/// The calls on a drawn sheet, and the drawing itself.
+fn calls(cells: usize, band: &BandNumbers, sheet: &QuadMesh) -> Vec<Call> {
     let on = |(operation, argument)| Call { operation, argument, band: *band, sheet: sheet.clone() };
-    OPERATIONS.map(on).to_vec()
+    let drawing = Call { operation: Operation::Extract, argument: cells as u64, band: *band, sheet: sheets::empty() };
+    std::iter::once(drawing).chain(OPERATIONS.map(on)).collect()
 }
 
 /// A line for each operation on a drawn sheet, with a word if the answers differ; the library's times for the next doubling.
@@ -107,7 +109,7 @@ fn lines(name: &str, cells: usize, band: &BandNumbers, sheet: &QuadMesh, before:
         );
         ours
     };
-    calls(band, sheet).iter().enumerate().map(time).collect()
+    calls(cells, band, sheet).iter().enumerate().map(time).collect()
 }
 
 /// The table of drawn sheets.
