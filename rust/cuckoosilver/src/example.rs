@@ -8,7 +8,7 @@ use std::path::Path;
 
 /// A shell of a ball, cut open, drawn, cleaned up and measured.
 const STEPS: &str = "--ball 0 0 0 0 --box -1 -1 -1 1 1 0.2 --levels 0.36 0.81 \
-    draw 12 page coarsen 6 regularize 6 improve 2 subdivide quality display";
+    draw 12 coarsen 6 regularize 6 improve 2 subdivide quality display";
 
 /// The files that the example leaves in a folder.
 const FILES: [(&str, &str); 3] = [("write", "core.ply"), ("picture", "core.svg"), ("picture", "core.png")];

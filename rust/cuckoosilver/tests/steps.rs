@@ -1,6 +1,7 @@
 //! The steps, by running the program.
 mod common;
 use common::{SHELL, folder, prints, run, run_in};
+use std::path::Path;
 
 #[test]
 fn the_page_has_eight_lines_of_41_bytes() {
@@ -10,7 +11,7 @@ fn the_page_has_eight_lines_of_41_bytes() {
     assert_eq!(
         page,
         "quads                               1050\n\
-         irregular                            432\n\
+         irregular                            544\n\
          boundary                               0\n\
          nonmanifold                            0\n\
          orientation                            0\n\
@@ -92,6 +93,9 @@ fn the_example_leaves_its_files_in_a_folder() {
     for file in ["core.ply", "core.svg", "core.png"] {
         assert!(here.join("there/core").join(file).is_file(), "{file}");
     }
+    let picture = |file: &Path| std::fs::read_to_string(file).unwrap();
+    let shown = Path::new(env!("CARGO_MANIFEST_DIR")).join("../../docs/core.svg");
+    assert!(picture(&here.join("there/core/core.svg")) == picture(&shown), "docs/core.svg is not the example's");
 }
 
 #[test]

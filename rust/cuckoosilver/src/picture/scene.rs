@@ -42,7 +42,7 @@ const LIGHT: Vector = [-0.35, 0.55, 0.76];
 
 /// A colour in the light that falls on a face of this normal, along the axes.
 fn lit(colour: Colour, normal: Vector) -> Colour {
-    let light = 0.5 + 0.5 * dot(normal, LIGHT).max(0.0);
+    let light = 0.55 + 0.45 * dot(normal, LIGHT).max(0.0);
     darker(colour, light)
 }
 
