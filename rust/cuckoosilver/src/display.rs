@@ -1,10 +1,20 @@
-//! What is printed of a sheet's quality.
+//! What is printed.
+use crate::problem::Problem;
 use quads::Quality;
 use std::fmt::Display;
+use std::io::Write;
+use std::path::Path;
 
 /// The names on the page, in the record's order.
 const NAMES: [&str; 8] =
     ["quads", "irregular", "boundary", "nonmanifold", "orientation", "links", "duplicates", "invalid"];
+
+/// Prints a text.
+pub fn print(out: &mut dyn Write, text: &str) -> Result<(), Problem> {
+    out.write_all(text.as_bytes())
+        .and_then(|()| out.flush())
+        .map_err(|error| Problem::file(Path::new("standard output"), error))
+}
 
 /// The two-line display, 20 columns wide: the quads, and the points whose quads are not one ring.
 pub fn two_lines(quality: &Quality) -> String {

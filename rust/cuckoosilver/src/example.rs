@@ -1,6 +1,7 @@
 //! The embedded example: a core from drawing to display.
+use crate::display::print;
 use crate::job::Job;
-use crate::order::{print, steps};
+use crate::order::steps;
 use crate::problem::Problem;
 use std::fs;
 use std::io::Write;

@@ -1,7 +1,6 @@
 //! Runs steps, one after the other, on one sheet.
 use crate::band::Parts;
-use crate::display;
-use crate::order::print;
+use crate::display::{self, print};
 use crate::picture::{self, View};
 use crate::ply;
 use crate::problem::Problem;

@@ -1,11 +1,12 @@
 //! What the command line orders: help, the embedded example, or steps.
+use crate::display::print;
 use crate::example;
 use crate::help;
 use crate::job::Job;
 use crate::problem::Problem;
 use crate::step::{self, Step};
 use std::io::Write;
-use std::path::{Path, PathBuf};
+use std::path::PathBuf;
 
 /// An order.
 #[derive(Debug, PartialEq)]
@@ -43,13 +44,6 @@ impl Order {
             Order::Steps(steps) => Job::new(out, log).run(steps),
         }
     }
-}
-
-/// Prints a text.
-pub fn print(out: &mut dyn Write, text: &str) -> Result<(), Problem> {
-    out.write_all(text.as_bytes())
-        .and_then(|()| out.flush())
-        .map_err(|error| Problem::file(Path::new("standard output"), error))
 }
 
 /// The steps of a command line, of which the first brings a sheet.

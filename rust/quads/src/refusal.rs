@@ -4,6 +4,7 @@ use std::fmt;
 
 /// Why an operation refused: the numbers of the library, with their words.
 #[derive(Clone, Copy, Debug, PartialEq, Eq, Hash)]
+#[non_exhaustive]
 pub enum Refusal {
     /// 1: the levels, the bounds or the length of the box.
     Box,
