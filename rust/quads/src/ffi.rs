@@ -1,7 +1,7 @@
 //! The exports of the library, with slices in place of pointers and lengths. `include/quads.h` says what each one does.
 //!
 //! Every function here may be called with any slices, counts and numbers: the library is proved to test them, to read and write only what it
-//! is lent, and to end. It returns 0, or the number of a refusal.
+//! is lent, and to end. Each returns 0, or the number of a refusal.
 
 /// A sheet that is read: three lists, and how many points, quads and labels it has.
 #[derive(Clone, Copy)]
