@@ -43,7 +43,7 @@ use borrow.Rule.Slice.PartMut.{midOf}
 use Rattle.merging.specs.Layout.{usedAt, removedAt, flatStart, startOf, usedIn, removedIn, Steady, Grounds, Masked, Face}
 use Rattle.merging.specs.Marks.{isAt, renamedAt, renamedQuads, Merging, Joined}
 use Rattle.merging.proofs.Around.{quad-get, free-corner}
-use Rattle.merging.proofs.Grounds.{lent-used, start-kept, grounds-kept}
+use Rattle.merging.proofs.Grounds.{lent-used, in-front, start-kept, grounds-kept}
 use Rattle.merging.proofs.States.{slot-get, stands, state-merged, corner-same}
 use Rattle.candidates.specs.declared.Candidate.{Candidate}
 use Rattle.candidates.specs.declared.Choice.{Choice}
@@ -261,7 +261,8 @@ module _ (b : Band) (np nq f : ℕ) (P : List Float) (labels Q w : List ℕ) (R 
         state = λ k. ap (λ (x : ℕ). stateIn np nq P′ Q′ w′ (k + x)) (M .one) ∙ (same k ∙ sym (ap (takeOr (stateIn np nq P Q w k)) (took k)));
         passing = record {
           grounds = grounds-kept (R .grounds) (J .kept);
-          masked = rw start-same (part-kept (R .masked) (J .kept) (λ i p q. ((λ x y. omega arith), (λ x y. omega arith))));
+          touched = J .touched;
+          masked = rw start-same (part-kept (R .masked) (J .kept) (λ i p q. in-front np nq i (omega arith)));
           labelled = R .labelled;
           points = rw long (R .points);
           sheet = renamed-cornered np nq (z .c) (z .a) (flatStart np nq w) Q Q′ (R .sheet) (T .a<) (J .quads);

@@ -29,7 +29,7 @@ use Rattle.merging.specs.Tests.{unmarked, quadFree}
 use Rattle.merging.specs.Marks.{Merging, Joined}
 use Rattle.merging.specs.State.{usedOf, slotsOf, stateOf}
 use Rattle.fits.specs.MergeFits.{mergeAt, staysAt, mergeFits, mergePosition}
-use Rattle.merging.specs.Layout.{flatStart, startOf, usedIn, removedIn, Steady, allowedIn, gainOf, Grounds, Masked, Face}
+use Rattle.merging.specs.Layout.{flatStart, startOf, usedIn, removedIn, Steady, allowedIn, gainOf, Grounds, Touched, Masked, Face}
 use Rattle.candidates.specs.declared.Candidate.{Candidate}
 use Rattle.candidates.specs.declared.Choice.{Choice}
 use Rattle.candidates.specs.declared.Choice.the-variants.{None, Take}
@@ -118,6 +118,7 @@ visited b np nq labels w f st =
 -- what holds during a pass: slices of p coordinates, the quads Q now, and the work slice
 pub record Passing (np nq : ℕ) (labels : List ℕ) (p : ℕ) (Q w : List ℕ) : Type 0 where
   pub grounds : Grounds np nq w
+  pub touched : Touched np nq w
   pub masked : Masked np nq (take nq labels) w
   pub labelled : nq ≤ length labels
   pub points : 3 * np ≤ p

@@ -8,7 +8,7 @@ use projection::Projected;
 ghost use mathlib.Core.Path.{_≡_};
 ghost use Prim.Native.Nat.{ℕ, _+_, _*_, _<_, _≤_, max};
 ghost use lib.ListN.{length};
-ghost use Rattle.merging.specs.Layout.{Grounds};
+ghost use Rattle.merging.specs.Layout.{Grounds, Touched};
 ghost use Rattle.candidates.specs.Choices.{diagonalOf, betterOf, landingOf, stayAround, weighedOf, foundTo, Tried, Searching, Holding, triedIn, Takeable, Taken, Passing, VisitedFace, VisitedAll};
 ghost use Rattle.merging.specs.Layout.{allowedIn};
 ghost use mathlib.Core.Bool.{true};
@@ -82,6 +82,7 @@ fn landing(
     requires { ⌜ Grounds np nq (now w) ⌝ }
     requires { ⌜ Tried np nq g (now w) ⌝ }
     requires { ⌜ 3 * np ≤ length (now points) ⌝ }
+    requires { ⌜ Touched np nq (now w) ⌝ }
     ensures { λ r. ⌜ r ≡ landingOf np nq g b len (now (points .entry)) (now (w .entry)) ⌝ }
 {
     if merging::allowed(np, nq, g.face, g.a, g.b, g.c, g.d, w) {
@@ -200,6 +201,7 @@ pub fn search(
     requires { ⌜ Grounds np nq (now w) ⌝ }
     requires { ⌜ Searching np nq f (now quads) (now w) ⌝ }
     requires { ⌜ Holding np nq (length (now points)) (length (now quads)) (length (now labels)) ⌝ }
+    requires { ⌜ Touched np nq (now w) ⌝ }
     ensures { λ r. ⌜ r ≡ foundTo np nq b len (now (points .entry)) (now (quads .entry)) (now (labels .entry)) (now (w .entry)) f 2 ⌝ }
 {
     let field = b.field;
@@ -241,6 +243,7 @@ fn take(
 ) -> usize
     requires { ⌜ Grounds np nq (now w) ⌝ }
     requires { ⌜ Takeable np nq f choice (length (now points)) (length (now quads)) ⌝ }
+    requires { ⌜ Touched np nq (now w) ⌝ }
     ensures { λ r. ⌜ Taken np nq f choice r (now (points .entry)) (now (quads .entry)) (now (w .entry)) (now (points .exit)) (now (quads .exit)) (now (w .exit)) ⌝ }
 {
     match choice {

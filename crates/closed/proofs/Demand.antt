@@ -227,15 +227,25 @@ length-gathered ps S = length-map (order (live S)) (λ v. getD ps v nonePoint)
 -- What a pass leaves of an accepted sheet, closed or not, is accepted.
 module _ (s : Sheet) (ps : List Point) (S : List Slot) (U : ℕ → Type 0) (c : ℕ) (p : Merges (s .quads) (s .labels) (map slot (s .quads)) U S c)
     (lp : length ps ≡ length (s .points)) (fin : all finiteP ps ≡ true) where
+  slots-accepted : Fine s → MAccepted (s .labels) (length (s .points)) c (map slot (s .quads)) S
+  slots-accepted a = merges-accepted (s .quads) (s .labels) (length (s .points)) (map slot (s .quads)) U S c p (minv-start (s .quads) U) (all-at (s .quads) (a .differ)) (slots-proper (s .quads) (a .differ))
+      (a .labelled ∙ sym (length-map (s .quads) slot)) (rw live-slot (a .some-quads)) (clash-slots (s .quads) (s .labels) (a .no-clash)) (rw live-slot (a .in-range))
+
+  few-used : Fine s → length (gathered ps (order (live S))) ≤ length (s .points)
+  few-used a = let k = slots-accepted a in
+      omega (arith, length-gathered ps S, renumber-points (live S) (length (s .points)) (k .below), in-use-le (length (s .points)) (live S))
+
+  one-less : Fine s → length (renumber (live S)) + c ≡ length (s .quads)
+  one-less a = omega (arith, slots-accepted a .quads, renumber-length (live S), ap length (live-slot (s .quads)))
+
   pub pass-fine : Fine s → Fine (compact S (s .labels) ps)
   unfolding Below
-  pass-fine a = go (merges-accepted (s .quads) (s .labels) (length (s .points)) (map slot (s .quads)) U S c p (minv-start (s .quads) U) (all-at (s .quads) (a .differ)) (slots-proper (s .quads) (a .differ))
-      (a .labelled ∙ sym (length-map (s .quads) slot)) (rw live-slot (a .some-quads)) (clash-slots (s .quads) (s .labels) (a .no-clash)) (rw live-slot (a .in-range)))
+  pass-fine a = go (slots-accepted a)
     where
       go : MAccepted (s .labels) (length (s .points)) c (map slot (s .quads)) S → Fine (compact S (s .labels) ps)
       go k = record {
-        few-points = omega (arith, length-gathered ps S, renumber-points (live S) (length (s .points)) (k .below), in-use-le (length (s .points)) (live S), a .few-points);
-        few-quads = omega (arith, k .quads, renumber-length (live S), ap length (live-slot (s .quads)), a .few-quads);
+        few-points = omega (arith, few-used a, a .few-points);
+        few-quads = omega (arith, one-less a, a .few-quads);
         some-quads = omega (arith, renumber-length (live S), k .some);
         labelled = live-length S (s .labels) e ∙ sym (renumber-length (live S));
         all-finite = all-gathered finiteP ps (order (live S)) fin (λ v h. omega (arith, lp, k .below v (of-order (live S) v h)));
@@ -289,6 +299,28 @@ module _ (fits : Sheet → MergeFits) (position : Sheet → Position)
   -- "No pass after the first can refuse": after any passes over an accepted sheet the sheet is accepted
   pub coarse-fine : (k : ℕ) (s : Sheet) → Fine s → Fine ((coarseRun fits position k s) .left)
   coarse-fine k s a = (run-keeps mergeCount after Fine (λ s t c. Unit {0}) (λ s g. tt) (λ s t u c d p q. tt) (λ s g. (next-fine s g, tt)) k s 0 a) .good
+
+  -- a pass leaves no more points, and one quad less for each merge
+  Fewer : Sheet → Sheet → ℕ → Type 0
+  Fewer s t c = (length (t .points) ≤ length (s .points)) × (length (t .quads) + c ≡ length (s .quads))
+
+  next-fewer : (s : Sheet) → Fine s → Fewer s (after s) (mergeCount s)
+  unfolding Fewer
+  next-fewer s a = go (pass-placed fits position s (finite s) (a .all-finite))
+    where
+      go : (length ((mergePass fits position s) .points) ≡ length (s .points)) × (all finiteP ((mergePass fits position s) .points) ≡ true)
+          → (length (after s .points) ≤ length (s .points)) × (length (after s .quads) + mergeCount s ≡ length (s .quads))
+      go (l, f) = let m = pass-merges fits position s (a .labels-low) (a .in-range) in
+          let U = Used (replicate (length (s .points)) false) in
+          (few-used s ((mergePass fits position s) .points) ((mergePass fits position s) .slots) U (mergeCount s) m l f a, one-less s ((mergePass fits position s) .points) ((mergePass fits position s) .slots) U (mergeCount s) m l f a)
+
+  -- any passes do
+  pub coarse-fewer : (k : ℕ) (s : Sheet) → Fine s → (length ((coarseRun fits position k s) .left .points) ≤ length (s .points)) × (length ((coarseRun fits position k s) .left .quads) + (coarseRun fits position k s) .count ≡ length (s .quads))
+  unfolding Fewer
+  coarse-fewer k s a = go (run-keeps mergeCount after Fine Fewer (λ s g. (omega arith, omega arith)) (λ s t u c d p q. (omega (arith, p .0, q .0), omega (arith, p .1, q .1))) (λ s g. (next-fine s g, next-fewer s g)) k s 0 a)
+    where
+      go : Ran mergeCount after Fine Fewer s 0 (run mergeCount after k s 0) → (length ((run mergeCount after k s 0) .left .points) ≤ length (s .points)) × (length ((run mergeCount after k s 0) .left .quads) + (run mergeCount after k s 0) .count ≡ length (s .quads))
+      go r = (r .kept .0, omega (arith, r .kept .1, r .counts))
 
   -- a pass over a closed sheet, its merges counted
   Coarsened : Sheet → Sheet → ℕ → Type 0

@@ -22,6 +22,7 @@ sheetIn np nq P Q labels = sheetOf (record { points = np; quads = nq; labels = n
 -- what a pass asks of the slices: they hold the sheet, its quads are good, and the work slice is long enough
 pub record Mergeable (np nq : ℕ) (P : List Float) (Q labels w : List ℕ) : Type 0 where
   pub few : np ≤ limit
+  pub few-quads : nq ≤ limit
   pub some : 0 < nq
   pub points : 3 * np ≤ length P
   pub quads : 4 * nq ≤ length Q

@@ -1,1 +1,3 @@
 pub mod Rule
+pub mod Passes
+pub mod Tested

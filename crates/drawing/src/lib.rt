@@ -335,7 +335,7 @@ fn draw_cell(
 }
 
 // The same for the cell with the number e, if its corners differ.
-fn draw_cell_at(
+pub fn draw_cell_at(
     g: Grid,
     n: usize,
     e: usize,

@@ -1,12 +1,14 @@
-// How the exports take a band: its field as a kind and ten numbers, its box as six bounds, and two levels.
+// How the exports take a band: its field as a kind and ten numbers, its box as six bounds, and two levels; and how they show counts.
 
 use band::Band;
 use field::Coefficients;
 use field::Field;
+use sheet::Counts;
 use sheet::Verdict;
 ghost use mathlib.Core.Path.{_≡_};
 ghost use Prim.Native.Nat.{_≤_};
 ghost use lib.ListN.{length};
+ghost use Rattle.exports.specs.Answers.{answered};
 ghost use Rattle.exports.specs.Given.{coefficientsOf, fieldOf, bandOf, bandVerdict};
 
 // The numbers of the kinds of field.
@@ -77,4 +79,15 @@ pub fn band_verdict(kind: u32, numbers: usize, bounds: usize) -> Verdict
         return Verdict::Refused(sheet::BOX);
     }
     Verdict::Accepted
+}
+
+// Writes a count and the counts of a sheet.
+pub fn put_answer(answer: &mut [u64], count: u64, c: Counts)
+    requires { ⌜ 4 ≤ length (now answer) ⌝ }
+    ensures { λ _. ⌜ now (answer .exit) ≡ answered count c (now (answer .entry)) ⌝ }
+{
+    answer[0] = count;
+    answer[1] = c.points as u64;
+    answer[2] = c.quads as u64;
+    answer[3] = c.labels as u64;
 }

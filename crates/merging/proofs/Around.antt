@@ -123,7 +123,7 @@ free-corner Q U q (suc (suc zero)) e h = and-right (unmarked U (corner Q q 0) &&
 free-corner Q U q (suc (suc (suc zero))) e h = and-right (unmarked U (corner Q q 0) && unmarked U (corner Q q 1) && unmarked U (corner Q q 2)) _ e
 free-corner Q U q (suc (suc (suc (suc j)))) e h = absurd (omega arith)
 
-free-quad : (Q U : List ℕ) (q : ℕ) → ((j : ℕ) → j < 4 → unmarked U (corner Q q j) ≡ true) → quadFree Q U q ≡ true
+pub free-quad : (Q U : List ℕ) (q : ℕ) → ((j : ℕ) → j < 4 → unmarked U (corner Q q j) ≡ true) → quadFree Q U q ≡ true
 unfolding quadFree
 free-quad Q U q h = rw (h 0 (omega arith), h 1 (omega arith), h 2 (omega arith), h 3 (omega arith)) refl
 

@@ -1,17 +1,16 @@
 -- The tests over the corners of a list, one at a time. Assumes nothing.
-use mathlib.Core.Path.{_≡_, refl, sym, _∙_}
-use mathlib.Core.Bool.{Bool, true, false, cond, not, _&&_, _||_}
-use Prim.Native.Nat.{ℕ, _+_, _*_, _/_, _≤_, _<_}
+use mathlib.Core.Path.{_≡_, refl, sym}
+use mathlib.Core.Bool.{Bool, true, false, cond, not, _||_}
+use Prim.Native.Nat.{ℕ, _+_, _*_, _/_, _<_}
 use mathlib.Core.List.{List}
 use native.Mathlib.Omega.{arith}
 use lib.Dec.{eqb, ltb}
 use lib.ListN.{length, getD}
 use borrow.Author.Tests.{lt-ltb}
-use Rattle.lists.specs.Every.{every}
 use Rattle.sheet.specs.Flat.{corner, quadAt}
 use Rattle.incidence.specs.Corners.{Cornered}
 use Rattle.merges.specs.Coarse.{hasCorner}
-use Rattle.merging.specs.Tests.{quadFree, freeAt, notFurther, Listed}
+use Rattle.merging.specs.Tests.{notFurther, Listed}
 
 -- a quad has the corner v if one of its four is v
 any-four : (x y z w : Bool) → ltb 0 (cond x 1 0 + (cond y 1 0 + (cond z 1 0 + cond w 1 0))) ≡ (x || y || z || w)
@@ -45,8 +44,5 @@ listed-turn {np} {nq} {cs} {Q} t c L h e =
     record { c< = omega arith; q< = omega arith; room = omega arith }
 
 -- the test of a turn is that of the corner at its place
-pub free-turn : (cs Q U : List ℕ) (t c : ℕ) (r b : Bool) → c ≡ getD cs t 0 → r ≡ quadFree Q U (c / 4) → r ≡ b → freeAt cs Q U t ≡ b
-free-turn cs Q U t c r b e f g = rw (← e) (sym f ∙ g)
-
 pub further-turn : (cs Q : List ℕ) (f v t c : ℕ) (r b : Bool) → c ≡ getD cs t 0 → r ≡ hasCorner (quadAt Q (c / 4)) v → (eqb (c / 4) f || not r) ≡ b → notFurther cs Q f v t ≡ b
 further-turn cs Q f v t c r b e g h = rw (← e, ← g) h

@@ -1,27 +1,25 @@
 -- The loops that mark points and rename corners. Assumes nothing.
 use mathlib.Core.Path.{_≡_, refl, sym, ap, _∙_}
-use mathlib.Core.Logic.{_⊎_, inl, inr, ⊎-elim}
-use mathlib.Core.Bool.{Bool, true, false, cond, not, _&&_, _||_, or-true, or-false, false≢true}
-use Prim.Native.Nat.{ℕ, zero, suc, _+_, _-_, _*_, _/_, _≤_, _<_, zero-le}
-use mathlib.Core.List.{List, [], _∷_}
+use mathlib.Core.Bool.{Bool, true, false, cond, _&&_, or-true, or-false}
+use Prim.Native.Nat.{ℕ, _+_, _*_, _/_, _≤_, _<_, zero-le}
+use mathlib.Core.List.{List}
 use native.Mathlib.Omega.{arith}
 use native.Mathlib.Numerals.{add-one}
-use lib.Dec.{eqb, ltb}
 use lib.ListN.{length, getD, set, length-set}
-use borrow.Author.Tests.{eq-eqb, ne-eqb, eqb-true, ltb-true, lt-ltb}
+use borrow.Author.Tests.{eq-eqb, ne-eqb, eqb-true}
 use Rattle.lists.specs.Every.{some}
 use Rattle.lists.specs.Sort.{tabulate}
 use Rattle.lists.specs.Regions.{part, Part, Out, Kept}
-use Rattle.lists.proofs.Every.{bool-iff, some-zero, some-at, some-find, some-ext, and-left, and-right, or-split}
-use Rattle.lists.proofs.Laws.{length-tab, getD-tab, is-tab, is-table, tab-ext, tab-set}
+use Rattle.lists.proofs.Every.{bool-iff, some-zero, some-at, some-find, and-left, and-right}
+use Rattle.lists.proofs.Laws.{getD-tab, is-tab, tab-ext, tab-set}
 use Rattle.lists.proofs.Order.{each-bucket, below-tab}
-use Rattle.lists.proofs.Regions.{part-of, part-len, part-get, part-set, part-set-out, part-as, part-sub, part-kept, kept-refl, kept-set, kept-then}
-use Rattle.sheet.specs.Flat.{corner, quadAt, quadsOf, from}
+use Rattle.lists.proofs.Regions.{part-of, part-len, part-get, part-set, part-set-out, part-as, kept-refl, kept-set}
+use Rattle.sheet.specs.Flat.{corner, quadAt, from}
 use Rattle.sheet.specs.Edges.{allCorners, pointCorners}
 use Rattle.incidence.specs.Marks.{hits}
 use Rattle.incidence.proofs.Marks.{hits-uses}
 use Rattle.merges.specs.Coarse.{hasCorner}
-use Rattle.merging.specs.Marks.{isAt, markedBy, markedIn, reaches, markedTo, joins, markedNear, renamedAt, Marking, Nameable}
+use Rattle.merging.specs.Marks.{isAt, markedBy, markedIn, reaches, markedTo, markedNear, renamedAt, Marking, Nameable}
 use Rattle.merging.proofs.Corners.{has-one}
 
 -- ---- one element more
@@ -36,55 +34,59 @@ some-other p m e = rw (add-one m, e) (or-false (some p m))
 
 -- ---- the marks of listed points: v is the slice as it came, U its marks
 
-pub record Pointing (xs U : List ℕ) (from m used np : ℕ) (v w : List ℕ) (j : ℕ) : Type 0 where
-  pub j≤ : j ≤ m
-  pub reads : Marking from m used np xs w
-  pub marks : Part used np (tabulate (markedBy xs U j) np) w
-  pub kept : Kept (Out used np) v w
+-- one point more
+pub more-points : (xs U : List ℕ) (np j c : ℕ) → c < np → c ≡ getD xs j 0 → set (tabulate (markedBy xs U j) np) c 1 ≡ tabulate (markedBy xs U (j + 1)) np
+more-points xs U np j c h e = tab-set (markedBy xs U j) (markedBy xs U (j + 1)) np c 1 h
+    (rw (some-same (isAt xs c) j (eq-eqb (getD xs j 0) c (sym e))))
+    (λ q _ ne. rw (some-other (isAt xs q) j (ne-eqb (getD xs j 0) q (λ z. ne (sym z ∙ sym e)))))
 
-pub pointing-start : {xs v : List ℕ} {from m used np : ℕ} → Marking from m used np xs v → Pointing xs (part used np v) from m used np v v 0
-pointing-start {xs} {v} {from} {m} {used} {np} M =
-    let P : Part used np (part used np v) v = part-of used np v (M .in-used) in
+pub record Pointing (xs U : List ℕ) (from m to np : ℕ) (v w : List ℕ) (j : ℕ) : Type 0 where
+  pub j≤ : j ≤ m
+  pub reads : Marking from m to np xs w
+  pub marks : Part to np (tabulate (markedBy xs U j) np) w
+  pub kept : Kept (Out to np) v w
+
+pub pointing-start : {xs v : List ℕ} {from m to np : ℕ} → Marking from m to np xs v → Pointing xs (part to np v) from m to np v v 0
+pointing-start {xs} {v} {from} {m} {to} {np} M =
+    let P : Part to np (part to np v) v = part-of to np v (M .in-to) in
     record {
       j≤ = zero-le;
       reads = M;
-      marks = part-as P (is-tab (part used np v) (markedBy xs (part used np v) 0) np (part-len P) (λ q h. rw (some-zero (isAt xs q))));
-      kept = kept-refl (Out used np) v;
+      marks = part-as P (is-tab (part to np v) (markedBy xs (part to np v) 0) np (part-len P) (λ q h. rw (some-zero (isAt xs q))));
+      kept = kept-refl (Out to np) v;
     }
 
-pub record PointTurn (xs U : List ℕ) (from m used np : ℕ) (v w : List ℕ) (j c : ℕ) : Type 0 where
+pub record PointTurn (xs U : List ℕ) (from m to np : ℕ) (v w : List ℕ) (j c : ℕ) : Type 0 where
   pub c< : c < np
-  pub at< : used + c < length w
-  pub again : Pointing xs U from m used np v (set w (used + c) 1) (j + 1)
+  pub at< : to + c < length w
+  pub again : Pointing xs U from m to np v (set w (to + c) 1) (j + 1)
 
-pub point-turn : {xs U : List ℕ} {from m used np : ℕ} {v w : List ℕ} {j : ℕ} (c : ℕ) → Pointing xs U from m used np v w j → j < m → c ≡ getD w (from + j) 0
-    → PointTurn xs U from m used np v w j c
-point-turn {xs} {U} {from} {m} {used} {np} {v} {w} {j} c B h e =
+pub point-turn : {xs U : List ℕ} {from m to np : ℕ} {v w : List ℕ} {j : ℕ} (c : ℕ) → Pointing xs U from m to np v w j → j < m → c ≡ getD w (from + j) 0
+    → PointTurn xs U from m to np v w j c
+point-turn {xs} {U} {from} {m} {to} {np} {v} {w} {j} c B h e =
     let M = B .reads in
     let cx : c ≡ getD xs j 0 = e ∙ part-get 0 j (M .at) h in
     let c< : c < np = omega (arith, M .known j h) in
     let P′ = part-set c 1 (B .marks) c< in
     record {
       c< = c<;
-      at< = omega (arith, M .in-used);
+      at< = omega (arith, M .in-to);
       again = record {
         j≤ = omega arith;
         reads = record {
-          at = part-set-out (used + c) 1 (M .at) (λ p q. M .apart (used + c) p q (omega arith) (omega arith));
+          at = part-set-out (to + c) 1 (M .at) (λ p q. M .apart (to + c) p q (omega arith) (omega arith));
           known = M .known;
-          in-used = P′ .fits;
+          in-to = P′ .fits;
           apart = M .apart;
         };
-        marks = part-as P′ (tab-set (markedBy xs U j) (markedBy xs U (j + 1)) np c 1 c<
-            (rw (some-same (isAt xs c) j (eq-eqb (getD xs j 0) c (sym cx))))
-            (λ q _ ne. rw (some-other (isAt xs q) j (ne-eqb (getD xs j 0) q (λ z. ne (sym z ∙ sym cx))))));
-        kept = kept-set (used + c) 1 (B .kept) (λ o. o (omega arith) (omega arith));
+        marks = part-as P′ (more-points xs U np j c c< cx);
+        kept = kept-set (to + c) 1 (B .kept) (λ o. o (omega arith) (omega arith));
       };
     }
 
-pub pointing-end : {xs U : List ℕ} {from m used np : ℕ} {v w : List ℕ} {j : ℕ} → Pointing xs U from m used np v w j → m ≤ j
-    → Part used np (tabulate (markedBy xs U m) np) w × Kept (Out used np) v w
-pointing-end {xs} {U} {from} {m} {used} {np} {v} {w} {j} B h = let e : j ≡ m = omega (arith, B .j≤) in (rw e at (B .marks), B .kept)
+pub pointing-end : {xs U : List ℕ} {from m to np : ℕ} {v w : List ℕ} {j : ℕ} → Pointing xs U from m to np v w j → m ≤ j
+    → Part to np (tabulate (markedBy xs U m) np) w × Kept (Out to np) v w
+pointing-end {xs} {U} {from} {m} {to} {np} {v} {w} {j} B h = let e : j ≡ m = omega (arith, B .j≤) in (rw e at (B .marks), B .kept)
 
 -- ---- the corners of a quad, as a list of four
 
@@ -92,9 +94,9 @@ four-has : (Q xs : List ℕ) (q v : ℕ) → ((j : ℕ) → j < 4 → getD xs j 
 unfolding some
 four-has Q xs q v h = rw (h 0 (omega arith), h 1 (omega arith), h 2 (omega arith), h 3 (omega arith)) (has-one Q q v)
 
-pub quad-marks : {used np : ℕ} {w : List ℕ} (Q U xs : List ℕ) (q : ℕ) → ((j : ℕ) → j < 4 → getD xs j 0 ≡ corner Q q j)
-    → Part used np (tabulate (markedBy xs U 4) np) w → Part used np (tabulate (markedIn Q U q) np) w
-quad-marks {used} {np} {w} Q U xs q h P = part-as P (tab-ext (markedBy xs U 4) (markedIn Q U q) np (λ v _. rw (four-has Q xs q v h)))
+pub quad-marks : {at np : ℕ} {w : List ℕ} (Q U xs : List ℕ) (q : ℕ) → ((j : ℕ) → j < 4 → getD xs j 0 ≡ corner Q q j)
+    → Part at np (tabulate (markedBy xs U 4) np) w → Part at np (tabulate (markedIn Q U q) np) w
+quad-marks {at} {np} {w} Q U xs q h P = part-as P (tab-ext (markedBy xs U 4) (markedIn Q U q) np (λ v _. rw (four-has Q xs q v h)))
 
 -- ---- the quads around a point
 
@@ -120,15 +122,15 @@ around-some p Q nq v = bool-iff _ _ there back
         let r : getD B (G .i) 0 / 4 ≡ H .i = eqb-true (getD B (G .i) 0 / 4) (H .i) (G .yes) in
         some-at (λ t. p (getD B t 0 / 4)) (length B) (G .i) (G .i<) (ap p r ∙ and-right (hasCorner (quadAt Q (H .i)) v) _ (H .yes))
 
-pub near-marks : {used np : ℕ} {w : List ℕ} (Q U : List ℕ) (nq x : ℕ) → Part used np (tabulate (markedTo (pointCorners Q nq x) Q U (length (pointCorners Q nq x))) np) w
-    → Part used np (tabulate (markedNear Q U nq x) np) w
-near-marks {used} {np} {w} Q U nq x P = part-as P (tab-ext (markedTo (pointCorners Q nq x) Q U (length (pointCorners Q nq x))) (markedNear Q U nq x) np
+pub near-marks : {at np : ℕ} {w : List ℕ} (Q U : List ℕ) (nq x : ℕ) → Part at np (tabulate (markedTo (pointCorners Q nq x) Q U (length (pointCorners Q nq x))) np) w
+    → Part at np (tabulate (markedNear Q U nq x) np) w
+near-marks {at} {np} {w} Q U nq x P = part-as P (tab-ext (markedTo (pointCorners Q nq x) Q U (length (pointCorners Q nq x))) (markedNear Q U nq x) np
     (λ v _. ap (λ b. cond b 1 (getD U v 0)) (around-some (λ q. hasCorner (quadAt Q q) v) Q nq x)))
 
 -- ---- one quad more: what the marks of the quads so far become
-pub more-marks : {used np : ℕ} {w : List ℕ} (cs Q U X : List ℕ) (t c : ℕ) → c ≡ getD cs t 0 → X ≡ tabulate (markedTo cs Q U t) np
-    → Part used np (tabulate (markedIn Q X (c / 4)) np) w → Part used np (tabulate (markedTo cs Q U (t + 1)) np) w
-more-marks {used} {np} {w} cs Q U X t c e x P = part-as P (tab-ext (markedIn Q X (c / 4)) (markedTo cs Q U (t + 1)) np (λ v h. go v h (reaches cs Q v t) refl))
+pub more-marks : {at np : ℕ} {w : List ℕ} (cs Q U X : List ℕ) (t c : ℕ) → c ≡ getD cs t 0 → X ≡ tabulate (markedTo cs Q U t) np
+    → Part at np (tabulate (markedIn Q X (c / 4)) np) w → Part at np (tabulate (markedTo cs Q U (t + 1)) np) w
+more-marks {at} {np} {w} cs Q U X t c e x P = part-as P (tab-ext (markedIn Q X (c / 4)) (markedTo cs Q U (t + 1)) np (λ v h. go v h (reaches cs Q v t) refl))
   where
     at-v : (v : ℕ) → v < np → getD X v 0 ≡ markedTo cs Q U t v
     at-v v h = rw x (getD-tab (markedTo cs Q U t) np v 0 h)

@@ -1,5 +1,5 @@
 -- Regions of the work slice in a pass, in units of points and quads together: the masks, the quads at the pass's start, their corners by edge and by point, how many quads
--- each point has, the barred points, the quads that are out.
+-- each point has, the barred points, the quads that are out, the touched points.
 use Prim.Native.Nat.{ℕ, _+_, _-_, _*_, _≤_, _<_}
 use mathlib.Core.Path.{_≡_}
 use mathlib.Core.Bool.{Bool, _&&_}
@@ -7,7 +7,7 @@ use mathlib.Core.List.{List, []}
 use lib.Dec.{leb}
 use lib.ListN.{length, getD}
 use Rattle.lists.specs.Sort.{tabulate}
-use Rattle.lists.specs.Regions.{part, Part, Out, Out2}
+use Rattle.lists.specs.Regions.{part, Part, Out3}
 use Rattle.sheet.specs.Quads.{Quad, valence}
 use Rattle.sheet.specs.Flat.{quadsOf}
 use Rattle.sheet.specs.Edges.{pointCorners}
@@ -16,7 +16,7 @@ use Rattle.lookup.specs.Maps.{Mapped, Standing}
 use Rattle.merges.specs.Coarse.{shareOnly, noFurther, nearFree, sumBefore, sumAfter}
 use Rattle.merging.specs.declared.Span.{Span}
 use Rattle.merging.specs.declared.Sums.{Sums}
-use Rattle.merging.specs.Tests.{masksJoined}
+use Rattle.merging.specs.Tests.{masksJoined, unmarked, freeAround}
 use Rattle.merging.specs.State.{usedOf}
 
 -- the quads at the start
@@ -49,6 +49,10 @@ usedAt np nq = 22 * (np + nq)
 abbrev pub removedAt : ℕ → ℕ → ℕ
 removedAt np nq = 23 * (np + nq)
 
+-- the marks of the touched points
+abbrev pub touchedAt : ℕ → ℕ → ℕ
+touchedAt np nq = 25 * (np + nq)
+
 -- the quads at the start, flat and as quads
 abbrev pub flatStart : ℕ → ℕ → List ℕ → List ℕ
 flatStart np nq w = part (wasAt np nq) (4 * nq) w
@@ -63,9 +67,12 @@ usedIn np nq w = part (usedAt np nq) np w
 abbrev pub removedIn : ℕ → ℕ → List ℕ → List ℕ
 removedIn np nq w = part (removedAt np nq) nq w
 
+abbrev pub touchedIn : ℕ → ℕ → List ℕ → List ℕ
+touchedIn np nq w = part (touchedAt np nq) np w
+
 -- an index outside the marks
 abbrev pub Steady : ℕ → ℕ → ℕ → Type 0
-Steady np nq = Out2 (usedAt np nq) np (removedAt np nq) nq
+Steady np nq = Out3 (usedAt np nq) np (removedAt np nq) nq (touchedAt np nq) np
 
 -- what the start of a pass leaves in the work slice beside the masks, and a pass does not change
 pub record Grounds (np nq : ℕ) (w : List ℕ) : Type 0 where
@@ -75,6 +82,10 @@ pub record Grounds (np nq : ℕ) (w : List ℕ) : Type 0 where
   pub standing : Standing np nq (wasAt np nq) (startsAt np nq) (orderAt np nq) w
   pub mapped : Mapped np nq (wasAt np nq) (edgeStartsAt np nq) (edgesAt np nq) w
   pub valences : Part (valencesAt np nq) np (tabulate (valence (startOf np nq w)) np) w
+
+-- a point is touched where a quad at it has a barred corner
+pub record Touched (np nq : ℕ) (w : List ℕ) : Type 0 where
+  pub is : (v : ℕ) → v < np → unmarked (touchedIn np nq w) v ≡ freeAround (flatStart np nq w) (usedIn np nq w) nq v
 
 -- the masks stand there too
 abbrev pub Masked : ℕ → ℕ → List ℕ → List ℕ → Type 0

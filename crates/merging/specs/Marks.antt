@@ -7,11 +7,11 @@ use lib.Dec.{eqb}
 use lib.ListN.{length, getD, set}
 use Rattle.lists.specs.Sort.{tabulate}
 use Rattle.lists.specs.Every.{some}
-use Rattle.lists.specs.Regions.{Part, Apart, Kept}
+use Rattle.lists.specs.Regions.{Part, Out2, Apart, Kept}
 use Rattle.sheet.specs.Flat.{quadAt}
 use Rattle.sheet.specs.Edges.{pointCorners}
 use Rattle.merges.specs.Coarse.{hasCorner}
-use Rattle.merging.specs.Layout.{flatStart, usedIn, removedIn, Steady}
+use Rattle.merging.specs.Layout.{usedAt, touchedAt, flatStart, usedIn, removedIn, Steady, Touched}
 
 -- element i of a list is v
 abbrev pub isAt : List ℕ → ℕ → ℕ → Bool
@@ -45,12 +45,12 @@ markedNear Q U n x v = cond (some (joins Q x v) n) 1 (getD U v 0)
 abbrev pub renamedAt : List ℕ → List ℕ → ℕ → ℕ → ℕ → ℕ
 renamedAt cs Q a m i = cond (some (isAt cs i) m) a (getD Q i 0)
 
--- m points at `from`, and np marks at `used`
-pub record Marking (from m used np : ℕ) (xs w : List ℕ) : Type 0 where
+-- m points at `from`, and np marks at `to`
+pub record Marking (from m to np : ℕ) (xs w : List ℕ) : Type 0 where
   pub at : Part from m xs w
   pub known : (i : ℕ) → i < m → getD xs i 0 < np
-  pub in-used : used + np ≤ length w
-  pub apart : Apart from m used np
+  pub in-to : to + np ≤ length w
+  pub apart : Apart from m to np
 
 -- the corners of a list are places of a slice of n elements
 pub record Nameable (cs : List ℕ) (n : ℕ) : Type 0 where
@@ -68,6 +68,12 @@ pub record Merging (np nq f a c p q : ℕ) : Type 0 where
   pub points : 3 * np ≤ p
   pub quads : 4 * nq ≤ q
 
+-- the marks of the barred points became U, the touched points follow, and all else stays
+pub record Barred (np nq : ℕ) (U w w′ : List ℕ) : Type 0 where
+  pub used : Part (usedAt np nq) np U w′
+  pub touched : Touched np nq w′
+  pub kept : Kept (Out2 (usedAt np nq) np (touchedAt np nq) np) w w′
+
 -- the marks of the points near a and c
 abbrev pub markedBoth : List ℕ → List ℕ → ℕ → ℕ → ℕ → ℕ → List ℕ
 markedBoth Q U np nq a c = tabulate (markedNear Q (tabulate (markedNear Q U nq a) np) nq c) np
@@ -77,4 +83,5 @@ pub record Joined (np nq f a c : ℕ) (Q w Q′ w′ : List ℕ) : Type 0 where
   pub quads : Q′ ≡ renamedQuads (flatStart np nq w) nq c a Q
   pub used : usedIn np nq w′ ≡ markedBoth (flatStart np nq w) (usedIn np nq w) np nq a c
   pub removed : removedIn np nq w′ ≡ set (removedIn np nq w) f 1
+  pub touched : Touched np nq w′
   pub kept : Kept (Steady np nq) w w′

@@ -3,7 +3,7 @@
 use points::Point;
 ghost use mathlib.Core.Path.{_≡_};
 ghost use Prim.Native.Nat.{ℕ, _+_, _*_, _/_, _<_, _≤_};
-ghost use lib.ListN.{length};
+ghost use lib.ListN.{length, set};
 ghost use Rattle.lists.specs.Every.{every};
 ghost use Rattle.lists.specs.Sort.{tabulate};
 ghost use Rattle.lists.specs.Regions.{part, Part, Out, Kept};
@@ -13,12 +13,13 @@ ghost use Rattle.sheet.specs.Flat.{corner, quadAt};
 ghost use Rattle.swaps.specs.Claims.{sq};
 ghost use Rattle.merges.specs.Coarse.{hasCorner};
 ghost use Rattle.incidence.specs.Corners.{Cornered};
-ghost use Rattle.merging.specs.Tests.{noOpposite, partOf, masksJoined, sumOfFour, sumOfThree, unmarked, quadFree, freeAt, notFurther, apartFrom, sharesAt, sharesNone, freeAround, noneFurther, sharedOnly, Listed};
-ghost use Rattle.merging.specs.Layout.{usedAt, flatStart, startOf, usedIn, Grounds, Spanned, Face, meetOnly, gainOf, worthIt, allowedIn};
-ghost use Rattle.merging.specs.Marks.{markedBy, markedIn, markedNear, renamedAt, Marking, Nameable, renamedQuads, Merging, Joined};
+ghost use Rattle.merging.specs.Tests.{noOpposite, partOf, masksJoined, sumOfFour, sumOfThree, unmarked, quadFree, notFurther, apartFrom, sharesAt, sharesNone, freeAround, noneFurther, sharedOnly, Listed};
+ghost use Rattle.merging.specs.Layout.{touchedAt, flatStart, startOf, usedIn, touchedIn, Grounds, Touched, Spanned, Face, meetOnly, gainOf, worthIt, allowedIn};
+ghost use Rattle.merging.specs.Marks.{markedBy, markedIn, markedNear, renamedAt, Marking, Nameable, renamedQuads, Merging, Barred, Joined};
 
 // Regions of the work slice in a pass, in units of points and quads together, behind the masks: the quads at the pass's start, work of the sorts,
-// where the corners by edge begin and the corners, the same by point, how many quads each point has, the barred points, and the quads that are out.
+// where the corners by edge begin and the corners, the same by point, how many quads each point has, the barred points, the quads that are out,
+// and the touched points: those at which a quad has a barred corner. The unit before them is the renumbering's.
 pub const WAS: usize = 1;
 
 pub const FIRST: usize = 5;
@@ -36,6 +37,8 @@ pub const VALENCES: usize = 21;
 pub const USED: usize = 22;
 
 pub const REMOVED: usize = 23;
+
+pub const TOUCHED: usize = 25;
 
 // A part of the work slice, from one place to another.
 pub struct Span {
@@ -152,23 +155,6 @@ pub fn quad_free(np: usize, nq: usize, quads: &[u32], used: &[u32], q: usize) ->
         & corner_free(np, nq, quads, used, q, 3)
 }
 
-// No quad of the corners of a list has a marked corner.
-fn corners_free(np: usize, nq: usize, cs: &[u32], quads: &[u32], used: &[u32]) -> bool
-    requires { ⌜ Listed np nq (now cs) (now quads) ⌝ }
-    requires { ⌜ length (now used) ≡ np ⌝ }
-    ensures { λ r. ⌜ r ≡ every (freeAt (now (cs .entry)) (now (quads .entry)) (now (used .entry))) (length (now (cs .entry))) ⌝ }
-{
-    let mut t = 0;
-    while t < cs.len() {
-        if quad_free(np, nq, quads, used, lists::at(cs, t) / 4) {
-            t += 1;
-        } else {
-            return false;
-        }
-    }
-    true
-}
-
 // No quad of the corners of a list has the corner v, but quad f.
 fn none_further(np: usize, nq: usize, cs: &[u32], quads: &[u32], f: usize, v: usize) -> bool
     requires { ⌜ Listed np nq (now cs) (now quads) ⌝ }
@@ -204,22 +190,11 @@ fn corners_of(np: usize, nq: usize, v: usize, w: &[u32]) -> Span
 // No quad at point v has a barred corner.
 fn near_free(np: usize, nq: usize, v: usize, w: &[u32]) -> bool
     requires { ⌜ Grounds np nq (now w) ⌝ }
+    requires { ⌜ Touched np nq (now w) ⌝ }
     requires { ⌜ v < np ⌝ }
     ensures { λ r. ⌜ r ≡ freeAround (flatStart np nq (now (w .entry))) (usedIn np nq (now (w .entry))) nq v ⌝ }
 {
-    let n = np + nq;
-    let s = corners_of(np, nq, v, w);
-    let from = s.from;
-    let to = s.to;
-    let was = WAS * n;
-    let used = USED * n;
-    corners_free(
-        np,
-        nq,
-        &w[from..to],
-        &w[was..was + 4 * nq],
-        &w[used..used + np],
-    )
+    lists::at(w, TOUCHED * (np + nq) + v) == 0
 }
 
 // No quad at point v has the corner u, but quad f.
@@ -367,6 +342,7 @@ pub fn allowed(
 ) -> bool
     requires { ⌜ Grounds np nq (now w) ⌝ }
     requires { ⌜ Face np nq a b c d (now w) ⌝ }
+    requires { ⌜ Touched np nq (now w) ⌝ }
     ensures { λ r. ⌜ r ≡ allowedIn np nq f a b c d (now (w .entry)) ⌝ }
 {
     if worth(np, nq, a, b, c, d, w) {
@@ -379,37 +355,84 @@ pub fn allowed(
 
 // ---- what a merge changes
 
-// Marks, in the np elements at used, the m points at from.
-fn mark_points(from: usize, m: usize, used: usize, np: usize, w: &mut [u32])
-    requires { ⌜ Marking from m used np (part from m (now w)) (now w) ⌝ }
-    ensures { λ _. ⌜ Part used np (tabulate (markedBy (part from m (now (w .entry))) (part used np (now (w .entry))) m) np) (now (w .exit)) ⌝ }
-    ensures { λ _. ⌜ Kept (Out used np) (now (w .entry)) (now (w .exit)) ⌝ }
+// Marks, in the np elements at to, the m points at from.
+fn mark_points(from: usize, m: usize, to: usize, np: usize, w: &mut [u32])
+    requires { ⌜ Marking from m to np (part from m (now w)) (now w) ⌝ }
+    ensures { λ _. ⌜ Part to np (tabulate (markedBy (part from m (now (w .entry))) (part to np (now (w .entry))) m) np) (now (w .exit)) ⌝ }
+    ensures { λ _. ⌜ Kept (Out to np) (now (w .entry)) (now (w .exit)) ⌝ }
 {
     let mut j = 0;
     while j < m {
         let v = w[from + j] as usize;
-        w[used + v] = 1;
+        w[to + v] = 1;
         j += 1;
+    }
+}
+
+// Touches the corners of quad q.
+fn touch_quad(np: usize, nq: usize, q: usize, w: &mut [u32])
+    requires { ⌜ Grounds np nq (now w) ⌝ }
+    requires { ⌜ q < nq ⌝ }
+    ensures { λ _. ⌜ Part (touchedAt np nq) np (tabulate (markedIn (flatStart np nq (now (w .entry))) (touchedIn np nq (now (w .entry))) q) np) (now (w .exit)) ⌝ }
+    ensures { λ _. ⌜ Kept (Out (touchedAt np nq) np) (now (w .entry)) (now (w .exit)) ⌝ }
+{
+    let n = np + nq;
+    mark_points(WAS * n + 4 * q, 4, TOUCHED * n, np, w);
+}
+
+// Touches the corners of all quads at point x.
+fn touch_around(np: usize, nq: usize, x: usize, w: &mut [u32])
+    requires { ⌜ Grounds np nq (now w) ⌝ }
+    requires { ⌜ x < np ⌝ }
+    ensures { λ _. ⌜ Part (touchedAt np nq) np (tabulate (markedNear (flatStart np nq (now (w .entry))) (touchedIn np nq (now (w .entry))) nq x) np) (now (w .exit)) ⌝ }
+    ensures { λ _. ⌜ Kept (Out (touchedAt np nq) np) (now (w .entry)) (now (w .exit)) ⌝ }
+{
+    let s = corners_of(np, nq, x, w);
+    let from = s.from;
+    let m = s.to - from;
+    let mut t = 0;
+    while t < m {
+        touch_quad(np, nq, lists::at(w, from + t) / 4, w);
+        t += 1;
+    }
+}
+
+// Bars the point x. The first time, the corners of all quads at it are touched, so a quad is touched at most four times a pass.
+fn bar_point(np: usize, nq: usize, x: usize, w: &mut [u32])
+    requires { ⌜ Grounds np nq (now w) ⌝ }
+    requires { ⌜ Touched np nq (now w) ⌝ }
+    requires { ⌜ x < np ⌝ }
+    ensures { λ _. ⌜ Barred np nq (set (usedIn np nq (now (w .entry))) x 1) (now (w .entry)) (now (w .exit)) ⌝ }
+{
+    let at = USED * (np + nq) + x;
+    let first = w[at] == 0;
+    w[at] = 1;
+    if first {
+        touch_around(np, nq, x, w);
     }
 }
 
 // Bars the corners of quad q.
 fn bar_quad(np: usize, nq: usize, q: usize, w: &mut [u32])
     requires { ⌜ Grounds np nq (now w) ⌝ }
+    requires { ⌜ Touched np nq (now w) ⌝ }
     requires { ⌜ q < nq ⌝ }
-    ensures { λ _. ⌜ Part (usedAt np nq) np (tabulate (markedIn (flatStart np nq (now (w .entry))) (usedIn np nq (now (w .entry))) q) np) (now (w .exit)) ⌝ }
-    ensures { λ _. ⌜ Kept (Out (usedAt np nq) np) (now (w .entry)) (now (w .exit)) ⌝ }
+    ensures { λ _. ⌜ Barred np nq (tabulate (markedIn (flatStart np nq (now (w .entry))) (usedIn np nq (now (w .entry))) q) np) (now (w .entry)) (now (w .exit)) ⌝ }
 {
-    let n = np + nq;
-    mark_points(WAS * n + 4 * q, 4, USED * n, np, w);
+    let from = WAS * (np + nq) + 4 * q;
+    let mut j = 0;
+    while j < 4 {
+        bar_point(np, nq, lists::at(w, from + j), w);
+        j += 1;
+    }
 }
 
 // Bars the corners of all quads at point v.
 fn bar_around(np: usize, nq: usize, v: usize, w: &mut [u32])
     requires { ⌜ Grounds np nq (now w) ⌝ }
+    requires { ⌜ Touched np nq (now w) ⌝ }
     requires { ⌜ v < np ⌝ }
-    ensures { λ _. ⌜ Part (usedAt np nq) np (tabulate (markedNear (flatStart np nq (now (w .entry))) (usedIn np nq (now (w .entry))) nq v) np) (now (w .exit)) ⌝ }
-    ensures { λ _. ⌜ Kept (Out (usedAt np nq) np) (now (w .entry)) (now (w .exit)) ⌝ }
+    ensures { λ _. ⌜ Barred np nq (tabulate (markedNear (flatStart np nq (now (w .entry))) (usedIn np nq (now (w .entry))) nq v) np) (now (w .entry)) (now (w .exit)) ⌝ }
 {
     let s = corners_of(np, nq, v, w);
     let from = s.from;
@@ -461,6 +484,7 @@ pub fn merge(
 )
     requires { ⌜ Grounds np nq (now w) ⌝ }
     requires { ⌜ Merging np nq f a c (length (now points)) (length (now quads)) ⌝ }
+    requires { ⌜ Touched np nq (now w) ⌝ }
     ensures { λ _. ⌜ now (points .exit) ≡ withPoint (now (points .entry)) a p ⌝ }
     ensures { λ _. ⌜ Joined np nq f a c (now (quads .entry)) (now (w .entry)) (now (quads .exit)) (now (w .exit)) ⌝ }
 {

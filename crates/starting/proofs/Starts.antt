@@ -1,5 +1,5 @@
 -- The maps of a sheet, one region after the other. Assumes nothing.
-use mathlib.Core.Path.{_≡_, refl, sym, ap, _∙_}
+use mathlib.Core.Path.{_≡_, ap, _∙_}
 use Prim.Native.Nat.{ℕ, _+_, _-_, _*_, _≤_, _<_}
 use mathlib.Core.Bool.{true}
 use mathlib.Core.List.{List}
@@ -8,19 +8,20 @@ use lib.ListN.{length, take, replicate}
 use borrow.Rule.Slice.PartMut.{midOf, putMid}
 use Rattle.lists.specs.Every.{every}
 use Rattle.lists.specs.Sort.{tabulate}
-use Rattle.lists.specs.Regions.{Part, Out, Out3, Apart, Kept, Three}
+use Rattle.lists.specs.Regions.{Part, Out, Out2, Out3, Apart, Kept, Three}
 use Rattle.lists.proofs.Regions.{Lent, lent, lent-all, length-lent, part-kept, part-as, kept-then}
 use Rattle.lists.proofs.Laws.{length-tab}
 use Rattle.sheet.specs.Quads.{valence, maskOf}
 use Rattle.sheet.specs.Flat.{quadsOf, maskIn}
 use Rattle.sheet.specs.Tests.{goodQuadAt}
 use Rattle.sheet.specs.Sheet.{masksOf}
-use Rattle.incidence.specs.Corners.{Cornered, edgeOrder, cornersAt, firstAt}
+use Rattle.incidence.specs.Corners.{edgeOrder, cornersAt, firstAt}
 use Rattle.lookup.specs.Maps.{firstEdge}
 use Rattle.lookup.proofs.Maps.{mapped, standing, quads-take}
-use Rattle.merging.specs.Layout.{wasAt, edgeStartsAt, edgesAt, startsAt, orderAt, valencesAt, usedAt, removedAt, flatStart, startOf, Steady, Grounds}
-use Rattle.merging.proofs.Grounds.{grounds-kept}
-use Rattle.starting.specs.Starts.{Mappable, Mapped, InFront, Startable, Started}
+use Rattle.merging.specs.Layout.{wasAt, edgeStartsAt, edgesAt, startsAt, orderAt, valencesAt, usedAt, removedAt, touchedAt, startOf}
+use Rattle.merging.proofs.Grounds.{in-front, grounds-kept}
+use Rattle.merging.proofs.Bars.{touched-fresh}
+use Rattle.starting.specs.Starts.{Mappable, Mapped, Cleared, Startable, Started}
 
 -- where the sorts work
 abbrev pub firstAtOf : ℕ → ℕ → ℕ
@@ -89,42 +90,51 @@ masks-lent np nq Q labels w y h e =
     let L = lent 0 np w y (omega arith) l in
     (part-as (L .part) d, L .kept)
 
--- ---- the whole start: u, v, x, y, w are the slice as it came, with masks, with maps, without barred points, without quads that are out
+-- ---- marks
+
+-- w once its n elements from `at` on came back as y
+abbrev put : ℕ → ℕ → List ℕ → List ℕ → List ℕ
+put at n w y = putMid at (at + n - at) w y
+
+-- how many there are
+abbrev many : ℕ → ℕ → List ℕ → ℕ
+many at n w = length (midOf at (at + n - at) w)
+
+-- the three clears: u is the slice as it came, and a, b, c are the regions as they came back
+pub cleared : {np nq : ℕ} (u a b c : List ℕ) → 64 * (np + nq) ≤ length u → a ≡ replicate (many (usedAt np nq) np u) 0 → b ≡ replicate (many (removedAt np nq) nq (put (usedAt np nq) np u a)) 0
+    → c ≡ replicate (many (touchedAt np nq) np (put (removedAt np nq) nq (put (usedAt np nq) np u a) b)) 0
+    → Cleared np nq u (put (touchedAt np nq) np (put (removedAt np nq) nq (put (usedAt np nq) np u a) b) c)
+cleared {np} {nq} u a b c r e f g =
+    let v = put (usedAt np nq) np u a in
+    let w = put (removedAt np nq) nq v b in
+    let U : Lent (usedAt np nq) np u (replicate np 0) v = lent-all 0 (usedAt np nq) np u a (omega arith) e in
+    let R : Lent (removedAt np nq) nq v (replicate nq 0) w = lent-all 0 (removedAt np nq) nq v b (omega (arith, U .kept .len)) f in
+    let T = lent-all 0 (touchedAt np nq) np w c (omega (arith, U .kept .len, R .kept .len)) g in
+    record {
+      used = part-kept (part-kept (U .part) (R .kept) (λ i p q. λ a b. omega arith)) (T .kept) (λ i p q. λ a b. omega arith);
+      removed = part-kept (R .part) (T .kept) (λ i p q. λ a b. omega arith);
+      touched = T .part;
+      kept = kept-then (kept-then {R = Out2 (usedAt np nq) np (removedAt np nq) nq} (U .kept) (R .kept) (λ i o. o)) (T .kept) (λ i o. ((o .0, o .1 .0), o .1 .1));
+    }
+
+-- ---- the whole start: u, v, x, w are the slice as it came, with masks, with maps, without marks
 
 pub mappable-kept : {np nq : ℕ} {Q u v : List ℕ} → Mappable np nq Q u → length v ≡ length u → Mappable np nq Q v
 mappable-kept {np} {nq} {Q} {u} {v} M e = record { sheet = M .sheet; few = M .few; some = M .some; room = omega (arith, M .room) }
 
-pub started : {np nq : ℕ} {u v x y w : List ℕ} (Q labels : List ℕ) → Startable np nq Q labels u → Part 0 np (masksOf np (quadsOf nq Q) (take nq labels)) v → Kept (Out 0 np) u v → Mapped np nq Q v x
-    → Part (usedAt np nq) np (replicate np 0) y → Kept (Out (usedAt np nq) np) x y → Part (removedAt np nq) nq (replicate nq 0) w → Kept (Out (removedAt np nq) nq) y w → Started np nq Q labels w
-started {np} {nq} {u} {v} {x} {y} {w} Q labels S P K M U K2 R K3 =
-    let r = M .grounds .room in
-    let L : Kept (Steady np nq) x w = kept-then K2 K3 (λ i o. (o .0, o .1)) in
-    let G = grounds-kept (M .grounds) L in
-    let W : Part (wasAt np nq) (4 * nq) (take (4 * nq) Q) w = part-kept (M .quads) L (λ i p q. ((λ a b. omega arith), (λ a b. omega arith))) in
+pub started : {np nq : ℕ} {u v x w : List ℕ} (Q labels : List ℕ) → Startable np nq Q labels u → Part 0 np (masksOf np (quadsOf nq Q) (take nq labels)) v → Kept (Out 0 np) u v → Mapped np nq Q v x
+    → Cleared np nq x w → Started np nq Q labels w
+started {np} {nq} {u} {v} {x} {w} Q labels S P K M C =
+    let r = M .grounds .some in
+    let G = grounds-kept (M .grounds) (C .kept) in
+    let W : Part (wasAt np nq) (4 * nq) (take (4 * nq) Q) w = part-kept (M .quads) (C .kept) (λ i p q. in-front np nq i (omega arith)) in
     let same : startOf np nq w ≡ quadsOf nq Q = ap (quadsOf nq) (W .is) ∙ quads-take nq Q in
-    let N : Part 0 np (masksOf np (quadsOf nq Q) (take nq labels)) w = part-kept (part-kept P (M .kept) (λ i p q. omega arith)) L (λ i p q. ((λ a b. omega arith), (λ a b. omega arith))) in
+    let N : Part 0 np (masksOf np (quadsOf nq Q) (take nq labels)) w = part-kept (part-kept P (M .kept) (λ i p q. omega arith)) (C .kept) (λ i p q. in-front np nq i (omega arith)) in
     record {
       grounds = G;
       quads = W;
       masked = rw same N;
-      used = part-kept U K3 (λ i p q. λ a b. omega arith) .is;
-      removed = R .is;
+      used = C .used .is;
+      removed = C .removed .is;
+      touched = touched-fresh G (C .used .is) (C .touched .is);
     }
-
--- the same as the two clears leave it
-pub used-cleared : {np nq : ℕ} {Q v x : List ℕ} (y : List ℕ) → Mapped np nq Q v x → y ≡ replicate (length (midOf (usedAt np nq) (usedAt np nq + np - usedAt np nq) x)) 0
-    → Lent (usedAt np nq) np x (replicate np 0) (putMid (usedAt np nq) (usedAt np nq + np - usedAt np nq) x y)
-used-cleared {np} {nq} {Q} {v} {x} y M e = lent-all 0 (usedAt np nq) np x y (omega (arith, M .grounds .room)) e
-
-pub removed-room : {np nq : ℕ} {Q v x : List ℕ} (y : List ℕ) → Mapped np nq Q v x → y ≡ replicate (length (midOf (usedAt np nq) (usedAt np nq + np - usedAt np nq) x)) 0
-    → removedAt np nq + nq ≤ length (putMid (usedAt np nq) (usedAt np nq + np - usedAt np nq) x y)
-removed-room {np} {nq} {Q} {v} {x} y M e = omega (arith, M .grounds .room, used-cleared y M e .kept .len)
-
-pub start-cleared : {np nq : ℕ} {u v x : List ℕ} (Q labels y z : List ℕ) → Startable np nq Q labels u → Part 0 np (masksOf np (quadsOf nq Q) (take nq labels)) v → Kept (Out 0 np) u v → Mapped np nq Q v x
-    → y ≡ replicate (length (midOf (usedAt np nq) (usedAt np nq + np - usedAt np nq) x)) 0
-    → z ≡ replicate (length (midOf (removedAt np nq) (removedAt np nq + nq - removedAt np nq) (putMid (usedAt np nq) (usedAt np nq + np - usedAt np nq) x y))) 0
-    → Started np nq Q labels (putMid (removedAt np nq) (removedAt np nq + nq - removedAt np nq) (putMid (usedAt np nq) (usedAt np nq + np - usedAt np nq) x y) z)
-start-cleared {np} {nq} {u} {v} {x} Q labels y z S P K M e f =
-    let L = used-cleared y M e in
-    let N = lent-all 0 (removedAt np nq) nq (putMid (usedAt np nq) (usedAt np nq + np - usedAt np nq) x y) z (removed-room y M e) f in
-    started Q labels S P K M (L .part) (L .kept) (N .part) (N .kept)

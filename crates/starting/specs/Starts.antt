@@ -9,7 +9,7 @@ use Rattle.lists.specs.Regions.{Part, Kept}
 use Rattle.incidence.specs.Corners.{Cornered}
 use Rattle.sheet.specs.Flat.{Holds}
 use Rattle.sheet.specs.Tests.{goodQuadAt}
-use Rattle.merging.specs.Layout.{wasAt, usedIn, removedIn, Grounds, Masked}
+use Rattle.merging.specs.Layout.{wasAt, usedAt, removedAt, touchedAt, usedIn, removedIn, Steady, Grounds, Touched, Masked}
 
 -- a sheet of np points and nq quads that can be mapped in the work slice w
 pub record Mappable (np nq : ℕ) (Q w : List ℕ) : Type 0 where
@@ -28,6 +28,13 @@ pub record Mapped (np nq : ℕ) (Q w w′ : List ℕ) : Type 0 where
   pub quads : Part (wasAt np nq) (4 * nq) (take (4 * nq) Q) w′
   pub kept : Kept (InFront np nq) w w′
 
+-- the marks are clear in w′, and all else is that of w
+pub record Cleared (np nq : ℕ) (w w′ : List ℕ) : Type 0 where
+  pub used : Part (usedAt np nq) np (replicate np 0) w′
+  pub removed : Part (removedAt np nq) nq (replicate nq 0) w′
+  pub touched : Part (touchedAt np nq) np (replicate np 0) w′
+  pub kept : Kept (Steady np nq) w w′
+
 -- what a pass over the sheet Q with its labels asks of the work slice w
 pub record Startable (np nq : ℕ) (Q labels w : List ℕ) : Type 0 where
   pub map : Mappable np nq Q w
@@ -41,3 +48,4 @@ pub record Started (np nq : ℕ) (Q labels w : List ℕ) : Type 0 where
   pub masked : Masked np nq (take nq labels) w
   pub used : usedIn np nq w ≡ replicate np 0
   pub removed : removedIn np nq w ≡ replicate nq 0
+  pub touched : Touched np nq w

@@ -2,14 +2,14 @@
 
 ghost use mathlib.Core.Path.{_≡_};
 ghost use mathlib.Core.Bool.{true};
-ghost use Prim.Native.Nat.{_≤_};
+ghost use Prim.Native.Nat.{_+_, _*_, _≤_};
 ghost use lib.ListN.{length, take};
 ghost use Rattle.lists.specs.Every.{every};
 ghost use Rattle.lists.specs.Regions.{Part, Out, Kept};
 ghost use Rattle.sheet.specs.Flat.{quadsOf, Holds};
 ghost use Rattle.sheet.specs.Tests.{goodQuadAt};
 ghost use Rattle.sheet.specs.Sheet.{masksOf};
-ghost use Rattle.starting.specs.Starts.{Mappable, Mapped, Startable, Started};
+ghost use Rattle.starting.specs.Starts.{Mappable, Mapped, Cleared, Startable, Started};
 
 // The quads, their corners by edge and by point, and how many quads each point has, in the work slice.
 pub fn map_sheet(np: usize, nq: usize, quads: &[u32], w: &mut [u32])
@@ -55,16 +55,26 @@ pub fn mask_sheet(np: usize, nq: usize, quads: &[u32], labels: &[u8], w: &mut [u
     fresh_masks(nq, quads, labels, &mut w[at..at + np]);
 }
 
-// What a pass starts with: masks and maps, no barred point, no quad out.
-pub fn prepare(np: usize, nq: usize, quads: &[u32], labels: &[u8], w: &mut [u32])
-    requires { ⌜ Startable np nq (now quads) (now labels) (now w) ⌝ }
-    ensures { λ _. ⌜ Started np nq (now (quads .entry)) (now (labels .entry)) (now (w .exit)) ⌝ }
+// No barred point, no quad out, no touched point.
+fn clear_marks(np: usize, nq: usize, w: &mut [u32])
+    requires { ⌜ 64 * (np + nq) ≤ length (now w) ⌝ }
+    ensures { λ _. ⌜ Cleared np nq (now (w .entry)) (now (w .exit)) ⌝ }
 {
     let n = np + nq;
     let used = merging::USED * n;
     let removed = merging::REMOVED * n;
-    mask_sheet(np, nq, quads, labels, w);
-    map_sheet(np, nq, quads, w);
+    let touched = merging::TOUCHED * n;
     lists::clear(&mut w[used..used + np]);
     lists::clear(&mut w[removed..removed + nq]);
+    lists::clear(&mut w[touched..touched + np]);
+}
+
+// What a pass starts with: masks and maps, and no marks.
+pub fn prepare(np: usize, nq: usize, quads: &[u32], labels: &[u8], w: &mut [u32])
+    requires { ⌜ Startable np nq (now quads) (now labels) (now w) ⌝ }
+    ensures { λ _. ⌜ Started np nq (now (quads .entry)) (now (labels .entry)) (now (w .exit)) ⌝ }
+{
+    mask_sheet(np, nq, quads, labels, w);
+    map_sheet(np, nq, quads, w);
+    clear_marks(np, nq, w);
 }

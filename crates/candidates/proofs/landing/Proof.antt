@@ -7,7 +7,7 @@ use Rattle.candidates.proofs.landing.Statement.{statement}
 use Rattle.candidates.proofs.landing.Tie as tie
 
 allowed-requires : tie.Need-allowed-requires
-allowed-requires c κs = (c .before .before .pre .0, c .before .before .pre .1 .0 .face)
+allowed-requires c κs = let s = c .before .before in (s .pre .0, (s .pre .1 .0 .face, s .pre .1 .1 .1))
 
 at-requires : tie.Need-at-requires
 at-requires c κs = let s = c .before .before .before .before in let r = s .pre .0 .room in let l = s .pre .1 .0 .face .a< in omega arith
@@ -19,7 +19,7 @@ joined-requires : tie.Need-joined-requires
 joined-requires c κs = let s = c .before .before .before .before .before .before in rw (c .at2 .ensures, c .before .at .ensures) (s .pre .1 .0 .mask-a, s .pre .1 .0 .mask-c)
 
 new-position-requires : tie.Need-new-position-requires
-new-position-requires c κs = let s = c .before .before .before .before .before .before .before in (s .pre .1 .1, (s .pre .1 .0 .face .a<, s .pre .1 .0 .face .c<))
+new-position-requires c κs = let s = c .before .before .before .before .before .before .before in (s .pre .1 .1 .0, (s .pre .1 .0 .face .a<, s .pre .1 .0 .face .c<))
 
 returns : tie.Need-returns
 unfolding landingOf

@@ -18,13 +18,13 @@ loop-holds : tie.Need-loop-holds Inv-loop μ-loop
 loop-holds c = (omega arith, sym (found-none _ _ _ _ _ _ _ _ _))
 
 diagonal-at-requires : tie.Need-diagonal-at-requires Inv-loop μ-loop
-diagonal-at-requires c κs = let s = c .before .before .before .before .before .before in let l = s .pre .1 .1 .quads in let f = s .pre .1 .0 .f< in (omega arith, c .loop-test .taken)
+diagonal-at-requires c κs = let s = c .before .before .before .before .before .before in let l = s .pre .1 .1 .0 .quads in let f = s .pre .1 .0 .f< in (omega arith, c .loop-test .taken)
 
 add-k : tie.Need-add-k Inv-loop μ-loop
 add-k c = omega arith
 
 landing-requires : tie.Need-landing-requires Inv-loop μ-loop
-landing-requires c κs = let s = c .before .before .before .before .before .before .before in (s .pre .0, (tried-of _ (s .pre .1 .0) (c .before .loop-test .taken) (c .diagonal-at .ensures), s .pre .1 .1 .points))
+landing-requires c κs = let s = c .before .before .before .before .before .before .before in (s .pre .0, (tried-of _ (s .pre .1 .0) (c .before .loop-test .taken) (c .diagonal-at .ensures), (s .pre .1 .1 .0 .points, s .pre .1 .1 .1)))
 
 enum-known-p : tie.Need-enum-known-p Inv-loop μ-loop
 enum-known-p c = search needs
@@ -39,7 +39,7 @@ loop-again : tie.Need-loop-again Inv-loop μ-loop
 loop-again c = let a = c .before .before .before .before .before .before .before .before .before .before .args in (omega arith, found-refused (a .np) (a .nq) (a .b) (a .len) (a .points .now) (a .quads .now) (a .labels .now) (a .w .now) (a .f) _ _ _ _ (c .before .before .before .before .before .loop .inv .1) (c .before .before .before .diagonal-at .ensures) (c .before .before .landing .ensures) (c .enum-told .given .1))
 
 weighed-requires : tie.Need-weighed-requires Inv-loop μ-loop
-weighed-requires c κs = let s = c .before .before .before .before .before .before .before .before .before .before .before in (s .pre .0, (tried-of _ (s .pre .1 .0) (c .before .before .before .before .before .loop-test .taken) (c .before .before .before .before .diagonal-at .ensures), (s .pre .1 .1 .points, (s .pre .1 .1 .labels, landed _ _ _ _ _ _ _ _ (sym (c .before .before .before .landing .ensures) ∙ c .before .p .given .1)))))
+weighed-requires c κs = let s = c .before .before .before .before .before .before .before .before .before .before .before in (s .pre .0, (tried-of _ (s .pre .1 .0) (c .before .before .before .before .before .loop-test .taken) (c .before .before .before .before .diagonal-at .ensures), (s .pre .1 .1 .0 .points, (s .pre .1 .1 .0 .labels, landed _ _ _ _ _ _ _ _ (sym (c .before .before .before .landing .ensures) ∙ c .before .p .given .1)))))
 
 loop-less-2 : tie.Need-loop-less-2 Inv-loop μ-loop
 loop-less-2 c = omega arith

@@ -11,7 +11,7 @@ enum-known-choice : tie.Need-enum-known-choice
 enum-known-choice c = search needs
 
 merge-requires : tie.Need-merge-requires
-merge-requires c κs = let s = c .before .before .before .before .before .before .before .before .before in (s .pre .0, takeable-at _ _ _ _ _ _ _ (c .before .before .before .before .choice .given .1) (s .pre .1))
+merge-requires c κs = let s = c .before .before .before .before .before .before .before .before .before in (s .pre .0, (takeable-at _ _ _ _ _ _ _ (c .before .before .before .before .choice .given .1) (s .pre .1 .0), s .pre .1 .1))
 
 returns : tie.Need-returns
 returns c = taken-none _ _ _ _ _ _ _ (c .enum-told .given .1)

@@ -10,10 +10,10 @@ is-tried-requires : tie.Need-is-tried-requires
 is-tried-requires c κs = let s = c .before .before .before .before .before .before in (s .pre .0 .grounds, (s .pre .0 .sheet, s .pre .1 .0))
 
 search-requires : tie.Need-search-requires
-search-requires c κs = let s = c .before .before .before .before .before .before .before .before .before .before .before in let R = s .pre .0 in (R .grounds, (searching-of _ _ _ _ _ _ _ R (s .pre .1 .0) (sym (c .before .before .before .before .is-tried .ensures) ∙ c .before .before .before .if1 .taken), record { points = R .points; quads = R .sheet .quads; labels = R .labelled }))
+search-requires c κs = let s = c .before .before .before .before .before .before .before .before .before .before .before in let R = s .pre .0 in (R .grounds, (searching-of _ _ _ _ _ _ _ R (s .pre .1 .0) (sym (c .before .before .before .before .is-tried .ensures) ∙ c .before .before .before .if1 .taken), (record { points = R .points; quads = R .sheet .quads; labels = R .labelled }, R .touched)))
 
 take-requires : tie.Need-take-requires
-take-requires c κs = let s = c .before .before .before .before .before .before .before .before .before .before .before .before .before .before .before in let R = s .pre .0 in let a = s .args in (R .grounds, takeable-of (a .b) _ _ (a .f) (a .points .now) (a .labels .now) (a .quads .now) (a .w .now) R (s .pre .1 .0) (sym (c .before .before .before .before .before .before .before .before .is-tried .ensures) ∙ c .before .before .before .before .before .before .before .if1 .taken) _ (by-length (a .b) _ _ (a .f) (a .points .now) (a .labels .now) (a .quads .now) (a .w .now) _ _ (s .pre .1 .1) (c .before .before .before .search .ensures)))
+take-requires c κs = let s = c .before .before .before .before .before .before .before .before .before .before .before .before .before .before .before in let R = s .pre .0 in let a = s .args in (R .grounds, (takeable-of (a .b) _ _ (a .f) (a .points .now) (a .labels .now) (a .quads .now) (a .w .now) R (s .pre .1 .0) (sym (c .before .before .before .before .before .before .before .before .is-tried .ensures) ∙ c .before .before .before .before .before .before .before .if1 .taken) _ (by-length (a .b) _ _ (a .f) (a .points .now) (a .labels .now) (a .quads .now) (a .w .now) _ _ (s .pre .1 .1) (c .before .before .before .search .ensures)), R .touched))
 
 same-length : tie.Need-same-length
 same-length c = search needs

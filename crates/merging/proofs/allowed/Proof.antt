@@ -1,7 +1,7 @@
 -- `merging::allowed` meets its contract. Assumes nothing.
 use borrow.Author.Needs.{needs}
 use mathlib.Core.Path.{refl}
-use Rattle.merging.specs.Layout.{Face, allowedIn}
+use Rattle.merging.specs.Layout.{allowedIn}
 use Rattle.merging.proofs.Grounds.{free-both}
 use Rattle.merging.proofs.allowed.Statement.{statement}
 use Rattle.merging.proofs.allowed.Tie as tie
@@ -10,13 +10,13 @@ worth-requires : tie.Need-worth-requires
 worth-requires c κs = search needs
 
 meet-only-requires : tie.Need-meet-only-requires
-meet-only-requires c κs = let s = c .before .before .before in (s .pre .0, (s .pre .1 .a<, s .pre .1 .c<))
+meet-only-requires c κs = let s = c .before .before .before in (s .pre .0, (s .pre .1 .0 .a<, s .pre .1 .0 .c<))
 
 near-free-requires : tie.Need-near-free-requires
-near-free-requires c κs = let s = c .before .before .before .before .before in (s .pre .0, s .pre .1 .a<)
+near-free-requires c κs = let s = c .before .before .before .before .before in (s .pre .0, (s .pre .1 .1, s .pre .1 .0 .a<))
 
 near-free-requires-2 : tie.Need-near-free-requires-2
-near-free-requires-2 c κs = let s = c .before .before .before .before .before .before in (s .pre .0, s .pre .1 .c<)
+near-free-requires-2 c κs = let s = c .before .before .before .before .before .before in (s .pre .0, (s .pre .1 .1, s .pre .1 .0 .c<))
 
 returns : tie.Need-returns
 unfolding allowedIn

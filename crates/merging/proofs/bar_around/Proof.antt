@@ -3,13 +3,12 @@ use native.Mathlib.Omega.{arith}
 use borrow.Author.Needs.{needs}
 use mathlib.Core.Path.{refl}
 use Prim.Native.Nat.{_-_}
-use Rattle.merging.specs.Layout.{Spanned}
-use Rattle.merging.proofs.Grounds.{Barring, barring-start, BarTurn, bar-turn, barring-end}
+use Rattle.merging.proofs.Bars.{BarringAround, around-start, around-turn, around-end}
 use Rattle.merging.proofs.bar_around.Statement.{statement}
 use Rattle.merging.proofs.bar_around.Tie as tie
 
 abbrev Inv-loop : tie.InvT-loop
-Inv-loop np nq v w₀ from m t₀ w t = Barring np nq v from m w₀ w t
+Inv-loop np nq v w₀ from m t₀ w t = BarringAround np nq v from m w₀ w t
 
 abbrev μ-loop : tie.MeasureT-loop
 μ-loop np nq v w₀ from m t₀ w t = m - t
@@ -21,16 +20,16 @@ sub-m : tie.Need-sub-m Inv-loop μ-loop
 sub-m c = let S = c .before .corners-of .ensures in S .low
 
 loop-holds : tie.Need-loop-holds Inv-loop μ-loop
-loop-holds c = barring-start (c .before .before .before .before .pre .0) (c .before .corners-of .ensures)
+loop-holds c = around-start (c .before .before .before .before .pre .0) (c .before .before .before .before .pre .1 .0) (c .before .corners-of .ensures)
 
 add-at : tie.Need-add-at Inv-loop μ-loop
 add-at c = omega arith
 
 at-requires : tie.Need-at-requires Inv-loop μ-loop
-at-requires c κs = let l = c .before .before in bar-turn _ (l .before .before .before .before .before .pre .0) (l .loop .inv) (c .before .loop-test .taken) refl .at<
+at-requires c κs = let l = c .before .before in around-turn _ (l .before .before .before .before .before .pre .0) (l .loop .inv) (c .before .loop-test .taken) refl .at<
 
 bar-quad-requires : tie.Need-bar-quad-requires Inv-loop μ-loop
-bar-quad-requires c κs = let l = c .before .before .before .before in (l .loop .inv .grounds, bar-turn _ (l .before .before .before .before .before .pre .0) (l .loop .inv) (c .before .before .before .loop-test .taken) (c .before .at .ensures) .q<)
+bar-quad-requires c κs = let l = c .before .before .before .before in (l .loop .inv .0 .grounds, (l .loop .inv .1, around-turn _ (l .before .before .before .before .before .pre .0) (l .loop .inv) (c .before .before .before .loop-test .taken) (c .before .at .ensures) .q<))
 
 add-t : tie.Need-add-t Inv-loop μ-loop
 add-t c = omega arith
@@ -40,13 +39,13 @@ loop-less c = omega arith
 
 loop-again : tie.Need-loop-again Inv-loop μ-loop
 loop-again c = let k = c .before .before in let l = k .before .before .before .before .before in
-    bar-turn _ (l .before .before .before .before .before .pre .0) (l .loop .inv) (k .before .before .before .before .loop-test .taken) (k .before .before .at .ensures) .next _ (k .bar-quad .ensures .0) (k .bar-quad .ensures .1)
+    (around-turn _ (l .before .before .before .before .before .pre .0) (l .loop .inv) (k .before .before .before .before .loop-test .taken) (k .before .before .at .ensures) .next _ (k .bar-quad .ensures .used) (k .bar-quad .ensures .kept), k .bar-quad .ensures .touched)
 
 same-length : tie.Need-same-length Inv-loop μ-loop
-same-length c = c .before .loop .inv .kept .len
+same-length c = c .before .loop .inv .0 .kept .len
 
 returns : tie.Need-returns Inv-loop μ-loop
-returns c = barring-end (c .before .loop .inv) (omega arith)
+returns c = around-end (c .before .loop .inv) (omega arith)
 
 pub bar-around-spec : {M : Type 1} → statement M
 bar-around-spec =

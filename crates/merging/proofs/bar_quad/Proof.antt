@@ -1,47 +1,73 @@
 -- `merging::bar_quad` meets its contract. Assumes nothing.
+use native.Mathlib.Omega.{arith}
 use borrow.Author.Needs.{needs}
-use Rattle.merging.specs.Layout.{flatStart, usedIn, wasAt}
-use Rattle.merging.proofs.Grounds.{quad-marking, quad-listed}
-use Rattle.merging.proofs.Marks.{quad-marks}
-use Prim.Native.Nat.{_+_, _*_}
-use Rattle.lists.specs.Regions.{part}
+use mathlib.Core.Path.{refl}
+use Prim.Native.Nat.{_-_}
+use Rattle.merging.proofs.Bars.{Barring, barring-start, bar-turn, barring-end}
 use Rattle.merging.proofs.bar_quad.Statement.{statement}
 use Rattle.merging.proofs.bar_quad.Tie as tie
 
-add-n : tie.Need-add-n
-add-n c = search needs
+abbrev Inv-loop : tie.InvT-loop
+Inv-loop np nq q w₀ from j₀ w j = Barring np nq q w₀ w j
 
-mul-mark-points : tie.Need-mul-mark-points
-mul-mark-points c = search needs
+abbrev μ-loop : tie.MeasureT-loop
+μ-loop np nq q w₀ from j₀ w j = 4 - j
 
-mul-mark-points-2 : tie.Need-mul-mark-points-2
-mul-mark-points-2 c = search needs
+add-from : tie.Need-add-from Inv-loop μ-loop
+add-from c = search needs
 
-add-mark-points : tie.Need-add-mark-points
-add-mark-points c = search needs
+mul-from : tie.Need-mul-from Inv-loop μ-loop
+mul-from c = search needs
 
-mul-mark-points-3 : tie.Need-mul-mark-points-3
-mul-mark-points-3 c = search needs
+mul-from-2 : tie.Need-mul-from-2 Inv-loop μ-loop
+mul-from-2 c = search needs
 
-mark-points-requires : tie.Need-mark-points-requires
-mark-points-requires c κs = quad-marking _ (c .before .before .pre .0) (c .before .before .pre .1)
+add-from-2 : tie.Need-add-from-2 Inv-loop μ-loop
+add-from-2 c = search needs
 
-same-length : tie.Need-same-length
-same-length c = search needs
+loop-holds : tie.Need-loop-holds Inv-loop μ-loop
+loop-holds c = let s = c .before in barring-start (s .args .q) (s .pre .0) (s .pre .1 .0) (s .pre .1 .1)
 
-returns : tie.Need-returns
-returns c = let k = c .before .before in let s = k .before .before .before in let a = s .args in
-    (quad-marks (flatStart (a .np) (a .nq) (a .w .now)) (usedIn (a .np) (a .nq) (a .w .now)) (part (wasAt (a .np) (a .nq) + 4 * a .q) 4 (a .w .now)) (a .q) (λ j l. quad-listed (a .q) j (s .pre .0) (s .pre .1) l) (k .mark-points .ensures .0), k .mark-points .ensures .1)
+add-at : tie.Need-add-at Inv-loop μ-loop
+add-at c = omega arith
+
+at-requires : tie.Need-at-requires Inv-loop μ-loop
+at-requires c κs = let s = c .before .before .before .before in bar-turn _ (s .pre .0) (s .pre .1 .1) (c .before .before .loop .inv) (c .before .loop-test .taken) refl .at<
+
+bar-point-requires : tie.Need-bar-point-requires Inv-loop μ-loop
+bar-point-requires c κs = let s = c .before .before .before .before .before .before in let I = c .before .before .before .before .loop .inv in (I .grounds, (I .barred .touched, bar-turn _ (s .pre .0) (s .pre .1 .1) I (c .before .before .before .loop-test .taken) (c .before .at .ensures) .c<))
+
+add-j : tie.Need-add-j Inv-loop μ-loop
+add-j c = omega arith
+
+loop-less : tie.Need-loop-less Inv-loop μ-loop
+loop-less c = omega arith
+
+loop-again : tie.Need-loop-again Inv-loop μ-loop
+loop-again c = let s = c .before .before .before .before .before .before .before .before .before in bar-turn _ (s .pre .0) (s .pre .1 .1) (c .before .before .before .before .before .before .before .loop .inv) (c .before .before .before .before .before .before .loop-test .taken) (c .before .before .before .before .at .ensures) .next _ (c .before .before .bar-point .ensures)
+
+same-length : tie.Need-same-length Inv-loop μ-loop
+same-length c = c .before .loop .inv .barred .kept .len
+
+returns : tie.Need-returns Inv-loop μ-loop
+returns c = let s = c .before .before .before in barring-end (s .pre .0) (s .pre .1 .1) (c .before .loop .inv) (omega arith)
 
 pub bar-quad-spec : {M : Type 1} → statement M
 bar-quad-spec =
     tie.close
     (tie.spec
-    add-n
-    mul-mark-points
-    mul-mark-points-2
-    add-mark-points
-    mul-mark-points-3
-    mark-points-requires
+    Inv-loop
+    μ-loop
+    add-from
+    mul-from
+    mul-from-2
+    add-from-2
+    loop-holds
+    add-at
+    at-requires
+    bar-point-requires
+    add-j
+    loop-less
+    loop-again
     same-length
     returns)

@@ -10,15 +10,15 @@ use Rattle.merging.proofs.mark_points.Statement.{statement}
 use Rattle.merging.proofs.mark_points.Tie as tie
 
 abbrev Inv-loop : tie.InvT-loop
-Inv-loop from m used np w₀ j₀ w j = Pointing (part from m w₀) (part used np w₀) from m used np w₀ w j
+Inv-loop from m to np w₀ j₀ w j = Pointing (part from m w₀) (part to np w₀) from m to np w₀ w j
 
 abbrev μ-loop : tie.MeasureT-loop
-μ-loop from m used np w₀ j₀ w j = m - j
+μ-loop from m to np w₀ j₀ w j = m - j
 
 turn-at : (c : tie.In-loop Inv-loop μ-loop) →
     let t = c .before in
     let a = t .before .args in
-    PointTurn (part (a .from) (a .m) (a .w .now)) (part (a .used) (a .np) (a .w .now)) (a .from) (a .m) (a .used) (a .np) (a .w .now) (t .loop .w) (t .loop .j)
+    PointTurn (part (a .from) (a .m) (a .w .now)) (part (a .to) (a .np) (a .w .now)) (a .from) (a .m) (a .to) (a .np) (a .w .now) (t .loop .w) (t .loop .j)
     (getD (t .loop .w) (a .from + t .loop .j) 0)
 turn-at c = point-turn _ (c .before .loop .inv) (c .loop-test .taken) refl
 

@@ -1,0 +1,211 @@
+-- Demand 3 of every list of calls. Assumes nothing.
+use Prim.Native.Nat.{ℕ, _+_, _*_, _≤_, _<_}
+use mathlib.Core.Bool.{Bool, true, false, cond, _||_}
+use mathlib.Core.Path.{_≡_, refl, sym, _∙_}
+use mathlib.Core.List.{List, [], _∷_}
+use native.Mathlib.Omega.{arith}
+use lib.ListN.{length}
+use lib.Ieee.{Float}
+use borrow.Author.Tests.{ltb-true}
+use Rattle.lists.specs.Every.{every}
+use Rattle.band.specs.declared.Band.{Band}
+use Rattle.sheet.specs.declared.Counts.{Counts}
+use Rattle.sheet.specs.declared.Verdict.{Verdict}
+use Rattle.sheet.specs.declared.Verdict.the-variants.{Accepted, Refused}
+use Rattle.sheet.specs.Numbers.{short}
+use Rattle.sheet.specs.Quads.{Quad, num, touches, hasLabel, maskOf}
+use Rattle.sheet.specs.Flat.{quadsOf, flatQuads}
+use Rattle.sheet.specs.Sheet.{Sheet, isLarge, isShort, sheetVerdict}
+use Rattle.sheet.proofs.Flat.{length-quads}
+use Rattle.sheet.proofs.Masks.{bit-pack}
+use Rattle.sheet.proofs.Tests.{or-left, lent-is}
+use Rattle.results.specs.declared.Made.{Made}
+use Rattle.results.specs.Results as results
+use Rattle.results.specs.Results.{Outcome, refuses, makes, padded, countsOf}
+use Rattle.results.proofs.Results.{length-flat-quads}
+use Rattle.refine.specs.Finer.{finerSheet, afterLent}
+use Rattle.smoothed.specs.Smoothed.{paired, smoothSheet}
+use Rattle.subdivide.specs.Subdivide.{edge, astray, landsAt, projectedSheet, projected, subdivided, subdivideRule}
+use Rattle.swaps.specs.Claims.{NoClash}
+use Rattle.swaps.specs.Runs.{Answer, capped}
+use Rattle.fits.specs.SwapFits.{swapFits}
+use Rattle.fits.specs.MergeFits.{mergeFits, mergePosition}
+use Rattle.fits.proofs.MergeFits.{merge-finite}
+use Rattle.regularize.specs.declared.Cleaned.{Cleaned}
+use Rattle.regularize.specs.declared.Cleaned.the-variants as cleaned
+use Rattle.regularize.specs.Rule as regularize
+use Rattle.regularize.specs.Rule.{swapSheet, cleanRule, cleans}
+use Rattle.closed.specs.Clean as closed
+use Rattle.closed.specs.Clean.{Sound, squaredOf}
+use Rattle.closed.specs.Demand3 as commands
+use Rattle.closed.proofs.Fine.{accepted-of}
+use Rattle.closed.proofs.Demand.{Good, Keeps, keeps-same, keeps-trans, swaps-kept, coarse-kept, regularize-done, regularize-again}
+use Rattle.closed.proofs.Demand3.{good-of, sound-of, one-call, coarse-accepted}
+use Rattle.coarsen.specs.declared.Coarsened.{Coarsened}
+use Rattle.coarsen.specs.Rule as coarsen
+use Rattle.coarsen.specs.Rule.{coarseSheet, coarsenRule, coarsens}
+use Rattle.calls.specs.Calls.{Lent, held, Call, regularizeCall, improveCall, coarsenCall, subdivideCall, Contract, lent, withQuads, mergedCounts, resultOr, left, countIn, swapsIn, Run, after, swapsOf, Touches, Apart, NoneLeft, Demand3}
+use Rattle.calls.proofs.Slices.{quads-padded, length-padded, held-padded}
+use Rattle.calls.proofs.Finer.{made-kept}
+use Rattle.calls.proofs.Caps.{uncapped}
+use Rattle.calls.proofs.Tested.{lengthsVerdict, tested, passes, done-tested}
+
+-- ---- `regularize` and `improve_layout`
+
+module _ (m : ℕ) (b : Band) (k : ℕ) (x : Lent) (a : Good (held x)) where
+  -- what the passes find
+  abbrev found : Answer (List Quad)
+  found = swapSheet m b k (held x)
+
+  as-many : length (found .left) ≡ x .counts .quads
+  as-many = swaps-kept (held x) m (swapFits b (held x .points) (held x .labels)) k a .len ∙ length-quads (x .counts .quads) (x .quads)
+
+  -- the slices after an accepted call
+  swapped-is : held (withQuads x (padded 0 (length (x .quads)) (flatQuads (found .left)))) ≡ closed.withQuads (held x) (found .left)
+  swapped-is = rw (quads-padded (found .left) (x .counts .quads) (length (x .quads)) as-many)
+
+  swap-call : (count : Cleaned → ℕ) → ((n : ℕ) → count (cleaned.Refused n) ≡ 0) → Keeps (held x) (closed.withQuads (held x) (found .left)) (count (cleaned.Done (capped (found .count))))
+      → (u v : Verdict) (r : Cleaned) (Q : List ℕ) → regularize.Leaves (regularize.afterTests u (regularize.afterTests v (cleans found))) (x .quads) r Q → Keeps (held x) (held (withQuads x Q)) (count r)
+  swap-call count none done (Refused n) v r Q L = rw (L .answer, L .quads, none n) (keeps-same (held x) a)
+  swap-call count none done Accepted (Refused n) r Q L = rw (L .answer, L .quads, none n) (keeps-same (held x) a)
+  swap-call count none done Accepted Accepted r Q L = rw (L .answer, L .quads, swapped-is) done
+
+-- ---- `coarsen`
+
+module _ (b : Band) (k : ℕ) (x : Lent) (a : Good (held x)) where
+  coarsen-call : (u v : Verdict) (r : Coarsened) (P : List Float) (Q L : List ℕ)
+      → coarsen.Leaves (coarsen.afterTests u (coarsen.afterTests v (coarsens (coarseSheet b k (held x))))) (x .points) (x .quads) (x .labels) r P Q L
+      → Keeps (held x) (held (record { counts = mergedCounts r (x .counts); points = P; quads = Q; labels = L })) 0
+  coarsen-call (Refused n) v r P Q L l = rw (l .answer, l .points, l .quads, l .labelled) (keeps-same (held x) a)
+  coarsen-call Accepted (Refused n) r P Q L l = rw (l .answer, l .points, l .quads, l .labelled) (keeps-same (held x) a)
+  coarsen-call Accepted Accepted r P Q L l =
+      rw (l .answer, l .points, l .quads, l .labelled, held-padded (coarseSheet b k (held x) .left) (length (x .points)) (length (x .quads)) (length (x .labels)))
+      (coarse-kept (mergeFits b) (mergePosition b) (merge-finite b) k (held x) a .0)
+
+-- "No pass after the first can refuse": what any passes leave of a sheet that 12, 1, 5, 6 and 7 accept, closed or not, they accept again
+pub later-passes : (b : Band) (k : ℕ) (s : Sheet) → isLarge (countsOf s) ≡ false → sheetVerdict b s ≡ Accepted
+    → (isLarge (countsOf (coarseSheet b k s .left)) ≡ false) × (sheetVerdict b (coarseSheet b k s .left) ≡ Accepted)
+later-passes b k s e v =
+    let T = tested b s v in
+    let A = coarse-accepted (mergeFits b) (mergePosition b) (merge-finite b) k s (record { not-large = e; not-bare = T .not-bare; corners = T .corners; masks = T .masks }) in
+    (A .not-large, passes b (coarseSheet b k s .left) (T .valid) A)
+
+-- ---- `subdivide`
+
+module _ (b : Band) (x : Lent) (w f p q l : ℕ) (a : Good (held x)) where
+  -- what the call leaves, by the outcome of its rule
+  abbrev Kept : Outcome → Type 0
+  Kept o = (r : Made) (P : List Float) (Q L : List ℕ) → results.Leaves o p q l r P Q L → Keeps (held x) (held (resultOr r x P Q L)) 0
+
+  refused-call : (n : ℕ) → Kept (refuses n)
+  refused-call n r P Q L K = rw (K .answer) (keeps-same (held x) a)
+
+  made-call : (t : Sheet) → Keeps (held x) t 0 → Kept (makes t)
+  made-call t k r P Q L K = rw (K .answer, K .points, K .quads, K .labelled, held-padded t p q l) k
+
+  subdivide-call : Kept (subdivideRule b (x .counts) (x .points) (x .quads) (x .labels) w f p q l)
+  unfolding subdivideRule subdivided projected
+  subdivide-call =
+      go (lengthsVerdict x w f) (sheetVerdict b (held x)) (isLarge c || isShort c p q l) refl (paired (length (held x .points)) (held x .quads)) (sheetVerdict b t) (every (landsAt b t) (length (t .points))) refl
+    where
+      c : Counts
+      c = countsOf (finerSheet (held x))
+
+      t : Sheet
+      t = smoothSheet (held x)
+
+      go : (u v : Verdict) (over : Bool) → (isLarge c || isShort c p q l) ≡ over → (pairs : Bool) (z : Verdict) (lands : Bool) → every (landsAt b t) (length (t .points)) ≡ lands
+          → Kept (afterLent u (afterLent v (cond over (refuses short) (cond pairs (afterLent z (cond lands (makes (projectedSheet b t)) (refuses astray))) (refuses edge)))))
+      go (Refused n) v over e pairs z lands h = refused-call n
+      go Accepted (Refused n) over e pairs z lands h = refused-call n
+      go Accepted Accepted true e pairs z lands h = refused-call short
+      go Accepted Accepted false e false z lands h = refused-call edge
+      go Accepted Accepted false e true (Refused n) lands h = refused-call n
+      go Accepted Accepted false e true Accepted false h = refused-call astray
+      go Accepted Accepted false e true Accepted true h = made-call (projectedSheet b t) (made-kept b (held x) a (or-left (isLarge c) (isShort c p q l) e) h)
+
+-- ---- every call
+
+one : (c : Call) → Good (held (lent c)) → Contract c → Keeps (held (lent c)) (held (left c)) (swapsIn c)
+unfolding cleanRule coarsenRule
+one (regularizeCall b k x w f r Q) a C =
+    let fits = swapFits b (held x .points) (held x .labels) in
+    swap-call 1 b k x a countIn (λ n. refl) (rw (uncapped (held x) fits k (accepted-of (held x) (a .fine))) (one-call (commands.regularizeCall true k (λ ps. swapFits b ps (held x .labels))) (held x) a)) (lengthsVerdict x w f) (sheetVerdict b (held x)) r Q C
+one (improveCall b k x w f r Q) a C =
+    swap-call 0 b k x a (λ r. 0) (λ n. refl) (one-call (commands.improveCall true k (λ ps. swapFits b ps (held x .labels))) (held x) a) (lengthsVerdict x w f) (sheetVerdict b (held x)) r Q C
+one (coarsenCall b k x w f r P Q L) a C = coarsen-call b k x a (lengthsVerdict x w f) (coarsen.passesVerdict b k (held x)) r P Q L C
+one (subdivideCall b x w f p q l r P Q L) a C = subdivide-call b x w f p q l a r P Q L C
+
+every-call : (s : Sheet) (cs : List Call) → Good s → Run s cs → Keeps s (after s cs) (swapsOf cs)
+every-call s [] a run = keeps-same s a
+every-call s (c ∷ cs) a (e, C, run) =
+    let k : Keeps s (held (left c)) (swapsIn c) = rw e at (one c (rw e a) C) in
+    keeps-trans s (held (left c)) (after (held (left c)) cs) (swapsIn c) (swapsOf cs) k (every-call (held (left c)) cs (k .good) run)
+
+-- ---- masks
+
+apart-of : (s : Sheet) → NoClash (s .quads) (s .labels) → Apart s
+unfolding NoClash Apart maskOf
+apart-of s c v j h low high =
+    let t = touched (2 * j) (omega arith) low in
+    let u = touched (2 * j + 1) (omega arith) high in
+    omega (arith, t, u, c v j t)
+  where
+    is-true : (b : Bool) → num b ≡ 1 → b ≡ true
+    is-true true e = refl
+    is-true false e = absurd (omega arith)
+
+    touched : (l : ℕ) → l ≤ 7 → Touches s v l → 0 < touches (s .quads) (s .labels) v l
+    touched l h e = ltb-true 0 _ (is-true _ (sym (bit-pack (hasLabel (s .quads) (s .labels) v) l h) ∙ e))
+
+-- ---- the last call
+
+module _ (b : Band) (k : ℕ) (x : Lent) (w f n : ℕ) (Q : List ℕ) (a : Good (held x)) (C : Contract (regularizeCall b k x w f (cleaned.Done n) Q)) where
+  abbrev passed : (lengthsVerdict x w f ≡ Accepted) × (sheetVerdict b (held x) ≡ Accepted)
+  passed = done-tested b k x w f n Q C
+
+  abbrev remain : List Quad
+  remain = swapSheet 1 b k (held x) .left
+
+  quads-are : Q ≡ padded 0 (length (x .quads)) (flatQuads remain)
+  unfolding cleanRule
+  quads-are = rw (passed .0, passed .1) at (C .quads)
+
+  quads-length : length Q ≡ length (x .quads)
+  quads-length = rw quads-are (length-padded 0 (length (x .quads)) (flatQuads remain)
+      (omega (arith, length-flat-quads remain, as-many 1 b k x a, lent-is (x .counts) (length (x .points)) (length (x .quads)) (length (x .labels)) w f (passed .0) .0 .quads)))
+
+  remain-is : quadsOf (x .counts .quads) Q ≡ remain
+  remain-is = rw quads-are (quads-padded remain (x .counts .quads) (length (x .quads)) (as-many 1 b k x a))
+
+  -- what is left passes the tests again
+  passes-again : sheetVerdict b (closed.withQuads (held x) remain) ≡ Accepted
+  passes-again = passes b _ (tested b (held x) (passed .1) .valid) (accepted-of _ (swaps-kept (held x) 1 (swapFits b (held x .points) (held x .labels)) k a .good .fine))
+
+  none-left : squaredOf (held x) < 2 * k → NoneLeft b k (withQuads x Q) w f
+  unfolding cleanRule
+  none-left h =
+      let fits = swapFits b (held x .points) (held x .labels) in
+      record {
+        no-swap = rw remain-is (regularize-done (held x) fits k a h);
+        again = λ r R L.
+            let v : lengthsVerdict (withQuads x Q) w f ≡ Accepted = rw quads-length (passed .0) in
+            let u : sheetVerdict b (held (withQuads x Q)) ≡ Accepted = rw remain-is passes-again in
+            let o : swapSheet 1 b k (held (withQuads x Q)) ≡ record { left = remain; count = 0 } = rw remain-is (regularize-again (held x) fits k a h k) in
+            let D : regularize.Leaves (cleans (record { left = remain; count = 0 })) Q r R = rw (v, u, o) at L in
+            (D .answer, D .quads ∙ rw quads-length (sym quads-are));
+      }
+
+-- ---- the theorem
+
+pub demand3 : (s : Sheet) (cs : List Call) → Sound s → Run s cs → Demand3 s cs
+demand3 s cs a run = go (every-call s cs (good-of s a) run)
+  where
+    go : Keeps s (after s cs) (swapsOf cs) → Demand3 s cs
+    go k = record {
+      sound = sound-of (after s cs) (k .good);
+      apart = apart-of (after s cs) (k .good .fine .no-clash);
+      euler = k .euler;
+      falls = k .falls;
+      last = λ b j x w f n Q e h C. none-left b j x w f n Q (rw e (k .good)) C h;
+    }

@@ -1,0 +1,91 @@
+-- An accepted call of `regularize` was lent an accepted sheet, and its answer is the number of its swaps. Assumes nothing.
+use Prim.Native.Nat.{ℕ}
+use mathlib.Core.Bool.{Bool, true, false, cond}
+use mathlib.Core.Path.{_≡_, refl, _∙_}
+use mathlib.Core.List.{List}
+use native.Mathlib.Omega.{arith}
+use lib.ListN.{length}
+use lib.Seq.{length-take-le}
+use borrow.Author.Tests.{le-ltb}
+use Rattle.band.specs.declared.Band.{Band}
+use Rattle.band.specs.Bands.{validOf}
+use Rattle.sheet.specs.declared.Verdict.{Verdict}
+use Rattle.sheet.specs.declared.Verdict.the-variants.{Accepted, Refused}
+use Rattle.sheet.specs.Numbers.{box, bare, corner, clash}
+use Rattle.sheet.specs.Sheet.{Sheet, limit, isLarge, isBare, lentVerdict, quadsVerdict, sheetVerdict}
+use Rattle.sheet.specs.Tests.{goodCorners, goodMasks}
+use Rattle.sheet.proofs.Flat.{length-quads}
+use Rattle.sheet.proofs.Tests.{lent-is, length-points}
+use Rattle.fits.specs.SwapFits.{swapFits}
+use Rattle.regularize.specs.declared.Cleaned.the-variants as cleaned
+use Rattle.regularize.specs.Rule.{Leaves, afterTests, swapSheet, cleanRule, cleans}
+use Rattle.closed.specs.Clean as closed
+use Rattle.calls.specs.Calls.{Lent, held, Contract, regularizeCall}
+use Rattle.calls.proofs.Caps.{uncapped}
+
+-- 12 and 13
+abbrev pub lengthsVerdict : Lent → ℕ → ℕ → Verdict
+lengthsVerdict x w f = lentVerdict (x .counts) (length (x .points)) (length (x .quads)) (length (x .labels)) w f
+
+-- 1, 5, 6 and 7 find nothing
+pub record Tested (b : Band) (s : Sheet) : Type 0 where
+  pub valid : validOf b ≡ true
+  pub not-bare : isBare s ≡ false
+  pub corners : goodCorners (length (s .points)) (s .quads) (s .labels) ≡ true
+  pub masks : goodMasks (length (s .points)) (s .quads) (s .labels) ≡ true
+
+pub tested : (b : Band) (s : Sheet) → sheetVerdict b s ≡ Accepted → Tested b s
+unfolding sheetVerdict quadsVerdict
+tested b s = go (validOf b) refl (isBare s) refl (goodCorners (length (s .points)) (s .quads) (s .labels)) refl (goodMasks (length (s .points)) (s .quads) (s .labels)) refl
+  where
+    go : (v : Bool) → validOf b ≡ v → (e : Bool) → isBare s ≡ e → (g : Bool) → goodCorners (length (s .points)) (s .quads) (s .labels) ≡ g → (m : Bool) → goodMasks (length (s .points)) (s .quads) (s .labels) ≡ m
+        → cond v (cond e (Refused bare) (cond g (cond m Accepted (Refused clash)) (Refused corner))) (Refused box) ≡ Accepted → Tested b s
+    go true pv false pe true pg true pm h = record { valid = pv; not-bare = pe; corners = pg; masks = pm }
+    go true pv false pe true pg false pm h = absurd (let z : _≡_ {A = ℕ} 0 1 = cc in omega arith)
+    go true pv false pe false pg m pm h = absurd (let z : _≡_ {A = ℕ} 0 1 = cc in omega arith)
+    go true pv true pe g pg m pm h = absurd (let z : _≡_ {A = ℕ} 0 1 = cc in omega arith)
+    go false pv e pe g pg m pm h = absurd (let z : _≡_ {A = ℕ} 0 1 = cc in omega arith)
+
+-- and the other way round
+pub passes : (b : Band) (s : Sheet) → validOf b ≡ true → closed.Accepted s → sheetVerdict b s ≡ Accepted
+unfolding sheetVerdict quadsVerdict
+passes b s v a = rw (v, a .not-bare, a .corners, a .masks)
+
+module _ (b : Band) (k : ℕ) (x : Lent) (w f n : ℕ) (Q : List ℕ) (C : Contract (regularizeCall b k x w f (cleaned.Done n) Q)) where
+  -- the call passed its tests
+  pub done-tested : (lengthsVerdict x w f ≡ Accepted) × (sheetVerdict b (held x) ≡ Accepted)
+  unfolding cleanRule
+  done-tested = go _ refl _ refl C
+    where
+      go : (u : Verdict) → lengthsVerdict x w f ≡ u → (v : Verdict) → sheetVerdict b (held x) ≡ v → Leaves (afterTests u (afterTests v (cleans (swapSheet 1 b k (held x))))) (x .quads) (cleaned.Done n) Q
+          → (lengthsVerdict x w f ≡ Accepted) × (sheetVerdict b (held x) ≡ Accepted)
+      go (Refused i) eu v ev L = absurd (let z : _≡_ {A = ℕ} 0 1 = cc (L .answer) in omega arith)
+      go Accepted eu (Refused i) ev L = absurd (let z : _≡_ {A = ℕ} 0 1 = cc (L .answer) in omega arith)
+      go Accepted eu Accepted ev L = (eu, ev)
+
+  done-accepted : closed.Accepted (held x)
+  unfolding isLarge
+  done-accepted =
+      let T = tested b (held x) (done-tested .1) in
+      let L = lent-is (x .counts) (length (x .points)) (length (x .quads)) (length (x .labels)) w f (done-tested .0) .0 in
+      record {
+        not-large = rw (
+          length-points (x .counts .points) (x .points),
+          length-quads (x .counts .quads) (x .quads),
+          length-take-le (x .counts .labels) (x .labels) (L .labels),
+          le-ltb limit (x .counts .points) (L .few .points≤),
+          le-ltb limit (x .counts .quads) (L .few .quads≤),
+          le-ltb limit (x .counts .labels) (L .few .labels≤),
+        );
+        not-bare = T .not-bare;
+        corners = T .corners;
+        masks = T .masks;
+      }
+
+  -- "Regularize's count is the swaps made in all its passes", on every accepted sheet
+  pub done-count : n ≡ swapSheet 1 b k (held x) .count
+  unfolding cleanRule
+  done-count =
+      let A : Leaves (cleans (swapSheet 1 b k (held x))) (x .quads) (cleaned.Done n) Q = rw (done-tested .0, done-tested .1) at C in
+      let e : cleaned.Done n ≡ cleaned.Done (swapSheet 1 b k (held x) .count) = A .answer ∙ rw (uncapped (held x) (swapFits b (held x .points) (held x .labels)) k done-accepted) in
+      cc

@@ -1,0 +1,2 @@
+-- `Cleanings` has the laws of the definitions of the same name.
+pub mod Cleanings

@@ -1,0 +1,2 @@
+-- `Coarsenings` has the laws of the definitions of the same name.
+pub mod Coarsenings

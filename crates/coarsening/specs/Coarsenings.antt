@@ -1,0 +1,49 @@
+-- What the export of `coarsen` says in numbers: the number of a refusal, 0 if accepted, the merges and the counts of the sheet in the answer slice.
+use Prim.Native.Nat.{ℕ}
+use mathlib.Core.Path.{_≡_}
+use mathlib.Core.Bool.{cond}
+use mathlib.Core.List.{List}
+use lib.Dec.{ltb}
+use lib.ListN.{length}
+use lib.Ieee.{Float}
+use Rattle.sheet.specs.declared.Counts.{Counts}
+use Rattle.sheet.specs.Numbers.{short}
+use Rattle.exports.specs.Given.{bandOf, bandVerdict}
+use Rattle.exports.specs.Answers.{answered}
+use Rattle.coarsen.specs.declared.Coarsened.{Coarsened}
+use Rattle.coarsen.specs.declared.Coarsened.the-variants.{Done, Refused}
+use Rattle.coarsen.specs.Rule.{Outcome, refuses, coarsenRule, afterTests, answerOf, Leaves}
+
+-- the number of an answer: 0 if accepted
+unfoldable pub coarsenedNumber : Coarsened → ℕ
+coarsenedNumber (Done m) = 0
+coarsenedNumber (Refused n) = n
+
+-- its merges: 0 if refused
+unfoldable pub coarsenedCount : Coarsened → ℕ
+coarsenedCount (Done m) = m .count
+coarsenedCount (Refused n) = 0
+
+-- the counts of the sheet that is left: none if refused
+unfoldable pub coarsenedCounts : Coarsened → Counts
+coarsenedCounts (Done m) = m .sheet
+coarsenedCounts (Refused n) = record { points = 0; quads = 0; labels = 0 }
+
+-- `coarsen` with a band as an export is given it: 13 and 1 of the band come first
+unfoldable pub coarsenBy : List Float → List ℕ → List ℕ → Counts → ℕ → List Float → List Float → Float → Float → ℕ → ℕ → ℕ → Outcome
+coarsenBy P Q labels c kind numbers bounds lower upper k w f =
+    afterTests (bandVerdict kind (length numbers) (length bounds)) (coarsenRule (bandOf kind numbers bounds lower upper) k c P Q labels w f)
+
+-- an answer slice of n elements: fewer than 4 are too short, 13
+abbrev pub coarsenRoom : ℕ → Outcome → Outcome
+coarsenRoom n o = cond (ltb n 4) (refuses short) o
+
+-- the answer slice l at the end: untouched if it is too short
+unfoldable pub mergesLeft : Outcome → List ℕ → List ℕ
+mergesLeft o l = cond (ltb (length l) 4) l (answered (coarsenedCount (answerOf o)) (coarsenedCounts (answerOf o)) l)
+
+-- the number n of the export, and the slices P′, Q′, L′ and the answer l′ at its end, P, Q, L and l being those that it was lent
+pub record Coarsens (o : Outcome) (P : List Float) (Q L l : List ℕ) (n : ℕ) (P′ : List Float) (Q′ L′ l′ : List ℕ) : Type 0 where
+  pub number : n ≡ coarsenedNumber (answerOf (coarsenRoom (length l) o))
+  pub leaves : Leaves (coarsenRoom (length l) o) P Q L (answerOf (coarsenRoom (length l) o)) P′ Q′ L′
+  pub answer : l′ ≡ mergesLeft o l

@@ -1,0 +1,115 @@
+// `coarsen` with a band as an export is given it, and what the export shows of its answer.
+
+use coarsen::Coarsened;
+use sheet::Counts;
+use sheet::Verdict;
+ghost use mathlib.Core.Path.{_≡_};
+ghost use lib.ListN.{length, replicate};
+ghost use Rattle.numeric.specs.Num.{zeroF};
+ghost use Rattle.coarsen.specs.Rule.{Leaves};
+ghost use Rattle.coarsening.specs.Coarsenings.{coarsenedNumber, coarsenedCount, coarsenedCounts, coarsenBy, Coarsens};
+
+// The number of an answer: 0 if accepted.
+fn coarsened_number(r: Coarsened) -> u32
+    ensures { λ n. ⌜ n ≡ coarsenedNumber r ⌝ }
+{
+    match r {
+        Coarsened::Done(_) => 0,
+        Coarsened::Refused(n) => n,
+    }
+}
+
+// Its merges: 0 if refused.
+fn coarsened_count(r: Coarsened) -> usize
+    ensures { λ n. ⌜ n ≡ coarsenedCount r ⌝ }
+{
+    match r {
+        Coarsened::Done(m) => m.count,
+        Coarsened::Refused(_) => 0,
+    }
+}
+
+// The counts of the sheet that is left; a refusal shows none.
+fn coarsened_counts(r: Coarsened) -> Counts
+    ensures { λ n. ⌜ n ≡ coarsenedCounts r ⌝ }
+{
+    match r {
+        Coarsened::Done(m) => m.sheet,
+        Coarsened::Refused(_) => Counts {
+            points: 0,
+            quads: 0,
+            labels: 0,
+        },
+    }
+}
+
+// `coarsen` with the band that is given.
+fn coarsen_by(
+    points: &mut [f64],
+    quads: &mut [u32],
+    labels: &mut [u8],
+    c: Counts,
+    kind: u32,
+    numbers: &[f64],
+    bounds: &[f64],
+    lower: f64,
+    upper: f64,
+    passes: usize,
+    work: &mut [u32],
+    floats: &mut [f64],
+) -> Coarsened
+    ensures { λ r. ⌜ Leaves (coarsenBy (now (points .entry)) (now (quads .entry)) (now (labels .entry)) c kind (now (numbers .entry)) (now (bounds .entry)) lower upper passes (length (now (work .entry))) (length (now (floats .entry)))) (now (points .entry)) (now (quads .entry)) (now (labels .entry)) r (now (points .exit)) (now (quads .exit)) (now (labels .exit)) ⌝ }
+    ensures { λ _. ⌜ now (work .exit) ≡ replicate (length (now (work .entry))) 0 ⌝ }
+    ensures { λ _. ⌜ now (floats .exit) ≡ replicate (length (now (floats .entry))) zeroF ⌝ }
+{
+    let v = exports::band_verdict(kind, numbers.len(), bounds.len());
+    if let Verdict::Refused(n) = v {
+        results::clear_work(work, floats);
+        return Coarsened::Refused(n);
+    }
+    let b = exports::band_of(kind, numbers, bounds, lower, upper);
+    coarsen::coarsen(b, passes, c, points, quads, labels, work, floats)
+}
+
+// The same with its number and its answer slice.
+pub fn coarsen_answered(
+    points: &mut [f64],
+    quads: &mut [u32],
+    labels: &mut [u8],
+    c: Counts,
+    kind: u32,
+    numbers: &[f64],
+    bounds: &[f64],
+    lower: f64,
+    upper: f64,
+    passes: usize,
+    work: &mut [u32],
+    floats: &mut [f64],
+    answer: &mut [u64],
+) -> u32
+    ensures { λ r. ⌜ Coarsens (coarsenBy (now (points .entry)) (now (quads .entry)) (now (labels .entry)) c kind (now (numbers .entry)) (now (bounds .entry)) lower upper passes (length (now (work .entry))) (length (now (floats .entry)))) (now (points .entry)) (now (quads .entry)) (now (labels .entry)) (now (answer .entry)) r (now (points .exit)) (now (quads .exit)) (now (labels .exit)) (now (answer .exit)) ⌝ }
+    ensures { λ _. ⌜ now (work .exit) ≡ replicate (length (now (work .entry))) 0 ⌝ }
+    ensures { λ _. ⌜ now (floats .exit) ≡ replicate (length (now (floats .entry))) zeroF ⌝ }
+{
+    if answer.len() < 4 {
+        results::clear_work(work, floats);
+        return sheet::SHORT;
+    }
+    let r = coarsen_by(
+        points,
+        quads,
+        labels,
+        c,
+        kind,
+        numbers,
+        bounds,
+        lower,
+        upper,
+        passes,
+        work,
+        floats,
+    );
+    let count = coarsened_count(r) as u64;
+    exports::put_answer(answer, count, coarsened_counts(r));
+    coarsened_number(r)
+}

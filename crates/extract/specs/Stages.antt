@@ -1,0 +1,18 @@
+-- The stages of extraction, from the last to the first: what is left of its rule once the tests before have passed.
+use Prim.Native.Nat.{ℕ, _+_}
+use mathlib.Core.Bool.{cond, not}
+use lib.ListN.{length}
+use Rattle.sheet.specs.Tests.{goodMasks}
+use Rattle.sheet.specs.Numbers.{bare, clash}
+use Rattle.sheet.specs.Sheet.{Sheet, isBare}
+use Rattle.results.specs.Results.{Outcome, refuses, makes}
+use Rattle.sampling.specs.declared.Grid.{Grid}
+use Rattle.drawing.specs.Drawing.{samplesNumber, finiteSamples, drawnSheet, drawnOr}
+
+-- 5, 7
+unfoldable pub testedOr : Sheet → Outcome
+testedOr s = cond (isBare s) (refuses bare) (cond (goodMasks (length (s .points)) (s .quads) (s .labels)) (makes s) (refuses clash))
+
+-- 4, 13 (result), 5, 7
+unfoldable pub sampledOr : Grid → ℕ → ℕ → ℕ → ℕ → Outcome
+sampledOr g n p q l = cond (not (finiteSamples g (n + 1))) (refuses samplesNumber) (drawnOr (drawnSheet g n) p q l)

@@ -1,0 +1,4 @@
+pub mod Rows
+pub mod Dual
+pub mod Turns
+pub mod Good
