@@ -40,7 +40,7 @@ fn one(random: &mut Random, sheets: &[(quads::Sheet, quads::Band)]) -> (Operatio
 
 #[test]
 fn damaged_calls_are_answered() {
-    let (calls, seed) = (number("QUADS_CALLS", 4000), number("QUADS_SEED", 1));
+    let (calls, seed) = (number("QUADS_CALLS", 20_000), number("QUADS_SEED", 1));
     let (sheets, mut random) = (inputs::sheets(), Random(seed));
     let mut answered = [[0_usize; 14]; 8];
     for call in 0..calls {
