@@ -55,6 +55,35 @@ fn same_made(
         && words::same_sheet(bytes, result_at(n), made, points, quads, labels)
 }
 
+// Whether an answer is the stored one: its number and, if it is accepted, its count and its sheet.
+fn same_answer(
+    bytes: &[u8],
+    n: Sizes,
+    got: u32,
+    number: u64,
+    answer: &[u64; 4],
+    points: &[f64],
+    quads: &[u32],
+    labels: &[u8],
+) -> bool
+    requires { ⌜ Small n ⌝ }
+{
+    if got != 0 || number != 0 {
+        return got as u64 == number;
+    }
+    answer[0] == numbers::word_at(bytes, 16)
+        && same_made(
+            bytes,
+            n,
+            answer[1],
+            answer[2],
+            answer[3],
+            points,
+            quads,
+            labels,
+        )
+}
+
 // Calls `refine` or, as operation 2, `subdivide` with the band in k: the number of its answer.
 fn ask_finer(
     operation: u64,
@@ -110,8 +139,64 @@ fn ask_finer(
     )
 }
 
-// Whether `refine` or `subdivide` answers as the record says; k holds the band.
-fn finer(bytes: &[u8], operation: u64, n: Sizes, k: &[f64], number: u64) -> bool
+// Calls `boundary_rows`, as operation 7, or one of those two: the number of its answer.
+fn ask_made(
+    operation: u64,
+    n: Sizes,
+    kind: u32,
+    k: &[f64],
+    points: &[f64],
+    corners: &[u32],
+    labels: &[u8],
+    new_points: &mut [f64],
+    new_corners: &mut [u32],
+    new_labels: &mut [u8],
+    work: &mut [u32],
+    floats: &mut [f64],
+    answer: &mut [u64],
+) -> u32
+    requires { ⌜ 18 ≤ length (now k) ⌝ }
+{
+    if operation == 7 {
+        return quads::quads_boundary_rows(
+            points,
+            corners,
+            labels,
+            n.points,
+            n.quads,
+            n.labels,
+            kind,
+            &k[0..10],
+            &k[10..16],
+            k[16],
+            k[17],
+            new_points,
+            new_corners,
+            new_labels,
+            work,
+            floats,
+            answer,
+        );
+    }
+    ask_finer(
+        operation,
+        n,
+        kind,
+        k,
+        points,
+        corners,
+        labels,
+        new_points,
+        new_corners,
+        new_labels,
+        work,
+        floats,
+        answer,
+    )
+}
+
+// Whether `refine`, `subdivide` or `boundary_rows` answers as the record says; k holds the band.
+fn made(bytes: &[u8], operation: u64, n: Sizes, k: &[f64], number: u64) -> bool
     requires { ⌜ Small n ⌝ }
     requires { ⌜ 18 ≤ length (now k) ⌝ }
 {
@@ -125,7 +210,7 @@ fn finer(bytes: &[u8], operation: u64, n: Sizes, k: &[f64], number: u64) -> bool
     let mut work = [0u32; 8192];
     let mut floats = [0.0; 2048];
     let mut answer = [0u64; 4];
-    let got = ask_finer(
+    let got = ask_made(
         operation,
         n,
         numbers::byte_at(bytes, 7) as u32,
@@ -140,18 +225,98 @@ fn finer(bytes: &[u8], operation: u64, n: Sizes, k: &[f64], number: u64) -> bool
         &mut floats,
         &mut answer,
     );
-    got as u64 == number
-        && (got != 0
-            || same_made(
-                bytes,
-                n,
-                answer[1],
-                answer[2],
-                answer[3],
-                &new_points,
-                &new_corners,
-                &new_labels,
-            ))
+    same_answer(
+        bytes,
+        n,
+        got,
+        number,
+        &answer,
+        &new_points,
+        &new_corners,
+        &new_labels,
+    )
+}
+
+// Calls `regularize` or, as operation 5, `improve_layout` with the band in k: the number of its answer.
+fn ask_swaps(
+    operation: u64,
+    passes: usize,
+    n: Sizes,
+    kind: u32,
+    k: &[f64],
+    points: &[f64],
+    corners: &mut [u32],
+    labels: &[u8],
+    work: &mut [u32],
+    floats: &mut [f64],
+    answer: &mut [u64],
+) -> u32
+    requires { ⌜ 18 ≤ length (now k) ⌝ }
+{
+    if operation == 4 {
+        return quads::quads_regularize(
+            points,
+            corners,
+            labels,
+            n.points,
+            n.quads,
+            n.labels,
+            kind,
+            &k[0..10],
+            &k[10..16],
+            k[16],
+            k[17],
+            passes,
+            work,
+            floats,
+            answer,
+        );
+    }
+    quads::quads_improve_layout(
+        points,
+        corners,
+        labels,
+        n.points,
+        n.quads,
+        n.labels,
+        kind,
+        &k[0..10],
+        &k[10..16],
+        k[16],
+        k[17],
+        passes,
+        work,
+        floats,
+        answer,
+    )
+}
+
+// Whether `regularize` or `improve_layout` answers as the record says; k holds the band.
+fn swapped(bytes: &[u8], operation: u64, n: Sizes, k: &[f64], number: u64) -> bool
+    requires { ⌜ Small n ⌝ }
+    requires { ⌜ 18 ≤ length (now k) ⌝ }
+{
+    let mut points = [0.0; 192];
+    let mut corners = [0u32; 256];
+    let mut labels = [0u8; 64];
+    sheets::load(bytes, n, &mut points, &mut corners, &mut labels);
+    let mut work = [0u32; 8192];
+    let mut floats = [0.0; 2048];
+    let mut answer = [0u64; 4];
+    let got = ask_swaps(
+        operation,
+        numbers::word_at(bytes, 8) as usize,
+        n,
+        numbers::byte_at(bytes, 7) as u32,
+        k,
+        &points,
+        &mut corners,
+        &labels,
+        &mut work,
+        &mut floats,
+        &mut answer,
+    );
+    same_answer(bytes, n, got, number, &answer, &points, &corners, &labels)
 }
 
 // Whether eight counts, and then tight and valid, are those of a record's result from a place on.
@@ -234,8 +399,11 @@ fn agrees_on(bytes: &[u8], n: Sizes, operation: u64, number: u64) -> bool
     let mut k = [0.0; 18];
     numbers::load_floats(bytes, BAND, &mut k);
     match operation {
-        1 => finer(bytes, operation, n, &k, number),
-        2 => finer(bytes, operation, n, &k, number),
+        1 => made(bytes, operation, n, &k, number),
+        2 => made(bytes, operation, n, &k, number),
+        4 => swapped(bytes, operation, n, &k, number),
+        5 => swapped(bytes, operation, n, &k, number),
+        7 => made(bytes, operation, n, &k, number),
         8 => quality(bytes, n, &k, number),
         _ => false,
     }

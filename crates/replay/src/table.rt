@@ -5,6 +5,9 @@ fn print_name(operation: usize) {
     match operation {
         1 => io::write_all(1, b"refine "),
         2 => io::write_all(1, b"subdivide "),
+        4 => io::write_all(1, b"regularize "),
+        5 => io::write_all(1, b"improve_layout "),
+        7 => io::write_all(1, b"boundary_rows "),
         8 => io::write_all(1, b"quality "),
         9 => io::write_all(1, b"project "),
         10 => io::write_all(1, b"value "),

@@ -17,7 +17,8 @@ macro_rules! export {
     ($name:ident [$($list:tt)*] band $($rest:ident)*) => {
         export!($name [$($list)* kind: u32, numbers: *const f64, kn: usize, bounds: *const f64, bn: usize, lower: f64, upper: f64,] $($rest)*);
     };
-    ($name:ident [$($list:tt)*] passes $($rest:ident)*) => { export!($name [$($list)* passes: usize,] $($rest)*); };
+    // passes or cells
+    ($name:ident [$($list:tt)*] number $($rest:ident)*) => { export!($name [$($list)* number: usize,] $($rest)*); };
     // the result slices of a made sheet
     ($name:ident [$($list:tt)*] made $($rest:ident)*) => {
         export!($name [$($list)* rp: *mut f64, rpn: usize, rq: *mut u32, rqn: usize, rl: *mut u8, rln: usize,] $($rest)*);
@@ -32,8 +33,10 @@ macro_rules! export {
 export!(quads_refine [] sheet made work);
 export!(quads_subdivide [] sheet band made work);
 export!(quads_boundary_rows [] sheet band made work);
-export!(quads_regularize [] own_quads band passes work);
-export!(quads_improve_layout [] own_quads band passes work);
+export!(quads_extract_candidate [] band number made work);
+export!(quads_regularize [] own_quads band number work);
+export!(quads_improve_layout [] own_quads band number work);
+export!(quads_coarsen [] own_sheet band number work);
 export!(quads_quality [] sheet band work measures);
 
 /// Calls an export: each group in turn adds its arguments to the list.
@@ -47,7 +50,7 @@ macro_rules! call {
         let b = &$lent.band;
         call!($lent.$name [$($list,)* b.kind, b.numbers.as_ptr(), b.numbers.len(), b.bounds.as_ptr(), b.bounds.len(), b.lower, b.upper,] $($rest)*)
     }};
-    ($lent:ident.$name:ident [$($list:expr,)*] passes $($rest:ident)*) => { call!($lent.$name [$($list,)* $lent.passes,] $($rest)*) };
+    ($lent:ident.$name:ident [$($list:expr,)*] number $($rest:ident)*) => { call!($lent.$name [$($list,)* $lent.argument,] $($rest)*) };
     ($lent:ident.$name:ident [$($list:expr,)*] made $($rest:ident)*) => {{
         let r = &mut $lent.result;
         call!($lent.$name [$($list,)* r.points.as_mut_ptr(), r.points.len(), r.quads.as_mut_ptr(), r.quads.len(), r.labels.as_mut_ptr(), r.labels.len(),] $($rest)*)

@@ -2,6 +2,21 @@
 use oracle::field::BandNumbers;
 use oracle::quads::QuadMesh;
 
+/// The most points, quads or labels of a sheet.
+pub const LIMIT: usize = 1_048_576;
+
+/// The cells that a drawing may have.
+const CELLS: std::ops::RangeInclusive<usize> = 4..=128;
+
+/// The most points, quads and labels of a drawn sheet: four points in a cell, three edges at a grid point, up to the limit.
+pub fn drawn(cells: usize) -> [usize; 3] {
+    if !CELLS.contains(&cells) {
+        return [1; 3];
+    }
+    let cube = (cells + 2).pow(3);
+    [4 * cube, 3 * cube, 3 * cube].map(|n| n.min(LIMIT))
+}
+
 /// A sheet in flat lists, with its counts.
 #[derive(Clone)]
 pub struct Flat {
@@ -93,6 +108,13 @@ impl Work {
     pub fn of([points, quads, _]: [usize; 3]) -> Work {
         let n = points + quads;
         Work { whole: vec![u32::MAX; 64 * n], floats: vec![f64::NAN; 16 * n] }
+    }
+
+    /// What it asks for a drawing of this many cells; next to nothing where so many are not allowed.
+    pub fn drawing(cells: usize) -> Work {
+        let [whole, floats] =
+            if CELLS.contains(&cells) { [12 * (cells + 2).pow(3), (cells + 3).pow(3)] } else { [1, 1] };
+        Work { whole: vec![u32::MAX; whole], floats: vec![f64::NAN; floats] }
     }
 
     /// Whether both are zero.

@@ -1,4 +1,8 @@
 //! The operations of the static library `quads`, as Rust calls them.
+pub mod chain;
+pub mod closed;
+pub mod draws;
 pub mod exports;
 pub mod flat;
 pub mod library;
+pub mod lists;

@@ -1,15 +1,19 @@
 //! A call of the library: everything it is lent, and what it answers.
 use crate::exports::call;
-use crate::flat::{Flat, FlatBand, Work};
-use oracle::call::{Answer, Call, Operation};
+use crate::flat::{self, Flat, FlatBand, Work};
+use oracle::call::{Answer, Call, Operation, original};
 use oracle::quads::Quality;
+
+/// The number of a refusal for want of room.
+const SHORT: u8 = 13;
 
 /// All that an operation is lent; what it writes is filled with what must be overwritten.
 pub struct Lent {
     sheet: Flat,
     /// The sheet as it came.
     came: Flat,
-    passes: usize,
+    /// Passes or cells.
+    argument: usize,
     band: FlatBand,
     result: Flat,
     work: Work,
@@ -18,22 +22,30 @@ pub struct Lent {
 }
 
 impl Lent {
-    /// What the call lends; a sheet that is to be made has room for what it can be and some more.
+    /// What a call lends, its sheet in slices of its own.
     pub fn of(call: &Call) -> Lent {
-        let sheet = Flat::with_tails(&call.sheet);
+        Lent::on(Flat::with_tails(&call.sheet), call)
+    }
+
+    /// What a call lends, its sheet in these slices; a sheet that is to be made has room for what it can be and some more.
+    pub fn on(sheet: Flat, call: &Call) -> Lent {
         let [points, quads, _] = sheet.counts;
+        let argument = call.argument as usize;
         let room = match call.operation {
             Operation::Refine | Operation::Subdivide => [points + 5 * quads + 1, 4 * quads + 1, 4 * quads + 1],
             Operation::Rows => [5 * points + 1, 5 * quads + 1, 5 * quads + 1],
+            Operation::Extract => flat::drawn(argument),
             _ => [0; 3],
         };
+        let drawing = call.operation == Operation::Extract;
+        let work = if drawing { Work::drawing(argument) } else { Work::of(sheet.counts) };
         Lent {
-            work: Work::of(sheet.counts),
             came: sheet.clone(),
             sheet,
-            passes: call.argument as usize,
+            argument,
             band: FlatBand::of(&call.band),
             result: Flat::room(room),
+            work,
             answer: [u64::MAX; 10],
             measures: [f64::NAN; 4],
         }
@@ -47,18 +59,24 @@ impl Lent {
                 Operation::Refine => Some(call!(self.quads_refine [] sheet made work)),
                 Operation::Subdivide => Some(call!(self.quads_subdivide [] sheet band made work)),
                 Operation::Rows => Some(call!(self.quads_boundary_rows [] sheet band made work)),
-                Operation::Regularize => Some(call!(self.quads_regularize [] sheet band passes work)),
-                Operation::ImproveLayout => Some(call!(self.quads_improve_layout [] sheet band passes work)),
+                Operation::Extract => Some(call!(self.quads_extract_candidate [] band number made work)),
+                Operation::Regularize => Some(call!(self.quads_regularize [] sheet band number work)),
+                Operation::ImproveLayout => Some(call!(self.quads_improve_layout [] sheet band number work)),
+                Operation::Coarsen => Some(call!(self.quads_coarsen [] sheet band number work)),
                 Operation::Quality => Some(call!(self.quads_quality [] sheet band work measures)),
                 _ => None,
             }
         }
     }
 
-    /// The sheet that an operation made; none if something is left behind it.
-    fn made(&self) -> Option<Answer> {
-        let counts = [self.answer[1], self.answer[2], self.answer[3]].map(|n| n as usize);
-        Some(Answer::sheet(self.answer[0] as usize, &self.result.sheet(counts)?))
+    /// The counts of the sheet that was made or altered.
+    fn counts(&self) -> [usize; 3] {
+        [self.answer[1], self.answer[2], self.answer[3]].map(|n| n as usize)
+    }
+
+    /// The sheet that an operation made or altered in all its slices; none if something is left behind it.
+    fn sheet_in(&self, slices: &Flat) -> Option<Answer> {
+        Some(Answer::sheet(self.answer[0] as usize, &slices.sheet(self.counts())?))
     }
 
     /// The sheet whose quads an operation altered; none if anything else is not as it came, or something is left behind the quads.
@@ -102,18 +120,42 @@ impl Lent {
         self.answer[..answers].iter().all(|&n| n == 0) && measures && self.result.sheet([0; 3]).is_some()
     }
 
+    /// Whether the lent sheet is as it came, which only an accepted clean-up may change.
+    fn is_kept(&self) -> bool {
+        self.sheet.same(&self.came)
+    }
+
     /// The answer to a call that ended with this number; none if it left something behind.
-    fn answer(&self, operation: Operation, number: u32) -> Option<Answer> {
+    pub fn answer(&self, operation: Operation, number: u32) -> Option<Answer> {
         match (number, operation) {
             _ if !self.work.is_zero() => None,
-            (0, Operation::Quality) => self.measured(),
             (0, Operation::Regularize | Operation::ImproveLayout) => self.swapped(),
-            (0, _) => self.made(),
-            (number, _) => {
-                (self.sheet.same(&self.came) && self.is_bare(operation)).then(|| Answer::refused(number as u8))
-            }
+            (0, Operation::Coarsen) => self.sheet_in(&self.sheet),
+            _ if !self.is_kept() => None,
+            (0, Operation::Quality) => self.measured(),
+            (0, _) => self.sheet_in(&self.result),
+            _ => self.is_bare(operation).then(|| Answer::refused(number as u8)),
         }
     }
+
+    /// The slices of the sheet that a call with this number leaves for the next one.
+    pub fn left(self, operation: Operation, number: u8) -> Flat {
+        let counts = self.counts();
+        match operation {
+            _ if number != 0 || operation == Operation::Quality => self.sheet,
+            Operation::Regularize | Operation::ImproveLayout | Operation::Coarsen => Flat { counts, ..self.sheet },
+            _ => Flat { counts, ..self.result },
+        }
+    }
+}
+
+/// What document 01 expects: what the original answers, but no room for a drawn sheet above the limit.
+pub fn expected(call: &Call) -> Answer {
+    let answer = original(call);
+    if call.operation == Operation::Extract && answer.counts.iter().any(|&n| n as usize > flat::LIMIT) {
+        return Answer::refused(SHORT);
+    }
+    answer
 }
 
 /// What the library answers, or none where it has no such export yet or left something behind.

@@ -60,8 +60,7 @@ pub fn call(r: &mut Random, operation: Operation) -> Call {
             Call { operation, argument: 0, band, sheet: sheets::empty() }
         }
         Operation::Extract => {
-            let argument = r.pick(&[0, 3, 4, 5, 6, 129]);
-            Call { operation, argument, band: bands::any_band(r), sheet: sheets::empty() }
+            Call { operation, argument: drawn::cells(r), band: drawn::any_band(r), sheet: sheets::empty() }
         }
         Operation::Constraints => Call { argument: 0, ..on_sheet(r, operation) },
         Operation::Refine => on_sheet(r, operation),

@@ -92,6 +92,13 @@ fn sheet_of(words: &[u64], points: usize, quads: usize, labels: usize) -> Option
     Some((sheet, rest))
 }
 
+/// The sheet that an accepted answer holds as its words; none where it holds something else.
+pub fn sheet_in(answer: &Answer) -> Option<QuadMesh> {
+    let [points, quads, labels] = answer.counts.map(|n| n as usize);
+    let (sheet, rest) = sheet_of(&answer.words, points, quads, labels)?;
+    (answer.number == 0 && rest.is_empty()).then_some(sheet)
+}
+
 /// The record of these words, or none if they are not one.
 pub fn decode(words: &[u64]) -> Option<Record> {
     let (head, body) = words.split_at_checked(HEAD)?;
@@ -181,6 +188,16 @@ mod tests {
         assert!(read(&bytes[..bytes.len() - 8]).is_err());
         assert!(read(&bytes[..3]).is_err());
         assert!(read(&[&bytes[..], &[0; 8]].concat()).is_err());
+    }
+
+    #[test]
+    fn an_answer_gives_its_sheet_back() {
+        use crate::{bands, sheets};
+        let on = |operation, sheet| Call { operation, argument: 1, band: bands::UNIT, sheet };
+        let finer = original(&on(Operation::Refine, sheets::cube()));
+        assert_eq!(Answer::sheet(0, &sheet_in(&finer).unwrap()), finer);
+        assert!(sheet_in(&original(&on(Operation::Quality, sheets::cube()))).is_none());
+        assert!(sheet_in(&original(&on(Operation::Subdivide, sheets::empty()))).is_none());
     }
 
     #[test]

@@ -5,7 +5,7 @@ use crate::field::{BandNumbers, Field};
 use crate::quads::QuadMesh;
 use crate::random::Random;
 use crate::record::{Record, shortened};
-use crate::{Point, inputs, sheets};
+use crate::{Point, drawn, inputs, patches, sheets};
 
 /// The seed of the sample that the repository holds.
 pub const SEED: u64 = 2026;
@@ -26,6 +26,15 @@ const SHEETS: usize = 60;
 /// How many random calls of each operation on a sheet the sample holds.
 const OPERATIONS: [(Operation, usize); 3] =
     [(Operation::Refine, 40), (Operation::Subdivide, 80), (Operation::Quality, 60)];
+
+/// The clean-ups and the rows.
+const CLEANINGS: [Operation; 3] = [Operation::Regularize, Operation::ImproveLayout, Operation::Rows];
+
+/// How many random sheets of each kind the sample holds for each of them: drawn, turned, opened, and any.
+const CLEANED: [usize; 4] = [8, 12, 6, 20];
+
+/// The numbers of passes.
+const PASSES: [u64; 5] = [0, 1, 2, 3, 1000];
 
 /// The roots of document 01, of zeros, of limits and of what has no root.
 const ROOTS: [f64; 20] = [
@@ -169,11 +178,60 @@ fn operations(seed: u64) -> Vec<Record> {
     calls.into_iter().map(record).collect()
 }
 
+/// A drawn sheet or the patch of squares, some edges turned.
+fn turned_sheet(r: &mut Random) -> (BandNumbers, QuadMesh) {
+    let (band, mut sheet) = if r.one_in(2) { drawn::small(r) } else { (patches::BAND, patches::squares()) };
+    for _ in 0..2 + r.below(6) {
+        sheets::turn(r, &mut sheet);
+    }
+    (band, sheet)
+}
+
+/// A drawn sheet that is open.
+fn opened_sheet(r: &mut Random) -> (BandNumbers, QuadMesh) {
+    let (band, mut sheet) = drawn::small(r);
+    sheets::open(r, &mut sheet);
+    (band, sheet)
+}
+
+/// The changed cubes and bands, the starred patches, and two pillows at one point.
+fn fixed_sheets() -> Vec<(BandNumbers, QuadMesh)> {
+    let mut all: Vec<_> = changed_cubes().into_iter().map(|sheet| (UNIT, sheet)).collect();
+    all.extend(changed_bands().map(|band| (band, sheets::pillow())));
+    all.extend(patches::all().map(|sheet| (patches::BAND, sheet)));
+    all.push((UNIT, sheets::pillows()));
+    all
+}
+
+/// Random small sheets for an operation.
+fn random_sheets(r: &mut Random, operation: Operation) -> Vec<(BandNumbers, QuadMesh)> {
+    let [drawn, turned, opened, any] = CLEANED;
+    let mut all: Vec<_> = (0..drawn).map(|_| drawn::small(r)).collect();
+    all.extend((0..turned).map(|_| turned_sheet(r)));
+    all.extend((0..opened).map(|_| opened_sheet(r)));
+    let calls = std::iter::repeat_with(|| inputs::call(r, operation)).filter(|call| is_small(&call.sheet));
+    all.extend(calls.take(any).map(|call| (call.band, call.sheet)));
+    all
+}
+
+/// The clean-ups and the rows: one pass on the fixed sheets, several on the random ones.
+fn cleanings(seed: u64) -> Vec<Record> {
+    let mut r = Random::new(seed);
+    let mut calls = vec![];
+    for operation in CLEANINGS {
+        let on = |(argument, (band, sheet))| Call { operation, argument, band, sheet };
+        calls.extend(std::iter::repeat(1).zip(fixed_sheets()).map(on));
+        calls.extend(PASSES.into_iter().cycle().zip(random_sheets(&mut r, operation)).map(on));
+    }
+    calls.into_iter().map(record).collect()
+}
+
 /// The sample of a seed.
 pub fn records(seed: u64) -> Vec<Record> {
     let mut records = leaves(seed);
     records.extend(constraints(seed));
     records.extend(operations(seed));
+    records.extend(cleanings(seed));
     records
 }
 
@@ -197,9 +255,31 @@ mod tests {
         let refine = [0, 5, 6].map(|number| (Refine, number));
         let subdivide = [0, 1, 5, 6, 7, 8, 9].map(|number| (Subdivide, number));
         let quality = [0, 1, 5, 6, 7, 11].map(|number| (Quality, number));
-        let expected =
-            leaf.into_iter().chain(tests).chain(sheet).chain(refine).chain(subdivide).chain(quality).collect();
+        let regularize = [0, 1, 5, 6, 7].map(|number| (Regularize, number));
+        let improve = [0, 1, 5, 6, 7].map(|number| (ImproveLayout, number));
+        let rows = [0, 1, 5, 6, 7, 8, 10].map(|number| (Rows, number));
+        let measured = refine.into_iter().chain(subdivide).chain(quality);
+        let cleaned = regularize.into_iter().chain(improve).chain(rows);
+        let expected = leaf.into_iter().chain(tests).chain(sheet).chain(measured).chain(cleaned).collect();
         assert_eq!(seen(&records(SEED)), expected);
+    }
+
+    #[test]
+    fn swaps_of_several_passes_occur() {
+        for operation in [Operation::Regularize, Operation::ImproveLayout] {
+            let records = cleanings(SEED).into_iter().filter(|record| record.call.operation == operation);
+            let counts: Vec<u64> = records.map(|record| record.answer.count).collect();
+            assert!(counts.iter().filter(|&&count| count > 0).count() > 10);
+            assert!(counts.iter().any(|&count| count > 2));
+        }
+    }
+
+    #[test]
+    fn the_replay_has_room_for_every_result() {
+        for record in operations(SEED).into_iter().chain(cleanings(SEED)) {
+            let [points, quads, labels] = record.answer.counts;
+            assert!(points <= 384 && quads <= 256 && labels <= 256);
+        }
     }
 
     #[test]

@@ -27,6 +27,15 @@ pub fn pillow() -> QuadMesh {
     }
 }
 
+/// Two pillows of different labels that share one point.
+pub fn pillows() -> QuadMesh {
+    let QuadMesh { mut points, mut quads, mut labels } = pillow();
+    points.extend([[0.0, 0.0, 1.0], [0.0, 1.0, 1.0], [0.0, 1.0, 0.5]]);
+    quads.extend([[0, 4, 5, 6], [6, 5, 4, 0]]);
+    labels.extend([4, 4]);
+    QuadMesh { points, quads, labels }
+}
+
 /// A torus of n times m quads.
 pub fn torus(n: usize, m: usize) -> QuadMesh {
     let at = |i: usize, j: usize| (i % n) * m + j % m;
@@ -50,6 +59,39 @@ pub fn poles(n: usize) -> QuadMesh {
         quads: (0..n).map(|i| [0, 2 + i, 1, 2 + (i + 1) % n]).collect(),
         labels: vec![2; n],
     }
+}
+
+/// Point k on a circle around the middle of the low x face of the unit box, six to a turn, as seen from outside.
+fn on_circle(radius: f64, k: usize) -> Point {
+    let (sin, cos) = (std::f64::consts::TAU * (k % 6) as f64 / 6.0).sin_cos();
+    [0.0, 0.5 + radius * cos, 0.5 - radius * sin]
+}
+
+/// One point that n well-shaped quads share; they wind around it, three to a turn, and the rim is open. No swap keeps the shape.
+pub fn fan(n: usize) -> QuadMesh {
+    let rim = (0..2 * n).map(|k| on_circle(0.4, k));
+    let at = |k: usize| 1 + k % (2 * n);
+    QuadMesh {
+        points: [[0.0, 0.5, 0.5]].into_iter().chain(rim).collect(),
+        quads: (0..n).map(|i| [0, at(2 * i), at(2 * i + 1), at(2 * i + 2)]).collect(),
+        labels: vec![2; n],
+    }
+}
+
+/// A fan of n quads with n further quads around it: its spokes end in points of four quads, with points of two between them, so that a merge of the
+/// first point with any of those would gain. The last quad of the fan is so small that none of these merges keeps its shape.
+pub fn wheel(n: usize) -> QuadMesh {
+    let ring = |radius, turn| (0..n).map(move |i| on_circle(radius, 2 * i + turn));
+    let (spoke, between, outer) = (|i: usize| 1 + i % n, |i: usize| 1 + n + i, |i: usize| 1 + 2 * n + i);
+    let hub = [[0.0, 0.5, 0.5]].into_iter();
+    let mut points: Vec<Point> = hub.chain(ring(0.3, 0)).chain(ring(0.35, 1)).chain(ring(0.45, 1)).collect();
+    for point in [spoke(n - 1), between(n - 1), spoke(n)] {
+        points[point] = points[point].map(|x| 0.5 + 0.01 * (x - 0.5));
+        points[point][0] = 0.0;
+    }
+    let inner = (0..n).map(|i| [0, spoke(i), between(i), spoke(i + 1)]);
+    let quads = inner.chain((0..n).map(|i| [spoke(i), outer(i), spoke(i + 1), between(i)])).collect();
+    QuadMesh { points, quads, labels: vec![2; 2 * n] }
 }
 
 /// Splits a quad by a new point tied to two opposite corners.
@@ -89,6 +131,37 @@ pub fn closed(r: &mut Random) -> QuadMesh {
         relabel(r, &mut sheet);
     }
     sheet
+}
+
+/// The corners around two quads that run opposite ways along edge k of the first: from that edge's start round the second, then round the first.
+fn corners_around(sheet: &QuadMesh, first: usize, k: usize) -> Option<(usize, [usize; 6])> {
+    let q = sheet.quads.get(first)?;
+    let back = |p: &[usize; 4]| (0..4).find(|&m| [p[m], p[(m + 1) % 4]] == [q[(k + 1) % 4], q[k]]);
+    let (second, m) = sheet.quads.iter().enumerate().find_map(|(j, p)| Some((j, back(p)?)))?;
+    let p = sheet.quads[second];
+    Some((second, [q[k], p[(m + 2) % 4], p[(m + 3) % 4], q[(k + 1) % 4], q[(k + 2) % 4], q[(k + 3) % 4]]))
+}
+
+/// Turns a random edge between two quads of one label, if it has six corners around it; more or fewer quads meet at its ends then.
+pub fn turn(r: &mut Random, sheet: &mut QuadMesh) {
+    let (first, k) = (r.below(sheet.quads.len().max(1)), r.below(4));
+    let Some((second, six)) = corners_around(sheet, first, k) else { return };
+    let differ = (0..6).all(|i| (0..i).all(|j| six[i] != six[j]));
+    if differ && sheet.labels.get(first) == sheet.labels.get(second) {
+        sheet.quads[first] = [six[1], six[2], six[3], six[4]];
+        sheet.quads[second] = [six[1], six[4], six[5], six[0]];
+    }
+}
+
+/// Takes up to three quads out of a sheet, but not the last one.
+pub fn open(r: &mut Random, sheet: &mut QuadMesh) {
+    for _ in 0..1 + r.below(3) {
+        let quad = r.below(sheet.quads.len().max(1));
+        if sheet.quads.len() > 1 && sheet.labels.len() > quad {
+            sheet.quads.remove(quad);
+            sheet.labels.remove(quad);
+        }
+    }
 }
 
 /// One damage to a sheet; a list that is empty stays so.

@@ -61,7 +61,7 @@ fn near_half(r: &mut Random, k: i64, start: u64) -> Option<f64> {
     let exponent = 23 + 2 * r.below(1000) as u64;
     match m >> 53 {
         0 => Some(f64::from_bits(m % DIGITS + (exponent << 52))),
-        _ if m % 2 == 0 => Some(f64::from_bits(m / 2 % DIGITS + ((exponent + 1) << 52))),
+        _ if m.is_multiple_of(2) => Some(f64::from_bits(m / 2 % DIGITS + ((exponent + 1) << 52))),
         _ => None,
     }
 }

@@ -1,20 +1,23 @@
-//! benchmark [CELLS]: the library's operations and the original's on the same drawn sheets at 8, 16, .. cells, in one process. Each figure is the
-//! best of several runs, taken in turns; growth is the library's time over that at half as many cells.
+//! benchmark [CELLS]: the library's operations and the original's on the same drawn sheets at 8, 16, .. cells, in one process; then the library's on
+//! hostile sheets, in which one point has almost all the quads. Each figure is the best of several runs, taken in turns; growth is the library's time
+//! over that at half as many cells or quads.
 use operations::library::{self, Lent};
-use oracle::arguments;
+use oracle::bands::UNIT;
 use oracle::call::{Call, Operation, original};
 use oracle::field::{BandNumbers, Field};
 use oracle::quads::{self, QuadMesh};
+use oracle::{arguments, sheets};
 use std::hint::black_box;
 use std::process::ExitCode;
 use std::time::Instant;
 
-/// The operations that are timed, each with its number of passes.
-const OPERATIONS: [(Operation, u64); 6] = [
+/// The operations on a sheet that are timed, each with its number of passes.
+const OPERATIONS: [(Operation, u64); 7] = [
     (Operation::Refine, 0),
     (Operation::Subdivide, 0),
     (Operation::Regularize, 1),
     (Operation::ImproveLayout, 1),
+    (Operation::Coarsen, 5),
     (Operation::Rows, 0),
     (Operation::Quality, 0),
 ];
@@ -30,6 +33,20 @@ const BANDS: [(&str, BandNumbers); 2] = [
         BandNumbers { field: Field::Ball([0.0, 0.0, 0.0, 0.0]), bounds: [[-0.7; 3], [0.7; 3]], levels: [0.25, 0.64] },
     ),
 ];
+
+/// A name, a sheet of so many quads, and the most quads that are timed.
+type Hostile = (&'static str, fn(usize) -> QuadMesh, usize);
+
+/// Hostile sheets: one point, or two, has all the quads or half of them.
+const HOSTILE: [Hostile; 3] =
+    [("fan", sheets::fan, 100_000), ("poles", poles, 100_000), ("wheel", |quads| sheets::wheel(quads / 2), 10_000)];
+
+/// Two poles that all quads share, half of them of another label.
+fn poles(quads: usize) -> QuadMesh {
+    let mut sheet = sheets::poles(quads);
+    sheet.labels[quads / 2..].fill(4);
+    sheet
+}
 
 /// Milliseconds of one run.
 fn milliseconds<T>(run: impl FnOnce() -> T) -> f64 {
@@ -65,26 +82,37 @@ fn agrees(call: &Call) -> bool {
     library::answer(call).is_some_and(|answer| original(call).same(&answer, call.operation))
 }
 
+/// The time in milliseconds over that of the line before, if there was one.
+fn growth(time: f64, before: Option<&f64>) -> String {
+    before.map_or(String::new(), |last| format!("{:.1}", time / last))
+}
+
+/// The calls on a drawn sheet, and the drawing itself.
+fn calls(cells: usize, band: &BandNumbers, sheet: &QuadMesh) -> Vec<Call> {
+    let on = |(operation, argument)| Call { operation, argument, band: *band, sheet: sheet.clone() };
+    let drawing = Call { operation: Operation::Extract, argument: cells as u64, band: *band, sheet: sheets::empty() };
+    std::iter::once(drawing).chain(OPERATIONS.map(on)).collect()
+}
+
 /// A line for each operation on a drawn sheet, with a word if the answers differ; the library's times for the next doubling.
 fn lines(name: &str, cells: usize, band: &BandNumbers, sheet: &QuadMesh, before: &[f64]) -> Vec<f64> {
-    let time = |(i, &(operation, argument)): (usize, &(Operation, u64))| {
-        let call = Call { operation, argument, band: *band, sheet: sheet.clone() };
-        let (ours, theirs) = best(&call, !is_slow(operation, cells));
-        let growth = before.get(i).map_or(String::new(), |last| format!("{:.1}", ours / last));
-        let differs = if theirs.is_some() && !agrees(&call) { " DIFFERS" } else { "" };
+    let time = |(i, call): (usize, &Call)| {
+        let (ours, theirs) = best(call, !is_slow(call.operation, cells));
+        let growth = growth(ours, before.get(i));
+        let differs = if theirs.is_some() && !agrees(call) { " DIFFERS" } else { "" };
         let (theirs, ratio) =
             theirs.map_or((String::new(), String::new()), |t| (format!("{t:.2}"), format!("{:.3}", ours / t)));
         println!(
             "| {name}, {cells} | {} | {} | {ours:.2} | {theirs} | {ratio} | {growth} |{differs}",
             sheet.quads.len(),
-            operation.name()
+            call.operation.name()
         );
         ours
     };
-    OPERATIONS.iter().enumerate().map(time).collect()
+    calls(cells, band, sheet).iter().enumerate().map(time).collect()
 }
 
-/// The table.
+/// The table of drawn sheets.
 fn table(cells: usize) {
     println!("| sheet, cells | quads | operation | library ms | original ms | ratio | growth |");
     println!("|---|---|---|---|---|---|---|");
@@ -98,10 +126,41 @@ fn table(cells: usize) {
     }
 }
 
+/// A line for each operation on a hostile sheet, with the number of its answer; the library's times for the next doubling.
+fn hostile_lines(name: &str, sheet: &QuadMesh, before: &[f64]) -> Vec<f64> {
+    let time = |(i, &(operation, argument)): (usize, &(Operation, u64))| {
+        let call = Call { operation, argument, band: UNIT, sheet: sheet.clone() };
+        let number = Lent::of(&call).run(operation).map_or(String::new(), |number| number.to_string());
+        let (ours, _) = best(&call, false);
+        let growth = growth(ours, before.get(i));
+        println!(
+            "| {name} | {} | {} | {} | {number} | {ours:.2} | {growth} |",
+            sheet.points.len(),
+            sheet.quads.len(),
+            operation.name()
+        );
+        ours
+    };
+    OPERATIONS.iter().enumerate().map(time).collect()
+}
+
+/// The table of hostile sheets.
+fn hostile_table() {
+    println!("\n| sheet | points | quads | operation | number | library ms | growth |");
+    println!("|---|---|---|---|---|---|---|");
+    for (name, sheet, most) in HOSTILE {
+        let mut before = vec![];
+        for quads in [most / 4, most / 2, most] {
+            before = hostile_lines(name, &sheet(quads), &before);
+        }
+    }
+}
+
 fn main() -> ExitCode {
     match arguments::number(1, 128) {
         Ok(cells) => {
             table(cells as usize);
+            hostile_table();
             ExitCode::SUCCESS
         }
         Err(wrong) => {

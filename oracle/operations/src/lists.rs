@@ -1,0 +1,138 @@
+//! Lists of 2 to 8 random calls: each call takes the sheet that the one before it left. Where a list starts from a closed sheet, demand 3 is looked at too.
+use crate::chain::Chain;
+use crate::closed::Claim;
+use oracle::call::{Answer, Operation};
+use oracle::driver::{Tallies, Total};
+use oracle::field::BandNumbers;
+use oracle::quads::QuadMesh;
+use oracle::random::Random;
+use oracle::{bands, drawn, sheets};
+
+/// The operations of the lists.
+const OPERATIONS: [Operation; 7] = [
+    Operation::Regularize,
+    Operation::ImproveLayout,
+    Operation::Coarsen,
+    Operation::Subdivide,
+    Operation::Refine,
+    Operation::Rows,
+    Operation::Quality,
+];
+
+/// The numbers of passes.
+const PASSES: [u64; 6] = [0, 1, 1, 2, 3, 1000];
+
+/// The most quads of a sheet that is made larger.
+const GROWS: usize = 400;
+
+/// What was seen of the lists.
+#[derive(Default)]
+struct Seen {
+    tallies: Tallies,
+    lists: u64,
+    closed: u64,
+    broken: u64,
+}
+
+/// A sheet to start from, with its band: closed or drawn, as it is, opened, turned, or damaged.
+fn start(r: &mut Random) -> (BandNumbers, QuadMesh) {
+    let (band, mut sheet) = match r.below(4) {
+        0 => (bands::band(r), sheets::closed(r)),
+        1 => drawn::sheet(r),
+        _ => drawn::fresh(r),
+    };
+    match r.below(8) {
+        0 => sheets::open(r, &mut sheet),
+        1 => sheets::damage(r, &mut sheet),
+        2 | 3 => (0..1 + r.below(8)).for_each(|_| sheets::turn(r, &mut sheet)),
+        _ => (),
+    }
+    (band, sheet)
+}
+
+/// The next operation; a sheet of many quads is not made larger.
+fn next(r: &mut Random, sheet: &QuadMesh) -> Operation {
+    let operation = r.pick(&OPERATIONS);
+    match operation {
+        Operation::Subdivide | Operation::Refine | Operation::Rows if sheet.quads.len() > GROWS => Operation::Quality,
+        _ => operation,
+    }
+}
+
+/// Whether the same call of `regularize` once more counts 0 and changes nothing.
+fn is_settled(chain: &mut Chain, passes: u64, band: &BandNumbers, first: &Answer, tallies: &mut Tallies) -> bool {
+    let again = chain.ask(Operation::Regularize, passes, band, tallies);
+    again.is_none_or(|again| again.count == 0 && again.words == first.words)
+}
+
+/// Whether an accepted call has kept what demand 3 says of the closed sheet before it, and what it says of the sheet after it.
+fn is_kept(before: Claim, after: Option<Claim>, operation: Operation, passes: u64, answer: &Answer) -> bool {
+    let swaps = if operation == Operation::Regularize { answer.count } else { 0 };
+    let kept = before.leads_to(after, swaps);
+    if !kept {
+        println!("{}, {passes} passes: {before:?} with {swaps} swaps leads to {after:?}", operation.name());
+    }
+    kept
+}
+
+/// Calls the next operation; whether the two agree and the claim of a closed sheet is kept. Nothing is claimed of rows: their sheet is a new start.
+fn step(r: &mut Random, band: &BandNumbers, chain: &mut Chain, claim: &mut Option<Claim>, seen: &mut Seen) -> bool {
+    let operation = next(r, chain.sheet());
+    let passes = r.pick(&PASSES);
+    let band = if r.one_in(8) { bands::any_band(r) } else { *band };
+    let Some(answer) = chain.ask(operation, passes, &band, &mut seen.tallies) else {
+        return false;
+    };
+    if answer.number != 0 || operation == Operation::Quality {
+        return true;
+    }
+    let before = claim.filter(|_| operation != Operation::Rows);
+    *claim = Claim::of(chain.sheet());
+    let kept = before.is_none_or(|before| is_kept(before, *claim, operation, passes, &answer));
+    let swapped = operation == Operation::Regularize && before.is_some_and(|before| before.is_settled_by(passes));
+    let settled = !swapped || is_settled(chain, passes, &band, &answer, &mut seen.tallies);
+    seen.broken += u64::from(!kept || !settled);
+    kept && settled
+}
+
+/// One list.
+fn list(r: &mut Random, seen: &mut Seen) {
+    let (band, sheet) = start(r);
+    let mut claim = Claim::of(&sheet);
+    seen.lists += 1;
+    seen.closed += u64::from(claim.is_some());
+    let mut chain = Chain::of(sheet);
+    for _ in 0..2 + r.below(7) {
+        if !step(r, &band, &mut chain, &mut claim, seen) {
+            return;
+        }
+    }
+}
+
+/// Compares lists of as many calls in all, or a few more; prints a line for each operation.
+pub fn run(calls: u64, seed: u64) -> Total {
+    let mut r = Random::new(seed);
+    let mut seen = Seen::default();
+    while seen.tallies.total().calls < calls {
+        list(&mut r, &mut seen);
+    }
+    println!("{} lists, {} of them from closed sheets, {} of those broken", seen.lists, seen.closed, seen.broken);
+    seen.tallies.print("in lists, ");
+    let mut total = seen.tallies.total();
+    total.differ += seen.broken;
+    total
+}
+
+#[cfg(test)]
+mod tests {
+    use super::*;
+
+    #[test]
+    fn lists_agree_and_keep_closed_sheets_closed() {
+        let mut r = Random::new(3);
+        let mut seen = Seen::default();
+        (0..60).for_each(|_| list(&mut r, &mut seen));
+        assert_eq!((seen.tallies.total().differ, seen.broken), (0, 0));
+        assert!(30 < seen.closed && seen.closed < 60);
+    }
+}
