@@ -1,0 +1,199 @@
+/*
+ * quads.h: labelled quad sheets around a band of a scalar field, drawn, refined, cleaned up and measured.
+ *
+ * The library is target/staticlib/libquads.a, made by `rt staticlib quads`. It needs memcpy and memset and nothing else, allocates nothing,
+ * keeps nothing between calls, and may be called from several threads at once.
+ *
+ * A SLICE is a pointer with the number of its elements after it: `const double *points, size_t points_len`. The pointer is aligned and not
+ * null, and its elements are there to be read, or to be read and written where it is not const; with a length of 0 none is touched. A slice
+ * that is written overlaps no other slice of the call. That is all that a caller owes: whatever the numbers, counts and lengths are, a call
+ * ends, reads and writes only what it is lent, and answers with 0 or with the number of a refusal.
+ *
+ * A SHEET is three slices and three counts: np points of three coordinates each, nq quads of four point numbers each, nl labels. A sheet has
+ * one label a quad: 0 the upper level, 1 the lower level, 2 and 3 the low and high box faces in x, 4 and 5 in y, 6 and 7 in z. The slices may
+ * be longer than the counts say.
+ *
+ * A BAND is five arguments: the kind of its field, at least ten numbers, at least six bounds (low x, y, z, then high x, y, z) and two levels.
+ *   QUADS_PLANE    numbers a, b, c, d:       a*x + b*y + c*z - d
+ *   QUADS_BALL     numbers cx, cy, cz, r:    (x - cx)^2 + (y - cy)^2 + (z - cz)^2 - r
+ *   QUADS_QUADRIC  numbers k0 to k9:         k0*x*x + k1*y*y + k2*z*z + k3*x*y + k4*y*z + k5*z*x + k6*x + k7*y + k8*z + k9
+ * A plane and a ball use the first four numbers; the others are not looked at.
+ *
+ * WORK is two slices, `work` and `floats`. For a lent sheet they hold at least QUADS_WORK(np, nq) and QUADS_FLOATS(np, nq) elements, for
+ * drawing QUADS_DRAW_WORK(cells) and QUADS_DRAW_FLOATS(cells). What is in them does not matter. After every call all of both is zero.
+ *
+ * The ANSWER slice has at least four elements (for quality ten). After a call it holds
+ *   answer[0]   the number of swaps or merges; 0 where the operation counts none
+ *   answer[1]   the points, answer[2] the quads and answer[3] the labels of the sheet that was made or altered
+ * and zeros there after a refusal. Elements behind these stay as they came.
+ *
+ * AFTER SUCCESS every slice that the operation writes a sheet to has the sheet in front and zeros behind it. AFTER A REFUSAL a sheet that was to
+ * be altered in its own slices is bit for bit as it came, and the slices for a new sheet are all zero.
+ *
+ * THE ORDER OF REFUSALS. Before anything else come QUADS_SHORT, for an answer, numbers, bounds or measures slice that is too short (a
+ * short answer or measures slice then stays as it came), and QUADS_BOX, for a kind above 2. What follows is said at each function; the first
+ * that applies is returned. SHORT (lent) means a slice of the sheet shorter than its count says, or too little work; SHORT (result) means
+ * more points or quads than the slices for the new sheet, or QUADS_LIMIT, hold.
+ */
+#ifndef QUADS_H
+#define QUADS_H
+
+#include <stddef.h>
+#include <stdint.h>
+
+#ifdef __cplusplus
+extern "C" {
+#endif
+
+/* The most points, quads or labels of a sheet. */
+#define QUADS_LIMIT 1048576
+
+/* The kinds of field. */
+#define QUADS_PLANE 0
+#define QUADS_BALL 1
+#define QUADS_QUADRIC 2
+
+/* The elements of `work` and `floats` for a lent sheet of np points and nq quads. */
+#define QUADS_WORK(np, nq) (64 * ((size_t)(np) + (size_t)(nq)))
+#define QUADS_FLOATS(np, nq) (16 * ((size_t)(np) + (size_t)(nq)))
+
+/* The elements of `work` and `floats` for drawing with 4 to 128 cells. */
+#define QUADS_DRAW_WORK(cells) (12 * ((size_t)(cells) + 2) * ((size_t)(cells) + 2) * ((size_t)(cells) + 2))
+#define QUADS_DRAW_FLOATS(cells) (((size_t)(cells) + 3) * ((size_t)(cells) + 3) * ((size_t)(cells) + 3))
+
+/* What a call returns. */
+enum {
+    QUADS_ACCEPTED = 0,
+    QUADS_BOX = 1,        /* box: the levels are not in order, the upper not finite, or the box not finite or empty */
+    QUADS_BOTTOMLESS = 2, /* bottomless: drawing with a lower level that is not finite */
+    QUADS_CELLS = 3,      /* cells: drawing with other than 4 to 128 cells */
+    QUADS_SAMPLES = 4,    /* samples: a sample of the grid is not finite */
+    QUADS_BARE = 5,       /* bare: no point, no quad, not one label a quad, or a point not finite; refine: the labels only */
+    QUADS_CORNER = 6,     /* corner: a label above 7, a point number out of range, a corner twice; refine: the range only */
+    QUADS_CLASH = 7,      /* clash: a point without a quad, or with labels of both levels or of two opposite faces */
+    QUADS_EDGE = 8,       /* edge: an edge without exactly two quads */
+    QUADS_ASTRAY = 9,     /* astray: a point of the finer sheet cannot be projected */
+    QUADS_ROW = 10,       /* row: a copy of a point finds no place in twenty steps */
+    QUADS_NORMAL = 11,    /* normal: the normal at a quad's centre is not finite or shorter than 0.5 */
+    QUADS_LARGE = 12,     /* large: a lent sheet above QUADS_LIMIT */
+    QUADS_SHORT = 13      /* short: a slice holds too little */
+};
+
+/*
+ * Draws the sheet around a band, over a grid of `cells` cells a side, into the three slices for a new sheet.
+ * Refusals: BOX, BOTTOMLESS, CELLS, SHORT (work), SAMPLES, SHORT (result), BARE, CLASH.
+ */
+uint32_t quads_extract_candidate(
+    uint32_t kind, const double *numbers, size_t numbers_len, const double *bounds, size_t bounds_len,
+    double lower, double upper, size_t cells,
+    double *new_points, size_t new_points_len, uint32_t *new_quads, size_t new_quads_len,
+    uint8_t *new_labels, size_t new_labels_len,
+    uint32_t *work, size_t work_len, double *floats, size_t floats_len, uint64_t *answer, size_t answer_len);
+
+/*
+ * Makes the finer sheet: each edge gets its midpoint and each quad its centre, and each quad becomes four of its label. The new sheet has
+ * np points, one for each edge and one for each quad (at most np + 5 * nq), and 4 * nq quads. A sheet without quads is accepted.
+ * Refusals: LARGE, SHORT (lent), BARE, CORNER, SHORT (result).
+ */
+uint32_t quads_refine(
+    const double *points, size_t points_len, const uint32_t *quads, size_t quads_len,
+    const uint8_t *labels, size_t labels_len, size_t np, size_t nq, size_t nl,
+    double *new_points, size_t new_points_len, uint32_t *new_quads, size_t new_quads_len,
+    uint8_t *new_labels, size_t new_labels_len,
+    uint32_t *work, size_t work_len, double *floats, size_t floats_len, uint64_t *answer, size_t answer_len);
+
+/*
+ * Makes the finer sheet of the same quads as quads_refine, its points smoothed by the rule of Catmull and Clark, with creases between labels,
+ * and projected onto the band.
+ * Refusals: LARGE, SHORT (lent), BOX, BARE, CORNER, CLASH, SHORT (result), EDGE, BARE, ASTRAY.
+ */
+uint32_t quads_subdivide(
+    const double *points, size_t points_len, const uint32_t *quads, size_t quads_len,
+    const uint8_t *labels, size_t labels_len, size_t np, size_t nq, size_t nl,
+    uint32_t kind, const double *numbers, size_t numbers_len, const double *bounds, size_t bounds_len,
+    double lower, double upper,
+    double *new_points, size_t new_points_len, uint32_t *new_quads, size_t new_quads_len,
+    uint8_t *new_labels, size_t new_labels_len,
+    uint32_t *work, size_t work_len, double *floats, size_t floats_len, uint64_t *answer, size_t answer_len);
+
+/*
+ * Makes the sheet with a row of quads inside each patch of one label: each point on a border between labels gets a copy for each of its labels,
+ * and each border edge two strip quads, behind the quads of the lent sheet. At most 5 * np points and 5 * nq quads.
+ * Refusals: LARGE, SHORT (lent), BOX, BARE, CORNER, CLASH, SHORT (result), ROW, EDGE, CLASH.
+ */
+uint32_t quads_boundary_rows(
+    const double *points, size_t points_len, const uint32_t *quads, size_t quads_len,
+    const uint8_t *labels, size_t labels_len, size_t np, size_t nq, size_t nl,
+    uint32_t kind, const double *numbers, size_t numbers_len, const double *bounds, size_t bounds_len,
+    double lower, double upper,
+    double *new_points, size_t new_points_len, uint32_t *new_quads, size_t new_quads_len,
+    uint8_t *new_labels, size_t new_labels_len,
+    uint32_t *work, size_t work_len, double *floats, size_t floats_len, uint64_t *answer, size_t answer_len);
+
+/*
+ * Swaps edges inside one label that bring the points nearer to four quads each, in at most `passes` passes; it ends early once a pass swaps
+ * nothing. Only the quads are written. answer[0] is the number of swaps.
+ * Refusals: LARGE, SHORT (lent), BOX, BARE, CORNER, CLASH; also with no pass.
+ */
+uint32_t quads_regularize(
+    const double *points, size_t points_len, uint32_t *quads, size_t quads_len,
+    const uint8_t *labels, size_t labels_len, size_t np, size_t nq, size_t nl,
+    uint32_t kind, const double *numbers, size_t numbers_len, const double *bounds, size_t bounds_len,
+    double lower, double upper, size_t passes,
+    uint32_t *work, size_t work_len, double *floats, size_t floats_len, uint64_t *answer, size_t answer_len);
+
+/*
+ * quads_regularize, which also takes a swap that leaves the points as near to four quads as they are, if the worse of the two shapes gains 0.02
+ * or more. Such swaps may go on for as many passes as it is given.
+ * Refusals: LARGE, SHORT (lent), BOX, BARE, CORNER, CLASH; also with no pass.
+ */
+uint32_t quads_improve_layout(
+    const double *points, size_t points_len, uint32_t *quads, size_t quads_len,
+    const uint8_t *labels, size_t labels_len, size_t np, size_t nq, size_t nl,
+    uint32_t kind, const double *numbers, size_t numbers_len, const double *bounds, size_t bounds_len,
+    double lower, double upper, size_t passes,
+    uint32_t *work, size_t work_len, double *floats, size_t floats_len, uint64_t *answer, size_t answer_len);
+
+/*
+ * Merges opposite corners of quads, in at most `passes` passes; it ends early once a pass merges nothing. The whole sheet is written; after a
+ * pass that merged, its points are numbered by first use. answer[0] is the number of merges, answer[1..3] the counts of the sheet left.
+ * Refusals: LARGE, SHORT (lent), BOX, BARE, CORNER, CLASH; with no pass LARGE and SHORT only.
+ */
+uint32_t quads_coarsen(
+    double *points, size_t points_len, uint32_t *quads, size_t quads_len,
+    uint8_t *labels, size_t labels_len, size_t np, size_t nq, size_t nl,
+    uint32_t kind, const double *numbers, size_t numbers_len, const double *bounds, size_t bounds_len,
+    double lower, double upper, size_t passes,
+    uint32_t *work, size_t work_len, double *floats, size_t floats_len, uint64_t *answer, size_t answer_len);
+
+/*
+ * Measures the sheet. The answer slice has at least ten elements, the measures slice at least four; a refusal leaves zeros there.
+ *   answer[0]    quads
+ *   answer[1]    points of other than four quads
+ *   answer[2]    edges of one quad
+ *   answer[3]    edges of more than two quads
+ *   answer[4]    edges of two quads that run the same way
+ *   answer[5]    points whose quads are not one ring
+ *   answer[6]    quads with the corners of an earlier one
+ *   answer[7]    quads that are turned over or collapsed somewhere
+ *   answer[8]    1 if tight: every edge has exactly two quads, running opposite ways
+ *   answer[9]    1 if valid: answer[2] to answer[7] are 0, and measures[3] is finite
+ *   measures[0]  the least shape of a quad
+ *   measures[1]  the score, shape times size, below which one quad in twenty lies
+ *   measures[2]  the mean score
+ *   measures[3]  the least Jacobian, sampled at 5 by 5 places of each quad
+ * Refusals: LARGE, SHORT (lent), BOX, BARE, CORNER, CLASH, NORMAL.
+ */
+uint32_t quads_quality(
+    const double *points, size_t points_len, const uint32_t *quads, size_t quads_len,
+    const uint8_t *labels, size_t labels_len, size_t np, size_t nq, size_t nl,
+    uint32_t kind, const double *numbers, size_t numbers_len, const double *bounds, size_t bounds_len,
+    double lower, double upper,
+    uint32_t *work, size_t work_len, double *floats, size_t floats_len, uint64_t *answer, size_t answer_len,
+    double *measures, size_t measures_len);
+
+#ifdef __cplusplus
+}
+#endif
+
+#endif

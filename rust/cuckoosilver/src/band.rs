@@ -1,0 +1,105 @@
+//! The band as options give it, part by part.
+use crate::problem::Problem;
+use crate::step::{self, Action};
+use quads::{Band, Field};
+
+/// The parts of a band that have been given.
+#[derive(Clone, Copy, Debug, Default, PartialEq)]
+pub struct Parts {
+    field: Option<Field>,
+    bounds: Option<[f64; 6]>,
+    levels: Option<[f64; 2]>,
+}
+
+impl Parts {
+    /// Takes a part from an option; whether it is one.
+    pub fn take(&mut self, action: &Action) -> bool {
+        match *action {
+            Action::Field(field) => self.field = Some(field),
+            Action::Box(bounds) => self.bounds = Some(bounds),
+            Action::Levels(levels) => self.levels = Some(levels),
+            _ => return false,
+        }
+        true
+    }
+
+    /// The parts with those of another where there are none.
+    pub fn or(self, other: Parts) -> Parts {
+        Parts {
+            field: self.field.or(other.field),
+            bounds: self.bounds.or(other.bounds),
+            levels: self.levels.or(other.levels),
+        }
+    }
+
+    /// The band, if it is whole.
+    pub fn band(&self) -> Result<Band, Problem> {
+        let missing = |what: &str| Problem::Usage(format!("the band is not whole: give {what}"));
+        let field = self.field.ok_or_else(|| missing("--plane, --ball or --quadric"))?;
+        let [x, y, z, high_x, high_y, high_z] = self.bounds.ok_or_else(|| missing("--box"))?;
+        let [lower, upper] = self.levels.ok_or_else(|| missing("--levels"))?;
+        Ok(Band { field, low: [x, y, z], high: [high_x, high_y, high_z], lower, upper })
+    }
+
+    /// The options that give these parts.
+    pub fn options(&self) -> Vec<String> {
+        let mut words = vec![];
+        let mut option = |name: &str, numbers: &[f64]| {
+            words.push(name.to_string());
+            words.extend(numbers.iter().map(|number| format!("{number:?}")));
+        };
+        match self.field {
+            Some(Field::Plane { a, b, c, d }) => option("--plane", &[a, b, c, d]),
+            Some(Field::Ball { cx, cy, cz, r }) => option("--ball", &[cx, cy, cz, r]),
+            Some(Field::Quadric(k)) => option("--quadric", &k),
+            None => {}
+        }
+        if let Some(bounds) = self.bounds {
+            option("--box", &bounds);
+        }
+        if let Some(levels) = self.levels {
+            option("--levels", &levels);
+        }
+        words
+    }
+
+    /// The parts that options give; what is no part of a band is an error.
+    pub fn parse(words: &[String]) -> Result<Parts, Problem> {
+        let mut parts = Parts::default();
+        for step in step::parse(words)? {
+            if !parts.take(&step.action) {
+                return Err(Problem::Usage(format!("{} is no part of a band", step.text)));
+            }
+        }
+        Ok(parts)
+    }
+}
+
+#[cfg(test)]
+mod tests {
+    use super::*;
+
+    fn parse(text: &str) -> Result<Parts, Problem> {
+        Parts::parse(&text.split_whitespace().map(String::from).collect::<Vec<_>>())
+    }
+
+    #[test]
+    fn options_give_the_band_and_the_band_its_options() {
+        let parts = parse("--ball 0 0.5 1e-9 2 --levels -1 1 --box 1 2 3 4 5 6").unwrap();
+        let band = parts.band().unwrap();
+        assert_eq!((band.low, band.high, band.lower, band.upper), ([1.0, 2.0, 3.0], [4.0, 5.0, 6.0], -1.0, 1.0));
+        assert_eq!(Parts::parse(&parts.options()), Ok(parts));
+    }
+
+    #[test]
+    fn a_missing_part_is_told() {
+        let parts = parse("--plane 0 0 1 0 --levels 0 1").unwrap();
+        assert_eq!(parts.band(), Err(Problem::Usage("the band is not whole: give --box".into())));
+        assert!(parts.or(parse("--box 0 0 0 1 1 1 --levels 5 6").unwrap()).band().is_ok_and(|band| band.upper == 1.0));
+    }
+
+    #[test]
+    fn a_step_is_no_part_of_a_band() {
+        assert!(parse("draw 8").is_err());
+    }
+}

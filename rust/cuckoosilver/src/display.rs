@@ -1,0 +1,45 @@
+//! What is printed.
+use crate::problem::Problem;
+use quads::Quality;
+use std::fmt::Display;
+use std::io::Write;
+use std::path::Path;
+
+/// The names on the page, in the record's order.
+const NAMES: [&str; 8] =
+    ["quads", "irregular", "boundary", "nonmanifold", "orientation", "links", "duplicates", "invalid"];
+
+/// Prints a text.
+pub fn print(out: &mut dyn Write, text: &str) -> Result<(), Problem> {
+    out.write_all(text.as_bytes())
+        .and_then(|()| out.flush())
+        .map_err(|error| Problem::file(Path::new("standard output"), error))
+}
+
+/// The two-line display, 20 columns wide: the quads, and the points whose quads are not one ring.
+pub fn two_lines(quality: &Quality) -> String {
+    format!("{:<12}{:>8}\n{:<12}{:>8}\n", "quads", quality.quads, "bad points", quality.bad_vertex_links)
+}
+
+/// A line of the page: name left in 24 columns, value right in 16.
+fn line(name: &str, value: impl Display) -> String {
+    format!("{name:<24}{value:>16}\n")
+}
+
+/// The page: the eight counts, one a line.
+pub fn page(quality: &Quality) -> String {
+    NAMES.iter().zip(quality.counts()).map(|(name, count)| line(name, count)).collect()
+}
+
+/// The whole record, laid out like the page.
+pub fn record(quality: &Quality) -> String {
+    let measure = |name: &str, value: f64| line(name, format!("{value:.6}"));
+    let answer = |name: &str, value: bool| line(name, if value { "yes" } else { "no" });
+    page(quality)
+        + &measure("minimum shape", quality.minimum_shape)
+        + &measure("shape and size, 5%", quality.shape_size_p05)
+        + &measure("shape and size, mean", quality.shape_size_mean)
+        + &measure("minimum Jacobian", quality.minimum_sampled_jacobian)
+        + &answer("tight", quality.tight)
+        + &answer("valid", quality.is_valid())
+}

@@ -1,0 +1,42 @@
+//! cuckoosilver: draws, cleans up, measures and shows labelled quad sheets.
+
+mod band;
+mod display;
+mod example;
+mod help;
+mod job;
+mod labels;
+mod order;
+mod picture;
+mod ply;
+mod problem;
+mod step;
+mod words;
+
+use order::Order;
+use problem::Problem;
+use std::process::ExitCode;
+
+/// The words of the command line.
+fn words() -> Result<Vec<String>, Problem> {
+    let text = |word: std::ffi::OsString| {
+        word.into_string().map_err(|word| Problem::Usage(format!("{} is not text", word.to_string_lossy())))
+    };
+    std::env::args_os().skip(1).map(text).collect()
+}
+
+/// Reads the command line and does what it says, results on standard output, progress on standard error.
+fn run() -> Result<(), Problem> {
+    let order = Order::parse(&words()?)?;
+    order.run(&mut std::io::stdout().lock(), &mut std::io::stderr())
+}
+
+fn main() -> ExitCode {
+    match run() {
+        Ok(()) => ExitCode::SUCCESS,
+        Err(problem) => {
+            eprintln!("cuckoosilver: {problem}");
+            ExitCode::from(problem.exit_code())
+        }
+    }
+}

@@ -1,0 +1,126 @@
+//! The header of a PLY file: what elements follow, and of what properties.
+
+/// How the values are written.
+#[derive(Clone, Copy, Debug, PartialEq)]
+pub enum Format {
+    Ascii,
+    Binary,
+}
+
+/// The types of values.
+#[derive(Clone, Copy, Debug, PartialEq)]
+pub enum Scalar {
+    I8,
+    U8,
+    I16,
+    U16,
+    I32,
+    U32,
+    F32,
+    F64,
+}
+
+impl Scalar {
+    /// The type of a name, in the old or the new spelling.
+    fn of(name: &str) -> Result<Scalar, String> {
+        match name {
+            "char" | "int8" => Ok(Scalar::I8),
+            "uchar" | "uint8" => Ok(Scalar::U8),
+            "short" | "int16" => Ok(Scalar::I16),
+            "ushort" | "uint16" => Ok(Scalar::U16),
+            "int" | "int32" => Ok(Scalar::I32),
+            "uint" | "uint32" => Ok(Scalar::U32),
+            "float" | "float32" => Ok(Scalar::F32),
+            "double" | "float64" => Ok(Scalar::F64),
+            _ => Err(format!("{name} is no type of a PLY file")),
+        }
+    }
+}
+
+/// A property: one value, or a list with the type of its length.
+#[derive(Clone, Debug, PartialEq)]
+pub struct Property {
+    pub name: String,
+    pub length: Option<Scalar>,
+    pub scalar: Scalar,
+}
+
+/// An element, as `vertex`: how many there are, and what each has.
+#[derive(Clone, Debug, PartialEq)]
+pub struct Element {
+    pub name: String,
+    pub count: u64,
+    pub properties: Vec<Property>,
+}
+
+/// A header.
+#[derive(Clone, Debug, PartialEq)]
+pub struct Header {
+    pub format: Format,
+    pub comments: Vec<String>,
+    pub elements: Vec<Element>,
+}
+
+/// The line that starts at a place, without its end, and where the next one starts.
+fn line(bytes: &[u8], start: usize) -> Result<(&str, usize), String> {
+    let rest = &bytes[start..];
+    let end = rest.iter().position(|&byte| byte == b'\n').ok_or("the header does not end")?;
+    let text = std::str::from_utf8(&rest[..end]).map_err(|_| "the header is not text")?;
+    Ok((text.trim_end_matches('\r'), start + end + 1))
+}
+
+impl Header {
+    /// The header of a file, and where its values start.
+    pub fn parse(bytes: &[u8]) -> Result<(Header, usize), String> {
+        if !bytes.starts_with(b"ply\n") && !bytes.starts_with(b"ply\r\n") {
+            return Err("it is no PLY file: it does not begin with `ply`".into());
+        }
+        let (mut format, mut comments, mut elements) = (None, vec![], Vec::<Element>::new());
+        let (_, mut at) = line(bytes, 0)?;
+        loop {
+            let (text, next) = line(bytes, at)?;
+            at = next;
+            let words: Vec<&str> = text.split_ascii_whitespace().collect();
+            match words[..] {
+                ["end_header"] => break,
+                ["comment", ..] => comments.push(text["comment".len()..].trim().to_string()),
+                ["obj_info", ..] | [] => {}
+                ["format", name, _] => format = Some(format_of(name)?),
+                ["element", name, count] => elements.push(element(name, count)?),
+                ["property", ref words @ ..] => match elements.last_mut() {
+                    Some(element) => element.properties.push(property(words)?),
+                    None => return Err("a property comes before the first element".into()),
+                },
+                _ => return Err(format!("the header's line `{text}` is not known")),
+            }
+        }
+        let format = format.ok_or("the header names no format")?;
+        Ok((Header { format, comments, elements }, at))
+    }
+}
+
+/// The format of a name.
+fn format_of(name: &str) -> Result<Format, String> {
+    match name {
+        "ascii" => Ok(Format::Ascii),
+        "binary_little_endian" => Ok(Format::Binary),
+        _ => Err(format!("the format {name} is not read; ascii and binary_little_endian are")),
+    }
+}
+
+/// An element without properties so far.
+fn element(name: &str, count: &str) -> Result<Element, String> {
+    let count = count.parse().map_err(|_| format!("{count} is no number of elements"))?;
+    Ok(Element { name: name.into(), count, properties: vec![] })
+}
+
+/// The property of the words after `property`.
+fn property(words: &[&str]) -> Result<Property, String> {
+    match *words {
+        ["list", length, scalar, name] => {
+            Ok(Property { name: name.into(), length: Some(Scalar::of(length)?), scalar: Scalar::of(scalar)? })
+        }
+        [scalar, name] => Ok(Property { name: name.into(), length: None, scalar: Scalar::of(scalar)? }),
+        _ => Err(format!("the property `{}` is not known", words.join(" "))),
+    }
+}

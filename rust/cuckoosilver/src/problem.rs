@@ -1,0 +1,88 @@
+//! What can go wrong, and how it is told.
+use quads::Refusal;
+use std::fmt;
+use std::path::{Path, PathBuf};
+
+/// A problem that ends the program.
+#[derive(Debug, PartialEq)]
+pub enum Problem {
+    /// The command line is wrong: exit code 2.
+    Usage(String),
+    /// A step was refused: exit code 1.
+    Refused {
+        /// The step as it was written.
+        step: String,
+        /// Why.
+        refusal: Refusal,
+    },
+    /// A file cannot be read or written: exit code 1.
+    File {
+        /// The file.
+        path: PathBuf,
+        /// What is wrong.
+        what: String,
+    },
+}
+
+impl Problem {
+    /// A problem with a file.
+    pub fn file(path: &Path, what: impl fmt::Display) -> Problem {
+        Problem::File { path: path.to_path_buf(), what: what.to_string() }
+    }
+
+    /// The same problem, met at a step.
+    pub fn at(self, text: &str) -> Problem {
+        match self {
+            Problem::Refused { refusal, .. } => Problem::Refused { step: text.into(), refusal },
+            other => other,
+        }
+    }
+
+    /// The exit code: 2 for a wrong command line, 1 for all else.
+    pub fn exit_code(&self) -> u8 {
+        match self {
+            Problem::Usage(_) => 2,
+            Problem::Refused { .. } | Problem::File { .. } => 1,
+        }
+    }
+}
+
+impl From<Refusal> for Problem {
+    fn from(refusal: Refusal) -> Problem {
+        Problem::Refused { step: "the step".into(), refusal }
+    }
+}
+
+impl fmt::Display for Problem {
+    fn fmt(&self, f: &mut fmt::Formatter<'_>) -> fmt::Result {
+        match self {
+            Problem::Usage(what) => write!(f, "{what}\n`cuckoosilver --help` tells the steps and options"),
+            Problem::Refused { step, refusal } => {
+                write!(f, "{step} is refused: {refusal}\nwhat to do: {}", refusal.advice())
+            }
+            Problem::File { path, what } => write!(f, "{}: {what}", path.display()),
+        }
+    }
+}
+
+#[cfg(test)]
+mod tests {
+    use super::*;
+
+    #[test]
+    fn a_refusal_is_told_with_number_word_and_advice() {
+        let problem = Problem::from(Refusal::Cells).at("draw 3");
+        assert_eq!(
+            problem.to_string(),
+            "draw 3 is refused: 3 cells: the number of cells is not from 4 to 128\nwhat to do: draw with 4 to 128 cells"
+        );
+        assert_eq!(problem.exit_code(), 1);
+    }
+
+    #[test]
+    fn a_wrong_command_line_is_told_with_the_way_to_help() {
+        let problem = Problem::Usage("no sheet".into());
+        assert!(problem.to_string().starts_with("no sheet\n"));
+        assert_eq!(problem.exit_code(), 2);
+    }
+}

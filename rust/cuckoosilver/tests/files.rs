@@ -1,0 +1,130 @@
+//! Files, by running the program: PLY that is read again, and pictures.
+mod common;
+use common::{SHELL, UNIT_BOX, folder, prints, run_in};
+use std::fs;
+use std::path::Path;
+
+/// The unit cube with other names, an element that is not known, and colours in place of labels.
+const CUBE: &str = "ply\r
+format ascii 1.0\r
+comment made by hand\r
+obj_info nothing\r
+element material 1\r
+property list uchar float numbers\r
+element vertex 8\r
+property float32 x\r
+property float32 y\r
+property float32 z\r
+property uint8 extra\r
+element face 6\r
+property uchar red\r
+property uchar green\r
+property uchar blue\r
+property list uint8 int32 vertex_index\r
+end_header\r
+2 0.5 0.5\r
+0 0 0 9 1 0 0 9 0 1 0 9 1 1 0 9 0 0 1 9 1 0 1 9 0 1 1 9 1 1 1 9\r
+0 158 115 4 0 4 6 2\r
+240 228 66 4 1 3 7 5\r
+0 114 178 4 0 1 5 4\r
+213 94 0 4 2 6 7 3\r
+204 121 167 4 0 2 3 1\r
+153 153 153 4 4 5 7 6\r
+";
+
+/// Runs steps in a folder; they must go well.
+fn does(here: &Path, steps: &str) -> String {
+    let run = run_in(here, steps);
+    assert_eq!(run.code, Some(0), "{steps}: {}", run.log);
+    run.out
+}
+
+#[test]
+fn a_sheet_that_is_written_is_read_again() {
+    let here = folder("again");
+    let steps = format!("{SHELL} draw 8 coarsen 2 regularize 2 subdivide write a.ply --ascii write b.ply quality");
+    let record = does(&here, &steps);
+    assert_eq!(does(&here, "read a.ply quality"), record);
+    assert_eq!(does(&here, "read b.ply quality write c.ply --ascii write d.ply"), record);
+    let bytes = |file: &str| fs::read(here.join(file)).unwrap();
+    assert!(bytes("a.ply") == bytes("c.ply") && bytes("b.ply") == bytes("d.ply"));
+}
+
+#[test]
+fn the_band_stands_in_the_file_and_options_go_before_it() {
+    let here = folder("band");
+    does(&here, &format!("{SHELL} draw 8 write a.ply"));
+    let head = String::from_utf8_lossy(&fs::read(here.join("a.ply")).unwrap()).into_owned();
+    let band = "--ball 0.0 0.0 0.0 0.0 --box -1.0 -1.0 -1.0 1.0 1.0 1.0 --levels 0.25 0.64";
+    assert!(head.contains(&format!("\ncomment cuckoosilver {band}\n")));
+    let run = run_in(&here, "--levels 1 0 read a.ply display");
+    assert_eq!(run.code, Some(1));
+    assert!(run.log.contains("1 box"));
+}
+
+#[test]
+fn a_cube_made_by_hand_is_read() {
+    let here = folder("cube");
+    fs::write(here.join("cube.ply"), CUBE).unwrap();
+    let out = does(&here, &format!("{UNIT_BOX} read cube.ply display refine display read cube.ply rows display"));
+    let quads: Vec<&str> = out.lines().step_by(2).map(|line| line[12..].trim()).collect();
+    assert_eq!(quads, ["6", "24", "30"]);
+}
+
+#[test]
+fn an_svg_has_a_path_for_each_quad_that_is_seen() {
+    let here = folder("svg");
+    fs::write(here.join("cube.ply"), CUBE).unwrap();
+    does(&here, "read cube.ply picture cube.svg --view 0 0 1 --size 100 picture top.svg");
+    let text = |file: &str| fs::read_to_string(here.join(file)).unwrap();
+    assert_eq!(text("cube.svg").matches("<path").count(), 3);
+    assert_eq!(text("top.svg").matches("<path").count(), 1);
+    assert!(text("top.svg").contains("d=\"M40 960l920 0 0 -920 -920 0z\""));
+}
+
+/// The pixels of a PNG file of stored blocks, three bytes each.
+fn pixels(file: &[u8], side: usize) -> Vec<[u8; 3]> {
+    let data = file.windows(4).position(|name| name == b"IDAT").unwrap() + 4;
+    let (mut at, mut bytes) = (data + 2, vec![]);
+    loop {
+        let length = usize::from(u16::from_le_bytes([file[at + 1], file[at + 2]]));
+        bytes.extend(&file[at + 5..at + 5 + length]);
+        if file[at] == 1 {
+            break;
+        }
+        at += 5 + length;
+    }
+    bytes.chunks(3 * side + 1).flat_map(|row| row[1..].as_chunks::<3>().0.to_vec()).collect()
+}
+
+#[test]
+fn a_png_shows_the_colours_of_the_labels() {
+    let here = folder("png");
+    fs::write(here.join("cube.ply"), CUBE).unwrap();
+    does(&here, "read cube.ply --view 0 0 1 --size 160 picture top.png");
+    let file = fs::read(here.join("top.png")).unwrap();
+    assert_eq!(file[..8], *b"\x89PNG\r\n\x1a\n");
+    let pixels = pixels(&file, 160);
+    assert_eq!(pixels.len(), 160 * 160);
+    assert_eq!(pixels[0], [255; 3]);
+    let [red, green, blue] = pixels[80 * 160 + 80];
+    assert!(red == green && green == blue && red > 100, "the top of the cube is grey");
+}
+
+#[test]
+fn the_same_words_give_the_same_files() {
+    let here = folder("same");
+    for name in ["a", "b"] {
+        does(&here, &format!("{SHELL} draw 10 coarsen 2 write {name}.ply picture {name}.png picture {name}.svg"));
+    }
+    for ending in ["ply", "png", "svg"] {
+        let bytes = |name: &str| fs::read(here.join(format!("{name}.{ending}"))).unwrap();
+        assert!(bytes("a") == bytes("b"), "{ending}");
+    }
+}
+
+#[test]
+fn a_large_sheet_goes_through() {
+    let out = prints(&format!("--quiet {SHELL} draw 128 coarsen regularize subdivide display"));
+    assert!(out.ends_with("bad points         0\n"));
+}

@@ -1,0 +1,201 @@
+//! The exports of the library, with slices in place of pointers and lengths. `include/quads.h` says what each one does.
+//!
+//! Every function here may be called with any slices, counts and numbers: the library is proved to test them, to read and write only what it
+//! is lent, and to end. Each returns 0, or the number of a refusal.
+
+/// A sheet that is read: three lists, and how many points, quads and labels it has.
+#[derive(Clone, Copy)]
+pub struct Read<'a> {
+    /// Three coordinates a point.
+    pub points: &'a [f64],
+    /// Four point numbers a quad.
+    pub quads: &'a [u32],
+    /// One label a quad.
+    pub labels: &'a [u8],
+    /// The points, quads and labels.
+    pub counts: [usize; 3],
+}
+
+/// Room for a sheet that is made.
+pub struct Written<'a> {
+    /// Three coordinates a point.
+    pub points: &'a mut [f64],
+    /// Four point numbers a quad.
+    pub quads: &'a mut [u32],
+    /// One label a quad.
+    pub labels: &'a mut [u8],
+}
+
+/// A sheet that is altered in its own lists.
+pub struct Altered<'a> {
+    /// Three coordinates a point.
+    pub points: &'a mut [f64],
+    /// Four point numbers a quad.
+    pub quads: &'a mut [u32],
+    /// One label a quad.
+    pub labels: &'a mut [u8],
+    /// The points, quads and labels.
+    pub counts: [usize; 3],
+}
+
+/// A band: the kind of its field with ten numbers, the six bounds of its box, and two levels.
+#[derive(Clone, Copy)]
+pub struct Given<'a> {
+    /// 0 plane, 1 ball, 2 quadric.
+    pub kind: u32,
+    /// Ten numbers; a plane and a ball use the first four.
+    pub numbers: &'a [f64],
+    /// Low x, y, z and high x, y, z.
+    pub bounds: &'a [f64],
+    /// The lower level.
+    pub lower: f64,
+    /// The upper level.
+    pub upper: f64,
+}
+
+/// The two work slices.
+pub struct Work<'a> {
+    /// Whole numbers.
+    pub wholes: &'a mut [u32],
+    /// Floats.
+    pub floats: &'a mut [f64],
+}
+
+// The declarations of include/quads.h.
+unsafe extern "C" {
+    fn quads_extract_candidate(
+        kind: u32, numbers: *const f64, numbers_len: usize, bounds: *const f64, bounds_len: usize, lower: f64,
+        upper: f64, cells: usize, new_points: *mut f64, new_points_len: usize, new_quads: *mut u32,
+        new_quads_len: usize, new_labels: *mut u8, new_labels_len: usize, work: *mut u32, work_len: usize,
+        floats: *mut f64, floats_len: usize, answer: *mut u64, answer_len: usize,
+    ) -> u32;
+    fn quads_refine(
+        points: *const f64, points_len: usize, quads: *const u32, quads_len: usize, labels: *const u8,
+        labels_len: usize, np: usize, nq: usize, nl: usize, new_points: *mut f64, new_points_len: usize,
+        new_quads: *mut u32, new_quads_len: usize, new_labels: *mut u8, new_labels_len: usize, work: *mut u32,
+        work_len: usize, floats: *mut f64, floats_len: usize, answer: *mut u64, answer_len: usize,
+    ) -> u32;
+    fn quads_subdivide(
+        points: *const f64, points_len: usize, quads: *const u32, quads_len: usize, labels: *const u8,
+        labels_len: usize, np: usize, nq: usize, nl: usize, kind: u32, numbers: *const f64, numbers_len: usize,
+        bounds: *const f64, bounds_len: usize, lower: f64, upper: f64, new_points: *mut f64, new_points_len: usize,
+        new_quads: *mut u32, new_quads_len: usize, new_labels: *mut u8, new_labels_len: usize, work: *mut u32,
+        work_len: usize, floats: *mut f64, floats_len: usize, answer: *mut u64, answer_len: usize,
+    ) -> u32;
+    fn quads_boundary_rows(
+        points: *const f64, points_len: usize, quads: *const u32, quads_len: usize, labels: *const u8,
+        labels_len: usize, np: usize, nq: usize, nl: usize, kind: u32, numbers: *const f64, numbers_len: usize,
+        bounds: *const f64, bounds_len: usize, lower: f64, upper: f64, new_points: *mut f64, new_points_len: usize,
+        new_quads: *mut u32, new_quads_len: usize, new_labels: *mut u8, new_labels_len: usize, work: *mut u32,
+        work_len: usize, floats: *mut f64, floats_len: usize, answer: *mut u64, answer_len: usize,
+    ) -> u32;
+    fn quads_regularize(
+        points: *const f64, points_len: usize, quads: *mut u32, quads_len: usize, labels: *const u8, labels_len: usize,
+        np: usize, nq: usize, nl: usize, kind: u32, numbers: *const f64, numbers_len: usize, bounds: *const f64,
+        bounds_len: usize, lower: f64, upper: f64, passes: usize, work: *mut u32, work_len: usize, floats: *mut f64,
+        floats_len: usize, answer: *mut u64, answer_len: usize,
+    ) -> u32;
+    fn quads_improve_layout(
+        points: *const f64, points_len: usize, quads: *mut u32, quads_len: usize, labels: *const u8, labels_len: usize,
+        np: usize, nq: usize, nl: usize, kind: u32, numbers: *const f64, numbers_len: usize, bounds: *const f64,
+        bounds_len: usize, lower: f64, upper: f64, passes: usize, work: *mut u32, work_len: usize, floats: *mut f64,
+        floats_len: usize, answer: *mut u64, answer_len: usize,
+    ) -> u32;
+    fn quads_coarsen(
+        points: *mut f64, points_len: usize, quads: *mut u32, quads_len: usize, labels: *mut u8, labels_len: usize,
+        np: usize, nq: usize, nl: usize, kind: u32, numbers: *const f64, numbers_len: usize, bounds: *const f64,
+        bounds_len: usize, lower: f64, upper: f64, passes: usize, work: *mut u32, work_len: usize, floats: *mut f64,
+        floats_len: usize, answer: *mut u64, answer_len: usize,
+    ) -> u32;
+    fn quads_quality(
+        points: *const f64, points_len: usize, quads: *const u32, quads_len: usize, labels: *const u8,
+        labels_len: usize, np: usize, nq: usize, nl: usize, kind: u32, numbers: *const f64, numbers_len: usize,
+        bounds: *const f64, bounds_len: usize, lower: f64, upper: f64, work: *mut u32, work_len: usize,
+        floats: *mut f64, floats_len: usize, answer: *mut u64, answer_len: usize, measures: *mut f64,
+        measures_len: usize,
+    ) -> u32;
+}
+
+/// Calls an export. Each group of arguments in turn adds its own to the list, a slice as its pointer and its length.
+macro_rules! call {
+    ($name:ident($($list:expr,)*)) => { $name($($list),*) };
+    ($name:ident($($list:expr,)*) number $n:ident; $($rest:tt)*) => { call!($name($($list,)* $n,) $($rest)*) };
+    ($name:ident($($list:expr,)*) reads $s:expr; $($rest:tt)*) => {
+        call!($name($($list,)* $s.as_ptr(), $s.len(),) $($rest)*)
+    };
+    ($name:ident($($list:expr,)*) writes $s:expr; $($rest:tt)*) => {
+        call!($name($($list,)* $s.as_mut_ptr(), $s.len(),) $($rest)*)
+    };
+    ($name:ident($($list:expr,)*) counts $c:expr; $($rest:tt)*) => {
+        call!($name($($list,)* $c[0], $c[1], $c[2],) $($rest)*)
+    };
+    ($name:ident($($list:expr,)*) sheet $s:ident; $($rest:tt)*) => {
+        call!($name($($list,)*) reads $s.points; reads $s.quads; reads $s.labels; counts $s.counts; $($rest)*)
+    };
+    ($name:ident($($list:expr,)*) swapped $s:ident; $($rest:tt)*) => {
+        call!($name($($list,)*) reads $s.points; writes $s.quads; reads $s.labels; counts $s.counts; $($rest)*)
+    };
+    ($name:ident($($list:expr,)*) merged $s:ident; $($rest:tt)*) => {
+        call!($name($($list,)*) made $s; counts $s.counts; $($rest)*)
+    };
+    ($name:ident($($list:expr,)*) band $b:ident; $($rest:tt)*) => {
+        call!($name($($list,)* $b.kind,) reads $b.numbers; reads $b.bounds; levels $b; $($rest)*)
+    };
+    ($name:ident($($list:expr,)*) levels $b:ident; $($rest:tt)*) => {
+        call!($name($($list,)* $b.lower, $b.upper,) $($rest)*)
+    };
+    ($name:ident($($list:expr,)*) made $m:ident; $($rest:tt)*) => {
+        call!($name($($list,)*) writes $m.points; writes $m.quads; writes $m.labels; $($rest)*)
+    };
+    ($name:ident($($list:expr,)*) work $w:ident; $($rest:tt)*) => {
+        call!($name($($list,)*) writes $w.wholes; writes $w.floats; $($rest)*)
+    };
+}
+
+/// `quads_extract_candidate`.
+pub fn extract_candidate(band: Given, cells: usize, made: Written, work: Work, answer: &mut [u64]) -> u32 {
+    // SAFETY: each pointer goes with the length of its slice, and no slice that is written overlaps another.
+    unsafe { call!(quads_extract_candidate() band band; number cells; made made; work work; writes answer;) }
+}
+
+/// `quads_refine`.
+pub fn refine(sheet: Read, made: Written, work: Work, answer: &mut [u64]) -> u32 {
+    // SAFETY: each pointer goes with the length of its slice, and no slice that is written overlaps another.
+    unsafe { call!(quads_refine() sheet sheet; made made; work work; writes answer;) }
+}
+
+/// `quads_subdivide`.
+pub fn subdivide(sheet: Read, band: Given, made: Written, work: Work, answer: &mut [u64]) -> u32 {
+    // SAFETY: each pointer goes with the length of its slice, and no slice that is written overlaps another.
+    unsafe { call!(quads_subdivide() sheet sheet; band band; made made; work work; writes answer;) }
+}
+
+/// `quads_boundary_rows`.
+pub fn boundary_rows(sheet: Read, band: Given, made: Written, work: Work, answer: &mut [u64]) -> u32 {
+    // SAFETY: each pointer goes with the length of its slice, and no slice that is written overlaps another.
+    unsafe { call!(quads_boundary_rows() sheet sheet; band band; made made; work work; writes answer;) }
+}
+
+/// `quads_regularize`: of the sheet, the quads are written.
+pub fn regularize(sheet: Altered, band: Given, passes: usize, work: Work, answer: &mut [u64]) -> u32 {
+    // SAFETY: each pointer goes with the length of its slice, and no slice that is written overlaps another.
+    unsafe { call!(quads_regularize() swapped sheet; band band; number passes; work work; writes answer;) }
+}
+
+/// `quads_improve_layout`: of the sheet, the quads are written.
+pub fn improve_layout(sheet: Altered, band: Given, passes: usize, work: Work, answer: &mut [u64]) -> u32 {
+    // SAFETY: each pointer goes with the length of its slice, and no slice that is written overlaps another.
+    unsafe { call!(quads_improve_layout() swapped sheet; band band; number passes; work work; writes answer;) }
+}
+
+/// `quads_coarsen`.
+pub fn coarsen(sheet: Altered, band: Given, passes: usize, work: Work, answer: &mut [u64]) -> u32 {
+    // SAFETY: each pointer goes with the length of its slice, and no slice that is written overlaps another.
+    unsafe { call!(quads_coarsen() merged sheet; band band; number passes; work work; writes answer;) }
+}
+
+/// `quads_quality`.
+pub fn quality(sheet: Read, band: Given, work: Work, answer: &mut [u64], measures: &mut [f64]) -> u32 {
+    // SAFETY: each pointer goes with the length of its slice, and no slice that is written overlaps another.
+    unsafe { call!(quads_quality() sheet sheet; band band; work work; writes answer; writes measures;) }
+}

@@ -1,0 +1,57 @@
+//! The sheets and bands of the tests.
+#![allow(dead_code, reason = "no test uses all of them")]
+use quads::{Band, Field, Sheet};
+use std::collections::BTreeMap;
+
+/// The unit cube: six quads labelled 2 to 7, all turned outwards.
+pub fn cube() -> Sheet {
+    let bit = |n: u32, i: u32| f64::from((n >> i) & 1);
+    Sheet {
+        points: (0..8).map(|n| [bit(n, 0), bit(n, 1), bit(n, 2)]).collect(),
+        quads: vec![[0, 4, 6, 2], [1, 3, 7, 5], [0, 1, 5, 4], [2, 6, 7, 3], [0, 2, 3, 1], [4, 5, 7, 6]],
+        labels: vec![2, 3, 4, 5, 6, 7],
+    }
+}
+
+/// A band that has the unit cube as its box.
+pub fn unit_box() -> Band {
+    let field = Field::Plane { a: 0.0, b: 0.0, c: 1.0, d: 0.0 };
+    Band { field, low: [0.0; 3], high: [1.0; 3], lower: -1.0, upper: 2.0 }
+}
+
+/// A shell around the origin in the box from -1 to 1: two skins.
+pub fn shell() -> Band {
+    let field = Field::Ball { cx: 0.0, cy: 0.0, cz: 0.0, r: 0.0 };
+    Band { field, low: [-1.0; 3], high: [1.0; 3], lower: 0.25, upper: 0.64 }
+}
+
+/// The shell, cut through its middle: one skin, which the cut closes.
+pub fn bowl() -> Band {
+    Band { high: [1.0, 1.0, 0.1], ..shell() }
+}
+
+/// The quads at each edge.
+pub fn edges(sheet: &Sheet) -> BTreeMap<(u32, u32), usize> {
+    let mut edges = BTreeMap::new();
+    for quad in &sheet.quads {
+        for j in 0..4 {
+            let (a, b) = (quad[j], quad[(j + 1) % 4]);
+            *edges.entry((a.min(b), a.max(b))).or_default() += 1;
+        }
+    }
+    edges
+}
+
+/// Points minus edges plus quads.
+pub fn euler(sheet: &Sheet) -> i64 {
+    sheet.points.len() as i64 - edges(sheet).len() as i64 + sheet.quads.len() as i64
+}
+
+/// The sum of (quads at a point minus 4) squared.
+pub fn squared_sum(sheet: &Sheet) -> i64 {
+    let mut quads = vec![0_i64; sheet.points.len()];
+    for &corner in sheet.quads.as_flattened() {
+        quads[corner as usize] += 1;
+    }
+    quads.iter().map(|n| (n - 4).pow(2)).sum()
+}

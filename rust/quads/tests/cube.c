@@ -1,0 +1,47 @@
+/* Refines the unit cube and measures it, through include/quads.h. */
+#include <quads.h>
+#include <stdio.h>
+
+#define COUNT(a) (sizeof(a) / sizeof *(a))
+
+/* The unit cube: six quads labelled 2 to 7, all turned outwards. */
+static const double points[] = {0, 0, 0, 1, 0, 0, 0, 1, 0, 1, 1, 0, 0, 0, 1, 1, 0, 1, 0, 1, 1, 1, 1, 1};
+static const uint32_t quads[] = {0, 4, 6, 2, 1, 3, 7, 5, 0, 1, 5, 4, 2, 6, 7, 3, 0, 2, 3, 1, 4, 5, 7, 6};
+static const uint8_t labels[] = {2, 3, 4, 5, 6, 7};
+
+/* Refines the cube: 26 points and 24 quads. */
+static uint32_t refine(void)
+{
+    static uint32_t work[QUADS_WORK(8, 6)], new_quads[4 * 24];
+    static double floats[QUADS_FLOATS(8, 6)], new_points[3 * 26];
+    uint8_t new_labels[24];
+    uint64_t answer[4];
+    uint32_t number = quads_refine(points, COUNT(points), quads, COUNT(quads), labels, COUNT(labels), 8, 6, 6,
+        new_points, COUNT(new_points), new_quads, COUNT(new_quads), new_labels, COUNT(new_labels),
+        work, COUNT(work), floats, COUNT(floats), answer, COUNT(answer));
+    printf("refine %u: %llu points, %llu quads, last label %u\n", number, (unsigned long long)answer[1],
+        (unsigned long long)answer[2], new_labels[23]);
+    return number;
+}
+
+/* Measures the cube in the box from 0 to `side`. */
+static uint32_t quality(double side)
+{
+    static uint32_t work[QUADS_WORK(8, 6)];
+    static double floats[QUADS_FLOATS(8, 6)];
+    const double numbers[10] = {0, 0, 1, 0}, bounds[6] = {0, 0, 0, side, side, side};
+    uint64_t answer[10];
+    double measures[4];
+    uint32_t number = quads_quality(points, COUNT(points), quads, COUNT(quads), labels, COUNT(labels), 8, 6, 6,
+        QUADS_PLANE, numbers, COUNT(numbers), bounds, COUNT(bounds), -1, 2,
+        work, COUNT(work), floats, COUNT(floats), answer, COUNT(answer), measures, COUNT(measures));
+    printf("quality %u: %llu quads, %llu bad links, tight %llu, valid %llu, least shape %g\n", number,
+        (unsigned long long)answer[0], (unsigned long long)answer[5], (unsigned long long)answer[8],
+        (unsigned long long)answer[9], measures[0]);
+    return number;
+}
+
+int main(void)
+{
+    return !(refine() == QUADS_ACCEPTED && quality(1) == QUADS_ACCEPTED && quality(-1) == QUADS_BOX);
+}

@@ -1,0 +1,222 @@
+//! One call of the face, between margins, and what it must leave.
+use crate::guarded::{Bits, Guarded, is_zero, same};
+use crate::inputs::Input;
+use quads::ffi;
+
+/// The operations.
+#[derive(Clone, Copy, Debug, PartialEq)]
+pub enum Operation {
+    Extract,
+    Refine,
+    Subdivide,
+    Rows,
+    Regularize,
+    ImproveLayout,
+    Coarsen,
+    Quality,
+}
+
+/// All of them.
+pub const OPERATIONS: [Operation; 8] = [
+    Operation::Extract,
+    Operation::Refine,
+    Operation::Subdivide,
+    Operation::Rows,
+    Operation::Regularize,
+    Operation::ImproveLayout,
+    Operation::Coarsen,
+    Operation::Quality,
+];
+
+impl Operation {
+    /// Whether it makes a new sheet.
+    pub fn makes(self) -> bool {
+        matches!(self, Operation::Extract | Operation::Refine | Operation::Subdivide | Operation::Rows)
+    }
+
+    /// Whether it alters the lent quads.
+    fn alters(self) -> bool {
+        matches!(self, Operation::Regularize | Operation::ImproveLayout | Operation::Coarsen)
+    }
+
+    /// Whether it takes a band.
+    fn takes_band(self) -> bool {
+        self != Operation::Refine
+    }
+
+    /// How many elements of the answer it writes.
+    fn answers(self) -> usize {
+        if self == Operation::Quality { 10 } else { 4 }
+    }
+}
+
+/// What a call is lent, between margins.
+#[derive(Clone)]
+pub struct Lent {
+    points: Guarded<f64>,
+    quads: Guarded<u32>,
+    labels: Guarded<u8>,
+    numbers: Guarded<f64>,
+    bounds: Guarded<f64>,
+    new_points: Guarded<f64>,
+    new_quads: Guarded<u32>,
+    new_labels: Guarded<u8>,
+    work: Guarded<u32>,
+    floats: Guarded<f64>,
+    answer: Guarded<u64>,
+    measures: Guarded<f64>,
+}
+
+impl Lent {
+    /// The lists of an input, each between margins.
+    pub fn of(input: &Input, margin: usize) -> Lent {
+        Lent {
+            points: Guarded::new(&input.points, margin),
+            quads: Guarded::new(&input.quads, margin),
+            labels: Guarded::new(&input.labels, margin),
+            numbers: Guarded::new(&input.numbers, margin),
+            bounds: Guarded::new(&input.bounds, margin),
+            new_points: Guarded::new(&input.new_points, margin),
+            new_quads: Guarded::new(&input.new_quads, margin),
+            new_labels: Guarded::new(&input.new_labels, margin),
+            work: Guarded::new(&input.work, margin),
+            floats: Guarded::new(&input.floats, margin),
+            answer: Guarded::new(&input.answer, margin),
+            measures: Guarded::new(&input.measures, margin),
+        }
+    }
+
+    /// Calls an operation: its number.
+    pub fn call(&mut self, operation: Operation, input: &Input) -> u32 {
+        let Input { counts, kind, levels: [lower, upper], argument, .. } = *input;
+        let (numbers, bounds) = (self.numbers.list(), self.bounds.list());
+        let band = ffi::Given { kind, numbers, bounds, lower, upper };
+        let work = ffi::Work { wholes: self.work.list_mut(), floats: self.floats.list_mut() };
+        let answer = self.answer.list_mut();
+        if operation.alters() {
+            let (points, quads, labels) = (self.points.list_mut(), self.quads.list_mut(), self.labels.list_mut());
+            let sheet = ffi::Altered { points, quads, labels, counts };
+            return match operation {
+                Operation::Regularize => ffi::regularize(sheet, band, argument, work, answer),
+                Operation::ImproveLayout => ffi::improve_layout(sheet, band, argument, work, answer),
+                _ => ffi::coarsen(sheet, band, argument, work, answer),
+            };
+        }
+        let (points, quads, labels) = (self.points.list(), self.quads.list(), self.labels.list());
+        let sheet = ffi::Read { points, quads, labels, counts };
+        let (points, quads) = (self.new_points.list_mut(), self.new_quads.list_mut());
+        let made = ffi::Written { points, quads, labels: self.new_labels.list_mut() };
+        match operation {
+            Operation::Extract => ffi::extract_candidate(band, argument, made, work, answer),
+            Operation::Refine => ffi::refine(sheet, made, work, answer),
+            Operation::Subdivide => ffi::subdivide(sheet, band, made, work, answer),
+            Operation::Rows => ffi::boundary_rows(sheet, band, made, work, answer),
+            _ => ffi::quality(sheet, band, work, answer, self.measures.list_mut()),
+        }
+    }
+
+    /// Whether all lists are those of another.
+    pub fn same(&self, other: &Lent) -> bool {
+        same(self.points.list(), other.points.list())
+            && same(self.quads.list(), other.quads.list())
+            && same(self.labels.list(), other.labels.list())
+            && same(self.new_points.list(), other.new_points.list())
+            && same(self.new_quads.list(), other.new_quads.list())
+            && same(self.new_labels.list(), other.new_labels.list())
+            && same(self.answer.list(), other.answer.list())
+            && same(self.measures.list(), other.measures.list())
+    }
+
+    /// What a call that ended with this number broke of its promise.
+    pub fn broken(&self, before: &Lent, operation: Operation, number: u32) -> Vec<&'static str> {
+        let accepted = number == 0;
+        let checks = [
+            (number <= 13, "the number is none of the table"),
+            (self.is_intact(), "something is written outside of the slices"),
+            (self.reads_stay(before, operation, accepted), "something that is only read is changed"),
+            (is_zero(self.work.list()) && is_zero(self.floats.list()), "the work slices are not zero"),
+            (self.answers_fit(before, operation, accepted), "the answer is not as promised"),
+            (!accepted || self.sheet_fits(operation), "the sheet has something behind it"),
+            (accepted || !operation.makes() || self.made_is_zero(), "a refusal leaves something"),
+            (number == 13 || !self.is_too_short(operation), "a slice that is too short is not refused"),
+        ];
+        checks.into_iter().filter(|&(kept, _)| !kept).map(|(_, what)| what).collect()
+    }
+
+    /// Whether all margins are as they were.
+    fn is_intact(&self) -> bool {
+        let floats = [&self.points, &self.numbers, &self.bounds, &self.new_points, &self.floats, &self.measures];
+        floats.iter().all(|list| list.is_intact())
+            && [&self.quads, &self.new_quads, &self.work].iter().all(|list| list.is_intact())
+            && [&self.labels, &self.new_labels].iter().all(|list| list.is_intact())
+            && self.answer.is_intact()
+    }
+
+    /// Whether everything that the operation does not write, or was refused to, is as it was.
+    fn reads_stay(&self, before: &Lent, operation: Operation, accepted: bool) -> bool {
+        fn stays<T: Bits>(now: &Guarded<T>, then: &Guarded<T>) -> bool {
+            same(now.list(), then.list())
+        }
+        let merged = accepted && operation == Operation::Coarsen;
+        let swapped = accepted && operation.alters();
+        stays(&self.numbers, &before.numbers)
+            && stays(&self.bounds, &before.bounds)
+            && (merged || stays(&self.points, &before.points))
+            && (merged || stays(&self.labels, &before.labels))
+            && (swapped || stays(&self.quads, &before.quads))
+            && (operation.makes() || stays(&self.new_points, &before.new_points))
+            && (operation.makes() || stays(&self.new_quads, &before.new_quads))
+            && (operation.makes() || stays(&self.new_labels, &before.new_labels))
+            && (operation == Operation::Quality || stays(&self.measures, &before.measures))
+    }
+
+    /// Whether the answer or the measures are too short, or a list of the band that the operation takes.
+    fn is_too_short(&self, operation: Operation) -> bool {
+        let band = self.numbers.list().len() < 10 || self.bounds.list().len() < 6;
+        self.is_mute(operation) || (operation.takes_band() && band)
+    }
+
+    /// Whether the answer or the measures are too short to be written.
+    fn is_mute(&self, operation: Operation) -> bool {
+        let measures = operation == Operation::Quality && self.measures.list().len() < 4;
+        self.answer.list().len() < operation.answers() || measures
+    }
+
+    /// Whether the answer and the measures are written, zero after a refusal, and untouched behind and where they are too short.
+    fn answers_fit(&self, before: &Lent, operation: Operation, accepted: bool) -> bool {
+        let (now, then) = (self.answer.list(), before.answer.list());
+        let (measures, measures_then) = (self.measures.list(), before.measures.list());
+        if self.is_mute(operation) {
+            return same(now, then) && same(measures, measures_then);
+        }
+        let n = operation.answers();
+        let behind = same(&now[n..], &then[n..]);
+        let measured = operation == Operation::Quality;
+        behind
+            && (accepted || is_zero(&now[..n]))
+            && (!measured || accepted || is_zero(&measures[..4]))
+            && (!measured || same(&measures[4..], &measures_then[4..]))
+    }
+
+    /// Whether the sheet that was made or altered fits into its slices, with zeros behind it.
+    fn sheet_fits(&self, operation: Operation) -> bool {
+        fn ends<T: Bits>(list: &[T], length: usize) -> bool {
+            list.get(length..).is_some_and(is_zero)
+        }
+        let count = |i: usize| self.answer.list().get(i).map_or(usize::MAX, |&n| n as usize);
+        let made = |points: &[f64], quads: &[u32], labels: &[u8]| {
+            ends(points, 3 * count(1)) && ends(quads, 4 * count(2)) && ends(labels, count(3))
+        };
+        match operation {
+            Operation::Quality => true,
+            Operation::Regularize | Operation::ImproveLayout => ends(self.quads.list(), 4 * count(2)),
+            Operation::Coarsen => made(self.points.list(), self.quads.list(), self.labels.list()),
+            _ => made(self.new_points.list(), self.new_quads.list(), self.new_labels.list()),
+        }
+    }
+
+    /// Whether the slices for a new sheet are all zero.
+    fn made_is_zero(&self) -> bool {
+        is_zero(self.new_points.list()) && is_zero(self.new_quads.list()) && is_zero(self.new_labels.list())
+    }
+}

@@ -1,0 +1,79 @@
+//! The C header: it declares what the library exports and what the Rust crate calls, and a small C program runs with it.
+use std::collections::BTreeMap;
+use std::path::{Path, PathBuf};
+use std::process::Command;
+
+/// A file of the project.
+fn file(name: &str) -> PathBuf {
+    Path::new(env!("CARGO_MANIFEST_DIR")).join("../..").join(name)
+}
+
+/// The exports that a file declares, each with its parameters: a declaration starts with these words, and `read` turns a parameter into Rust's.
+fn declared(name: &str, start: &str, read: fn(&str) -> String) -> BTreeMap<String, Vec<String>> {
+    let text = std::fs::read_to_string(file(name)).unwrap();
+    let declaration = |part: &str| {
+        let (name, rest) = part.split_once('(').unwrap();
+        let parameters = rest.split_once(')').unwrap().0.split(',').map(str::trim);
+        let texts: Vec<String> = parameters.filter(|text| !text.is_empty()).map(read).collect();
+        (name.to_string(), texts.join(", ").split(", ").map(String::from).collect())
+    };
+    text.split(start).skip(1).map(declaration).collect()
+}
+
+/// A parameter of C in Rust.
+fn from_c(text: &str) -> String {
+    let (kind, name) = text.rsplit_once([' ', '*']).unwrap();
+    let kind = match kind.trim_start_matches("const ").trim_end() {
+        "double" => "f64",
+        "uint64_t" => "u64",
+        "uint32_t" => "u32",
+        "uint8_t" => "u8",
+        "size_t" => "usize",
+        other => panic!("{other} in {text}"),
+    };
+    match (text.contains('*'), text.starts_with("const ")) {
+        (true, true) => format!("{name}: *const {kind}"),
+        (true, false) => format!("{name}: *mut {kind}"),
+        (false, _) => format!("{name}: {kind}"),
+    }
+}
+
+/// A parameter of the library's source in Rust: a slice passes as its pointer and its length.
+fn from_rattle(text: &str) -> String {
+    let (name, kind) = text.split_once(": ").unwrap();
+    match (kind.strip_prefix("&["), kind.strip_prefix("&mut [")) {
+        (Some(kind), _) => format!("{name}: *const {}, {name}_len: usize", kind.trim_end_matches(']')),
+        (_, Some(kind)) => format!("{name}: *mut {}, {name}_len: usize", kind.trim_end_matches(']')),
+        _ => text.to_string(),
+    }
+}
+
+#[test]
+fn header_library_and_crate_declare_the_same() {
+    let header = declared("include/quads.h", "uint32_t quads_", from_c);
+    assert_eq!(header.len(), 8);
+    assert_eq!(header, declared("rust/quads/src/ffi.rs", "fn quads_", str::to_string));
+    assert_eq!(header, declared("crates/quads/src/lib.rt", "extern \"C\" fn quads_", from_rattle));
+}
+
+/// Runs a program to its end: what it wrote, if it went well.
+fn run(command: &mut Command) -> String {
+    let output = command.output().unwrap_or_else(|error| panic!("{command:?}: {error}"));
+    assert!(output.status.success(), "{command:?}: {}", String::from_utf8_lossy(&output.stderr));
+    String::from_utf8(output.stdout).unwrap()
+}
+
+#[test]
+fn a_c_program_refines_and_measures_the_cube() {
+    let program = Path::new(env!("CARGO_TARGET_TMPDIR")).join("cube");
+    let mut compiler = Command::new("cc");
+    compiler.args(["-std=c99", "-Wall", "-Wextra", "-Wpedantic", "-Werror", "-O2", "-I"]).arg(file("include"));
+    compiler.arg(file("rust/quads/tests/cube.c")).arg(env!("QUADS_ARCHIVE")).arg("-o").arg(&program);
+    run(&mut compiler);
+    assert_eq!(
+        run(&mut Command::new(&program)),
+        "refine 0: 26 points, 24 quads, last label 7\n\
+         quality 0: 6 quads, 0 bad links, tight 1, valid 1, least shape 1\n\
+         quality 1: 0 quads, 0 bad links, tight 0, valid 0, least shape 0\n"
+    );
+}
