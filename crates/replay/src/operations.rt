@@ -291,8 +291,58 @@ fn ask_swaps(
     )
 }
 
-// Whether `regularize` or `improve_layout` answers as the record says; k holds the band.
-fn swapped(bytes: &[u8], operation: u64, n: Sizes, k: &[f64], number: u64) -> bool
+// Calls `coarsen`, as operation 6, or one of those two: the number of its answer.
+fn ask_cleaned(
+    operation: u64,
+    passes: usize,
+    n: Sizes,
+    kind: u32,
+    k: &[f64],
+    points: &mut [f64],
+    corners: &mut [u32],
+    labels: &mut [u8],
+    work: &mut [u32],
+    floats: &mut [f64],
+    answer: &mut [u64],
+) -> u32
+    requires { ⌜ 18 ≤ length (now k) ⌝ }
+{
+    if operation == 6 {
+        return quads::quads_coarsen(
+            points,
+            corners,
+            labels,
+            n.points,
+            n.quads,
+            n.labels,
+            kind,
+            &k[0..10],
+            &k[10..16],
+            k[16],
+            k[17],
+            passes,
+            work,
+            floats,
+            answer,
+        );
+    }
+    ask_swaps(
+        operation,
+        passes,
+        n,
+        kind,
+        k,
+        points,
+        corners,
+        labels,
+        work,
+        floats,
+        answer,
+    )
+}
+
+// Whether `regularize`, `improve_layout` or `coarsen` answers as the record says; k holds the band.
+fn cleaned(bytes: &[u8], operation: u64, n: Sizes, k: &[f64], number: u64) -> bool
     requires { ⌜ Small n ⌝ }
     requires { ⌜ 18 ≤ length (now k) ⌝ }
 {
@@ -303,15 +353,43 @@ fn swapped(bytes: &[u8], operation: u64, n: Sizes, k: &[f64], number: u64) -> bo
     let mut work = [0u32; 8192];
     let mut floats = [0.0; 2048];
     let mut answer = [0u64; 4];
-    let got = ask_swaps(
+    let got = ask_cleaned(
         operation,
         numbers::word_at(bytes, 8) as usize,
         n,
         numbers::byte_at(bytes, 7) as u32,
         k,
-        &points,
+        &mut points,
         &mut corners,
-        &labels,
+        &mut labels,
+        &mut work,
+        &mut floats,
+        &mut answer,
+    );
+    same_answer(bytes, n, got, number, &answer, &points, &corners, &labels)
+}
+
+// Whether `extract_candidate` answers as the record says, whose lent sheet is empty; k holds the band.
+fn drawn(bytes: &[u8], n: Sizes, k: &[f64], number: u64) -> bool
+    requires { ⌜ Small n ⌝ }
+    requires { ⌜ 18 ≤ length (now k) ⌝ }
+{
+    let mut points = [0.0; 1152];
+    let mut corners = [0u32; 1024];
+    let mut labels = [0u8; 256];
+    let mut work = [0u32; 8192];
+    let mut floats = [0.0; 2048];
+    let mut answer = [0u64; 4];
+    let got = quads::quads_extract_candidate(
+        numbers::byte_at(bytes, 7) as u32,
+        &k[0..10],
+        &k[10..16],
+        k[16],
+        k[17],
+        numbers::word_at(bytes, 8) as usize,
+        &mut points,
+        &mut corners,
+        &mut labels,
         &mut work,
         &mut floats,
         &mut answer,
@@ -401,8 +479,10 @@ fn agrees_on(bytes: &[u8], n: Sizes, operation: u64, number: u64) -> bool
     match operation {
         1 => made(bytes, operation, n, &k, number),
         2 => made(bytes, operation, n, &k, number),
-        4 => swapped(bytes, operation, n, &k, number),
-        5 => swapped(bytes, operation, n, &k, number),
+        3 => drawn(bytes, n, &k, number),
+        4 => cleaned(bytes, operation, n, &k, number),
+        5 => cleaned(bytes, operation, n, &k, number),
+        6 => cleaned(bytes, operation, n, &k, number),
         7 => made(bytes, operation, n, &k, number),
         8 => quality(bytes, n, &k, number),
         _ => false,

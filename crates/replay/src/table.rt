@@ -5,8 +5,10 @@ fn print_name(operation: usize) {
     match operation {
         1 => io::write_all(1, b"refine "),
         2 => io::write_all(1, b"subdivide "),
+        3 => io::write_all(1, b"extract_candidate "),
         4 => io::write_all(1, b"regularize "),
         5 => io::write_all(1, b"improve_layout "),
+        6 => io::write_all(1, b"coarsen "),
         7 => io::write_all(1, b"boundary_rows "),
         8 => io::write_all(1, b"quality "),
         9 => io::write_all(1, b"project "),

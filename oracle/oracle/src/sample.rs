@@ -28,10 +28,14 @@ const OPERATIONS: [(Operation, usize); 3] =
     [(Operation::Refine, 40), (Operation::Subdivide, 80), (Operation::Quality, 60)];
 
 /// The clean-ups and the rows.
-const CLEANINGS: [Operation; 3] = [Operation::Regularize, Operation::ImproveLayout, Operation::Rows];
+const CLEANINGS: [Operation; 4] =
+    [Operation::Regularize, Operation::ImproveLayout, Operation::Rows, Operation::Coarsen];
 
 /// How many random sheets of each kind the sample holds for each of them: drawn, turned, opened, and any.
 const CLEANED: [usize; 4] = [8, 12, 6, 20];
+
+/// How many random drawings the sample holds: around a part of a ball, and any.
+const DRAWINGS: [usize; 2] = [20, 50];
 
 /// The numbers of passes.
 const PASSES: [u64; 5] = [0, 1, 2, 3, 1000];
@@ -226,12 +230,34 @@ fn cleanings(seed: u64) -> Vec<Record> {
     calls.into_iter().map(record).collect()
 }
 
+/// Whether the replay has room for a drawing: up to 384 points, 256 quads and 6 cells, or refused for its cells.
+fn has_room(record: &Record) -> bool {
+    let [points, quads, _] = record.answer.counts;
+    points <= 384 && quads <= 256 && (record.call.argument <= 6 || record.answer.number == 3)
+}
+
+/// Drawings: around a shell at cells that the replay has room for or that are refused, of the changed bands, of a field that is no number, of
+/// levels outside the box, then random ones.
+fn drawings(seed: u64) -> Vec<Record> {
+    let mut r = Random::new(seed);
+    let operation = Operation::Extract;
+    let of = |argument, band| Call { operation, argument, band, sheet: sheets::empty() };
+    let mut calls: Vec<Call> = [0, 3, 4, 5, 6, 129].map(|cells| of(cells, UNIT)).to_vec();
+    calls.extend(changed_bands().map(|band| of(4, band)));
+    calls.push(of(4, BandNumbers { field: Field::Plane([f64::NAN, 0.0, 0.0, 0.0]), ..UNIT }));
+    calls.push(of(4, BandNumbers { levels: [5.0, 6.0], ..UNIT }));
+    calls.extend((0..DRAWINGS[0]).map(|_| of(4, drawn::small(&mut r).0)));
+    let random = std::iter::repeat_with(|| record(inputs::call(&mut r, operation))).filter(has_room);
+    calls.into_iter().map(record).chain(random.take(DRAWINGS[1])).collect()
+}
+
 /// The sample of a seed.
 pub fn records(seed: u64) -> Vec<Record> {
     let mut records = leaves(seed);
     records.extend(constraints(seed));
     records.extend(operations(seed));
     records.extend(cleanings(seed));
+    records.extend(drawings(seed));
     records
 }
 
@@ -257,16 +283,18 @@ mod tests {
         let quality = [0, 1, 5, 6, 7, 11].map(|number| (Quality, number));
         let regularize = [0, 1, 5, 6, 7].map(|number| (Regularize, number));
         let improve = [0, 1, 5, 6, 7].map(|number| (ImproveLayout, number));
+        let coarsen = [0, 1, 5, 6, 7].map(|number| (Coarsen, number));
         let rows = [0, 1, 5, 6, 7, 8, 10].map(|number| (Rows, number));
+        let drawn = [0, 1, 2, 3, 4, 5, 7].map(|number| (Extract, number));
         let measured = refine.into_iter().chain(subdivide).chain(quality);
-        let cleaned = regularize.into_iter().chain(improve).chain(rows);
+        let cleaned = regularize.into_iter().chain(improve).chain(coarsen).chain(rows).chain(drawn);
         let expected = leaf.into_iter().chain(tests).chain(sheet).chain(measured).chain(cleaned).collect();
         assert_eq!(seen(&records(SEED)), expected);
     }
 
     #[test]
-    fn swaps_of_several_passes_occur() {
-        for operation in [Operation::Regularize, Operation::ImproveLayout] {
+    fn swaps_and_merges_of_several_passes_occur() {
+        for operation in [Operation::Regularize, Operation::ImproveLayout, Operation::Coarsen] {
             let records = cleanings(SEED).into_iter().filter(|record| record.call.operation == operation);
             let counts: Vec<u64> = records.map(|record| record.answer.count).collect();
             assert!(counts.iter().filter(|&&count| count > 0).count() > 10);
@@ -276,7 +304,7 @@ mod tests {
 
     #[test]
     fn the_replay_has_room_for_every_result() {
-        for record in operations(SEED).into_iter().chain(cleanings(SEED)) {
+        for record in operations(SEED).into_iter().chain(cleanings(SEED)).chain(drawings(SEED)) {
             let [points, quads, labels] = record.answer.counts;
             assert!(points <= 384 && quads <= 256 && labels <= 256);
         }
@@ -290,6 +318,6 @@ mod tests {
 
     #[test]
     fn the_sample_is_small() {
-        assert!(record::file(&records(SEED)).len() < 1_000_000);
+        assert!(record::file(&records(SEED)).len() < 1_200_000);
     }
 }
