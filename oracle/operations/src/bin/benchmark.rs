@@ -39,7 +39,7 @@ type Hostile = (&'static str, fn(usize) -> QuadMesh, usize);
 
 /// Hostile sheets: one point, or two, has all the quads or half of them.
 const HOSTILE: [Hostile; 3] =
-    [("fan", sheets::fan, 100_000), ("poles", poles, 100_000), ("wheel", |quads| sheets::wheel(quads / 2), 10_000)];
+    [("fan", sheets::fan, 100_000), ("poles", poles, 100_000), ("wheel", |quads| sheets::wheel(quads / 2), 100_000)];
 
 /// Two poles that all quads share, half of them of another label.
 fn poles(quads: usize) -> QuadMesh {
