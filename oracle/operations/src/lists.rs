@@ -19,6 +19,10 @@ const OPERATIONS: [Operation; 7] = [
     Operation::Quality,
 ];
 
+/// Those of which demand 3 says something; `refine` can make coordinates infinite.
+const CLAIMED: [Operation; 4] =
+    [Operation::Regularize, Operation::ImproveLayout, Operation::Coarsen, Operation::Subdivide];
+
 /// The numbers of passes.
 const PASSES: [u64; 6] = [0, 1, 1, 2, 3, 1000];
 
@@ -75,7 +79,7 @@ fn is_kept(before: Claim, after: Option<Claim>, operation: Operation, passes: u6
     kept
 }
 
-/// Calls the next operation; whether the two agree and the claim of a closed sheet is kept. Nothing is claimed of rows: their sheet is a new start.
+/// Calls the next operation; whether the two agree and the claim of a closed sheet is kept. What another operation makes is a new start.
 fn step(r: &mut Random, band: &BandNumbers, chain: &mut Chain, claim: &mut Option<Claim>, seen: &mut Seen) -> bool {
     let operation = next(r, chain.sheet());
     let passes = r.pick(&PASSES);
@@ -86,7 +90,7 @@ fn step(r: &mut Random, band: &BandNumbers, chain: &mut Chain, claim: &mut Optio
     if answer.number != 0 || operation == Operation::Quality {
         return true;
     }
-    let before = claim.filter(|_| operation != Operation::Rows);
+    let before = claim.filter(|_| CLAIMED.contains(&operation));
     *claim = Claim::of(chain.sheet());
     let kept = before.is_none_or(|before| is_kept(before, *claim, operation, passes, &answer));
     let swapped = operation == Operation::Regularize && before.is_some_and(|before| before.is_settled_by(passes));
