@@ -78,20 +78,33 @@ pub fn fan(n: usize) -> QuadMesh {
     }
 }
 
-/// A fan of n quads with n further quads around it: its spokes end in points of four quads, with points of two between them, so that a merge of the
-/// first point with any of those would gain. The last quad of the fan is so small that none of these merges keeps its shape.
-pub fn wheel(n: usize) -> QuadMesh {
+/// A fan of n quads with n further quads around it: its spokes end in points of four quads, with points of two between them at this radius. A merge
+/// of the first point with any of those would gain.
+fn spoked(n: usize, radius: f64) -> QuadMesh {
     let ring = |radius, turn| (0..n).map(move |i| on_circle(radius, 2 * i + turn));
     let (spoke, between, outer) = (|i: usize| 1 + i % n, |i: usize| 1 + n + i, |i: usize| 1 + 2 * n + i);
     let hub = [[0.0, 0.5, 0.5]].into_iter();
-    let mut points: Vec<Point> = hub.chain(ring(0.3, 0)).chain(ring(0.35, 1)).chain(ring(0.45, 1)).collect();
-    for point in [spoke(n - 1), between(n - 1), spoke(n)] {
-        points[point] = points[point].map(|x| 0.5 + 0.01 * (x - 0.5));
-        points[point][0] = 0.0;
-    }
     let inner = (0..n).map(|i| [0, spoke(i), between(i), spoke(i + 1)]);
-    let quads = inner.chain((0..n).map(|i| [spoke(i), outer(i), spoke(i + 1), between(i)])).collect();
-    QuadMesh { points, quads, labels: vec![2; 2 * n] }
+    QuadMesh {
+        points: hub.chain(ring(0.3, 0)).chain(ring(radius, 1)).chain(ring(0.45, 1)).collect(),
+        quads: inner.chain((0..n).map(|i| [spoke(i), outer(i), spoke(i + 1), between(i)])).collect(),
+        labels: vec![2; 2 * n],
+    }
+}
+
+/// Such a sheet whose first quads lose their shape in each of these merges.
+pub fn wheel(n: usize) -> QuadMesh {
+    spoked(n, 0.35)
+}
+
+/// Such a sheet whose quads keep their shape in each of these merges, but for one small quad at the first point, behind all others.
+pub fn guarded_wheel(n: usize) -> QuadMesh {
+    let mut sheet = spoked(n, 0.2);
+    let first = sheet.points.len();
+    sheet.points.extend((0..3).map(|k| on_circle(0.003, k)));
+    sheet.quads.push([0, first, first + 1, first + 2]);
+    sheet.labels.push(2);
+    sheet
 }
 
 /// Splits a quad by a new point tied to two opposite corners.
