@@ -12,7 +12,7 @@ use Rattle.band.specs.declared.Band.{Band}
 use Rattle.sheet.specs.declared.Counts.{Counts}
 use Rattle.sheet.specs.declared.Verdict.{Verdict}
 use Rattle.sheet.specs.declared.Verdict.the-variants.{Accepted, Refused}
-use Rattle.sheet.specs.Numbers.{short}
+use Rattle.sheet.specs.Numbers.{short, edge}
 use Rattle.sheet.specs.Quads.{Quad, num, touches, hasLabel, maskOf}
 use Rattle.sheet.specs.Flat.{quadsOf, flatQuads}
 use Rattle.sheet.specs.Sheet.{Sheet, isLarge, isShort, sheetVerdict}
@@ -21,11 +21,11 @@ use Rattle.sheet.proofs.Masks.{bit-pack}
 use Rattle.sheet.proofs.Tests.{or-left, lent-is}
 use Rattle.results.specs.declared.Made.{Made}
 use Rattle.results.specs.Results as results
-use Rattle.results.specs.Results.{Outcome, refuses, makes, padded, countsOf}
+use Rattle.results.specs.Results.{Outcome, refuses, makes, padded, countsOf, afterLent}
 use Rattle.results.proofs.Results.{length-flat-quads}
-use Rattle.refine.specs.Finer.{finerSheet, afterLent}
+use Rattle.refine.specs.Finer.{finerSheet}
 use Rattle.smoothed.specs.Smoothed.{paired, smoothSheet}
-use Rattle.subdivide.specs.Subdivide.{edge, astray, landsAt, projectedSheet, projected, subdivided, subdivideRule}
+use Rattle.subdivide.specs.Subdivide.{astray, landsAt, projectedSheet, projected, subdivided, subdivideRule}
 use Rattle.swaps.specs.Claims.{NoClash}
 use Rattle.swaps.specs.Runs.{Answer, capped}
 use Rattle.fits.specs.SwapFits.{swapFits}

@@ -1,24 +1,23 @@
 -- The count of `regularize` stays below the largest usize on every accepted sheet, closed or not. Assumes nothing.
 use mathlib.Core.Path.{_≡_, refl, ap, _∙_}
-use mathlib.Core.Logic.{_⊎_, inl, inr}
-use Prim.Native.Nat.{ℕ, suc, _+_, _*_, _≤_, _<_}
-use native.Mathlib.Nat.{suc-mul, zero-mul, add-mul, mul-one, mul-le-mul-right, mul-le-mul-left}
+use Prim.Native.Nat.{ℕ, suc, _+_, _*_, _≤_}
+use native.Mathlib.Nat.{suc-mul, zero-mul, add-mul, mul-one}
 use mathlib.Core.Bool.{false}
 use mathlib.Core.List.{List}
 use native.Mathlib.Omega.{arith}
-use lib.ListN.{length, getD, replicate}
-use Rattle.sheet.specs.Quads.{Quad, side, valence}
-use Rattle.sheet.specs.Sheet.{Sheet, limit}
+use lib.ListN.{length, replicate}
+use Rattle.sheet.specs.Quads.{Quad, valence}
+use Rattle.sheet.specs.Sheet.{Sheet}
 use Rattle.swaps.specs.Claims.{squared, Below, Differ, All}
-use Rattle.swaps.specs.Runs.{largest, capped, run}
-use Rattle.swaps.specs.Swaps.{noneQuad, swapOne, swapTwo, Fits, swapPass, swapRun}
-use Rattle.swaps.proofs.Passes.{Has, Bar, Pass, stop, one, two}
-use Rattle.swaps.proofs.SwapPass.{Inv, inv-start, Stepped, step-one, step-two}
+use Rattle.swaps.specs.Runs.{capped, run}
+use Rattle.swaps.specs.Swaps.{swapOne, swapTwo, Fits, swapPass, swapRun}
+use Rattle.swaps.proofs.Passes.{Bar, Pass, stop, one, two}
+use Rattle.swaps.proofs.SwapPass.{Inv, inv-more, inv-start, Stepped, step-one, step-two}
 use Rattle.swaps.proofs.Sweep.{Barred, pass-made}
 use Rattle.swaps.proofs.Runs.{Ran, run-keeps, capped-small}
 use Rattle.closed.specs.Clean.{Accepted}
 use Rattle.closed.proofs.Fine.{Fine, fine-of}
-use Rattle.closed.proofs.Caps.{squared-le}
+use Rattle.closed.proofs.Caps.{squared-le, product-le}
 
 -- what swaps keep of quads in range with different corners, w being the least fall of the squared sum
 record Fell (n w : ℕ) (S T : List Quad) : Type 0 where
@@ -26,14 +25,6 @@ record Fell (n w : ℕ) (S T : List Quad) : Type 0 where
   four : All Differ T
   len : length T ≡ length S
   falls : squared n T + w ≤ squared n S
-
--- to bar more keeps the invariant of a pass
-inv-more : (S0 S : List Quad) (B B₁ : ℕ → Type 0) → ((k : ℕ) → B k → B₁ k) → Inv S0 S B → Inv S0 S B₁
-inv-more S0 S B B₁ f inv = record { len = inv .len; kept = λ i n. inv .kept i (λ b. n (f i b)); old-edge = λ u v h. go u v (inv .old-edge u v h) }
-  where
-    go : (u v : ℕ) → (0 < side S0 u v) ⊎ ((i : ℕ) → Has (getD S0 i noneQuad) u → B i) → (0 < side S0 u v) ⊎ ((i : ℕ) → Has (getD S0 i noneQuad) u → B₁ i)
-    go u v (inl h) = inl h
-    go u v (inr h) = inr (λ i k. f i (h i k))
 
 -- one more swap in front
 before : (n m c va vb vc vd : ℕ) (S S₁ T : List Quad) → length S₁ ≡ length S → squared n S₁ + 2 * (va + vb) ≡ squared n S + (2 * (vc + vd) + 4) → vc + vd + 2 + m ≤ va + vb
@@ -78,14 +69,6 @@ module _ (n : ℕ) (labels : List ℕ) (m : ℕ) (fits : Fits) where
       go : Ran count next Proper Falls S 0 (run count next k S 0) → Falls S (run count next k S 0 .left) (run count next k S 0 .count)
       go r = (r .kept .0, omega (arith, r .kept .1, ap (λ c. c * m) (r .counts)))
 
--- the squared sum of a sheet within the limit
-bound : (n q : ℕ) → n ≤ limit → q ≤ limit → n * (q * q + 16) ≤ 2 * largest
-bound n q h k =
-    let a : q * q ≤ q * limit = mul-le-mul-left q k in
-    let b : q * limit ≤ limit * limit = mul-le-mul-right limit k in
-    let c : n * (q * q + 16) ≤ limit * (q * q + 16) = mul-le-mul-right (q * q + 16) h in
-    omega arith
-
 pub uncapped : (s : Sheet) (fits : Fits) (k : ℕ) → Accepted s
     → capped (swapRun (length (s .points)) (s .labels) 1 fits k (s .quads) .count) ≡ swapRun (length (s .points)) (s .labels) 1 fits k (s .quads) .count
 uncapped s fits k a =
@@ -96,5 +79,5 @@ uncapped s fits k a =
       r .1,
       mul-one (swapRun (length (s .points)) (s .labels) 1 fits k (s .quads) .count),
       squared-le (length (s .points)) (s .quads) (f .differ),
-      bound (length (s .points)) (length (s .quads)) (f .few-points) (f .few-quads),
+      product-le (length (s .points)) (length (s .quads)) (f .few-points) (f .few-quads),
     ))

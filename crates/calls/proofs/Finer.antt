@@ -19,7 +19,8 @@ use Rattle.results.specs.Results.{countsOf}
 use Rattle.refine.specs.Finer.{asked, finer, finerCount, fourLabels, finerSheet, pointIn, newPoints, keyOf, positionOf, made, requests}
 use Rattle.refine.proofs.Requests.{asked-made}
 use Rattle.smoothed.specs.Smoothed.{oldPoint, newPlace, pointOf, smoothSheet}
-use Rattle.subdivide.specs.Subdivide.{landing, ontoOf, landsAt, projectedSheet}
+use Rattle.subdivide.specs.Subdivide.{landing, landsAt, projectedSheet}
+use Rattle.projection.specs.Project.{ontoOf}
 use Rattle.closed.specs.Clean.{refined}
 use Rattle.closed.proofs.Numbers.{finer-length}
 use Rattle.closed.proofs.Demand.{Good, Keeps, finer-kept}

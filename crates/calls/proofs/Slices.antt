@@ -10,7 +10,7 @@ use Rattle.sheet.specs.Quads.{Quad}
 use Rattle.sheet.specs.Flat.{quadsOf, flatQuads}
 use Rattle.sheet.specs.Sheet.{Sheet, sheetOf, flatPoints}
 use Rattle.results.specs.Results.{padded, countsOf, Front}
-use Rattle.smoothed.proofs.Fronts.{points-front, quads-front}
+use Rattle.results.proofs.Fronts.{points-front, quads-front}
 
 front-padded : {A : Type 0} (z : A) (n : ℕ) (l : List A) → Front l (padded z n l)
 unfolding padded

@@ -27,7 +27,8 @@ use Rattle.merges.specs.Coarse.{MergeState, MergeFits, Position, masksJoin, sha
 use Rattle.fits.specs.MergeFits.{joinedMask, movedTo, mergeAt, mergeFits, mergePosition}
 use Rattle.fits.proofs.MergeFits.{merge-refused, merge-onto, position-onto, moved-to, joined-max}
 use Rattle.merging.specs.Tests.{masksJoined, unmarked, quadFree}
-use Rattle.merging.specs.State.{isMarked, usedOf, slotAt, slotsOf, stateOf}
+use Rattle.merging.specs.State.{isMarked, usedOf, stateOf}
+use Rattle.merges.specs.Slots.{slotAt, slotsOf}
 use Rattle.merging.specs.Layout.{flatStart, startOf, usedIn, removedIn, Grounds, Masked, Face, noLabels, meetOnly, gainOf, worthIt, allowedIn}
 use Rattle.merging.proofs.Masks.{masks-join}
 use Rattle.merging.proofs.Around.{used-get}

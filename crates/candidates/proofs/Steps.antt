@@ -38,13 +38,15 @@ use Rattle.merges.specs.Invariant.{MInv, Used}
 use Rattle.merges.proofs.Visits.{MStep, face-step}
 use Rattle.fits.specs.MergeFits.{mergeFits, mergePosition}
 use Rattle.merging.specs.Tests.{unmarked, quadFree}
-use Rattle.merging.specs.State.{usedOf, slotAt, slotsOf, stateOf}
+use Rattle.merging.specs.State.{usedOf, stateOf}
+use Rattle.merges.specs.Slots.{slotAt, slotsOf}
 use borrow.Rule.Slice.PartMut.{midOf}
 use Rattle.merging.specs.Layout.{usedAt, removedAt, flatStart, startOf, usedIn, removedIn, Steady, Grounds, Masked, Face}
 use Rattle.merging.specs.Marks.{isAt, renamedAt, renamedQuads, Merging, Joined}
 use Rattle.merging.proofs.Around.{quad-get, free-corner}
 use Rattle.merging.proofs.Grounds.{lent-used, in-front, start-kept, grounds-kept}
-use Rattle.merging.proofs.States.{slot-get, stands, state-merged, corner-same}
+use Rattle.merging.proofs.States.{stands, state-merged, corner-same}
+use Rattle.merges.proofs.Slots.{slot-get}
 use Rattle.candidates.specs.declared.Candidate.{Candidate}
 use Rattle.candidates.specs.declared.Choice.{Choice}
 use Rattle.candidates.specs.declared.Choice.the-variants.{None, Take}

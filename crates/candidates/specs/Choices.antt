@@ -27,7 +27,8 @@ use Rattle.incidence.specs.Corners.{Cornered}
 use Rattle.lists.specs.Regions.{Kept}
 use Rattle.merging.specs.Tests.{unmarked, quadFree}
 use Rattle.merging.specs.Marks.{Merging, Joined}
-use Rattle.merging.specs.State.{usedOf, slotsOf, stateOf}
+use Rattle.merging.specs.State.{usedOf, stateOf}
+use Rattle.merges.specs.Slots.{slotsOf}
 use Rattle.fits.specs.MergeFits.{mergeAt, staysAt, mergeFits, mergePosition}
 use Rattle.merging.specs.Layout.{flatStart, startOf, usedIn, removedIn, Steady, allowedIn, gainOf, Grounds, Touched, Masked, Face}
 use Rattle.candidates.specs.declared.Candidate.{Candidate}

@@ -29,11 +29,12 @@ use Rattle.swaps.proofs.Runs.{Ran, run-keeps, run-ends, run-again}
 use Rattle.merges.specs.Merges.{Slot, out, slot, live, liveLabels, order, renumber, nonePoint, gathered}
 use Rattle.merges.specs.Coarse.{MergeFits, Position, mergePass, compact, nextSheet, coarseRun}
 use Rattle.merges.proofs.Joins.{sqUsed, squaredUsed, inUse, Merges}
-use Rattle.merges.specs.Invariant.{MInv, Used, weigh}
+use Rattle.merges.specs.Invariant.{Used, weigh}
 use Rattle.merges.proofs.MergePass.{slot-in, slot-inj, sq-used-pos, MKept, merges-kept, MAccepted, merges-accepted, slotTouches, SlotsNoClash, touches-live, live-length}
 use Rattle.merges.proofs.Renumber.{renumber-rings, renumber-proper, renumber-below, renumber-used, renumber-squared, renumber-points, renumber-length, renumber-clash, of-order}
 use Rattle.merges.proofs.Visits.{pass-merges}
 use Rattle.merges.proofs.Points.{all-gathered, pass-placed}
+use Rattle.merges.proofs.Slots.{slot-at, inv-fresh}
 use Rattle.closed.specs.Clean.{SameEuler, squaredOf, withQuads, refined}
 use Rattle.closed.proofs.Finer.{all-at}
 use Rattle.closed.proofs.Numbers.{finer-rings, finer-below, finer-used, finer-squared, finer-more, finer-proper, finer-length, finer-clash}
@@ -152,15 +153,6 @@ module _ (s : Sheet) (fits : Fits) (k : ℕ) (a : Good s) (h : squaredOf s < 2 *
 
 -- ---- merges
 
--- The start of a pass of merges.
-slot-at : (S : List Quad) (j : ℕ) → j < length S → getD (map slot S) j out ≡ slot (getD S j noneQuad)
-slot-at [] j l = absurd (omega arith)
-slot-at (q ∷ S) zero l = refl
-slot-at (q ∷ S) (suc j) l = slot-at S j (omega arith)
-
-minv-start : (S : List Quad) (U : ℕ → Type 0) → MInv S (map slot S) U
-minv-start S U = record { len = length-map S slot; same = λ v nu j l h. slot-at S j l }
-
 live-slot : (S : List Quad) → live (map slot S) ≡ S
 live-slot [] = refl
 live-slot (q ∷ S) = ap {B = List Quad} (λ l. q ∷ l) (live-slot S)
@@ -228,7 +220,7 @@ length-gathered ps S = length-map (order (live S)) (λ v. getD ps v nonePoint)
 module _ (s : Sheet) (ps : List Point) (S : List Slot) (U : ℕ → Type 0) (c : ℕ) (p : Merges (s .quads) (s .labels) (map slot (s .quads)) U S c)
     (lp : length ps ≡ length (s .points)) (fin : all finiteP ps ≡ true) where
   slots-accepted : Fine s → MAccepted (s .labels) (length (s .points)) c (map slot (s .quads)) S
-  slots-accepted a = merges-accepted (s .quads) (s .labels) (length (s .points)) (map slot (s .quads)) U S c p (minv-start (s .quads) U) (all-at (s .quads) (a .differ)) (slots-proper (s .quads) (a .differ))
+  slots-accepted a = merges-accepted (s .quads) (s .labels) (length (s .points)) (map slot (s .quads)) U S c p (inv-fresh (s .quads) U) (all-at (s .quads) (a .differ)) (slots-proper (s .quads) (a .differ))
       (a .labelled ∙ sym (length-map (s .quads) slot)) (rw live-slot (a .some-quads)) (clash-slots (s .quads) (s .labels) (a .no-clash)) (rw live-slot (a .in-range))
 
   few-used : Fine s → length (gathered ps (order (live S))) ≤ length (s .points)
@@ -261,7 +253,7 @@ module _ (s : Sheet) (ps : List Point) (S : List Slot) (U : ℕ → Type 0) (c :
 
   -- and of a closed one it is closed, with one point less for each merge
   pub one-coarse : Good s → Keeps s (compact S (s .labels) ps) 0 × (length (order (live S)) + c ≡ length (s .points))
-  one-coarse a = go (merges-kept Q (s .labels) (length (s .points)) (map slot Q) U S c p (minv-start Q U) (all-at Q (a .fine .differ)) (slots-proper Q (a .fine .differ))
+  one-coarse a = go (merges-kept Q (s .labels) (length (s .points)) (map slot Q) U S c p (inv-fresh Q U) (all-at Q (a .fine .differ)) (slots-proper Q (a .fine .differ))
       (a .fine .labelled ∙ sym (length-map Q slot)) (rw live-slot (a .fine .some-quads)) (clash-slots Q (s .labels) (a .fine .no-clash)) (rw live-slot (a .rings)) (rw live-slot (a .fine .in-range)))
     where
       Q : List Quad

@@ -8,7 +8,7 @@ use native.Mathlib.Omega.{arith}
 use native.Mathlib.Decide.{decLt}
 use lib.Dec.{eqb, leb, ltb}
 use lib.ListN.{length}
-use borrow.Author.Tests.{eqb-true, eqb-false, eq-eqb, ne-eqb, ltb-true, lt-ltb, le-ltb, leb-true, le-leb}
+use borrow.Author.Tests.{eqb-true, eqb-false, eq-eqb, ne-eqb, ltb-true, lt-ltb, le-ltb, le-leb}
 use Rattle.lists.proofs.Every.{and-left, and-right, every-at, every-on, every-zero}
 use Rattle.points.specs.Points.{finiteP}
 use Rattle.sheet.specs.Quads.{Quad, quad, num, all, at, uses, valence, touches, packTo, pack, hasLabel, maskOf}
@@ -20,7 +20,8 @@ use Rattle.results.specs.Results.{countsOf}
 use Rattle.swaps.specs.Claims.{Below, Differ, All, NoClash, Low}
 use Rattle.swaps.proofs.Weigh.{at-same, at-diff}
 use Rattle.swaps.proofs.Rings.{zero-or}
-use Rattle.swaps.proofs.Sweep.{not-true, not-false}
+use Rattle.swaps.proofs.Sweep.{not-false}
+use Rattle.swaps.proofs.Tests.{low-of, apart, differ-of}
 use Rattle.merges.proofs.Visits.{high-none}
 use Rattle.closed.specs.Clean.{Accepted}
 use Rattle.closed.proofs.Finer.{label-sum-sum}
@@ -54,11 +55,6 @@ none-of : (a b : Bool) → a ≡ false → b ≡ false → (a || b) ≡ false
 none-of a b p q = rw (p, q) refl
 
 -- ---- labels: 6
-
-low-of : (labels : List ℕ) → all lowLabel labels ≡ true → Low labels
-unfolding Low
-low-of [] e = tt
-low-of (l ∷ labels) e = (leb-true l 7 (and-left (leb l 7) (all lowLabel labels) e), low-of labels (and-right (leb l 7) (all lowLabel labels) e))
 
 of-low : (labels : List ℕ) → Low labels → all lowLabel labels ≡ true
 unfolding Low
@@ -98,30 +94,13 @@ in-range-of n S e v h = go (decLt v n)
     go (yes l) = l
     go (no l) = absurd (omega (arith, h, none S e (omega arith)))
 
-apart : (x y : ℕ) → not (eqb x y) ≡ true → x ≢ y
-apart x y e p = not-true (eqb x y) e (eq-eqb x y p)
-
 not-equal : (x y : ℕ) → x ≢ y → not (eqb x y) ≡ true
 not-equal x y n = not-is (eqb x y) (ne-eqb x y n)
 
-differ-of : (n : ℕ) (S : List Quad) → all (proper n) S ≡ true → All Differ S
-unfolding All distinct
-differ-of n [] e = tt
-differ-of n (quad a b c d ∷ S) e =
-    let q = and-right (inRange n (quad a b c d)) (distinct (quad a b c d)) (and-left (proper n (quad a b c d)) (all (proper n) S) e) in
-    let x5 = and-left (not (eqb a b) && not (eqb a c) && not (eqb a d) && not (eqb b c) && not (eqb b d)) (not (eqb c d)) q in
-    let x4 = and-left (not (eqb a b) && not (eqb a c) && not (eqb a d) && not (eqb b c)) (not (eqb b d)) x5 in
-    let t = four (not (eqb a b)) (not (eqb a c)) (not (eqb a d)) (not (eqb b c)) x4 in (
-      (
-        apart a b (t .0),
-        apart a c (t .1),
-        apart a d (t .2),
-        apart b c (t .3),
-        apart b d (and-right (not (eqb a b) && not (eqb a c) && not (eqb a d) && not (eqb b c)) (not (eqb b d)) x5),
-        apart c d (and-right (not (eqb a b) && not (eqb a c) && not (eqb a d) && not (eqb b c) && not (eqb b d)) (not (eqb c d)) q),
-      ),
-      differ-of n S (and-right (proper n (quad a b c d)) (all (proper n) S) e),
-    )
+all-differ : (n : ℕ) (S : List Quad) → all (proper n) S ≡ true → All Differ S
+unfolding All
+all-differ n [] e = tt
+all-differ n (q ∷ S) e = (differ-of q (and-right (inRange n q) (distinct q) (and-left (proper n q) (all (proper n) S) e)), all-differ n S (and-right (proper n q) (all (proper n) S) e))
 
 proper-all : (n : ℕ) (S : List Quad) → Below n S → All Differ S → all (proper n) S ≡ true
 unfolding Below All inRange distinct
@@ -272,7 +251,7 @@ fine-of s a =
       all-finite = is-true (all finiteP (s .points)) (bare .1);
       labels-low = low;
       in-range = below;
-      differ = differ-of n (s .quads) corners;
+      differ = all-differ n (s .quads) corners;
       in-use = λ v l. in-use-of (s .quads) (s .labels) v (every-at (goodPoint (s .quads) (s .labels)) n v (a .masks) l);
       no-clash = no-clash-of n (s .quads) (s .labels) low below (a .masks);
     }

@@ -19,13 +19,12 @@ use Rattle.swaps.proofs.Sweep.{none-some, cond-some, choose-some}
 use Rattle.merges.specs.Merges.{Slot, out, slot}
 use Rattle.merges.specs.Coarse.{MergeState, MergeFits, Position, sumBefore, sumAfter, mayMerge, mergedState, tryFace, visit, freshMerge, mergePass}
 use Rattle.merges.proofs.MergePass.{slot-inj}
-use Rattle.merging.specs.State.{slotsOf}
+use Rattle.merges.specs.Slots.{slotsOf}
 use Rattle.merging.specs.Tests.{unmarked}
 use Rattle.merging.specs.Layout.{removedIn}
-use Rattle.merging.proofs.States.{slot-get, length-slots}
+use Rattle.merges.proofs.Slots.{slot-get, length-slots, slot-at}
 use Rattle.fits.specs.MergeFits.{mergeFits, mergePosition}
 use Rattle.coarse.specs.Pass.{bandPass, Passed}
-use Rattle.coarse.proofs.Start.{slot-at}
 
 -- ---- visits count what they take
 

@@ -1,20 +1,18 @@
 -- A sheet that can be merged can be prepared, and what is prepared can be visited. Assumes nothing.
-use mathlib.Core.Path.{_≡_, refl, sym, ap, _∙_, subst}
-use mathlib.Core.Logic.{_≢_}
+use mathlib.Core.Path.{_≡_, sym, ap, _∙_, subst}
 use mathlib.Core.Bool.{true, false, cond, not}
-use Prim.Native.Nat.{ℕ, zero, suc, _*_, _<_}
+use Prim.Native.Nat.{ℕ, _*_, _<_}
 use mathlib.Core.List.{List, [], _∷_, map}
 use native.Mathlib.Omega.{arith}
 use native.Mathlib.Decide.{ℕ-discrete}
-use lib.Dec.{eqb, leb}
+use lib.Dec.{eqb}
 use lib.Ieee.{Float}
 use lib.ListN.{length, getD, take, replicate, getD-replicate, length-map}
-use borrow.Author.Tests.{eq-eqb, leb-true}
 use Rattle.lists.proofs.Every.{and-left, and-right, every-at}
 use Rattle.lists.proofs.Laws.{is-table, tab-ext, always, tab-same}
-use Rattle.sheet.specs.Quads.{Quad, quad, is, all}
+use Rattle.sheet.specs.Quads.{is, all}
 use Rattle.sheet.specs.Flat.{from, quadAt, quadsOf}
-use Rattle.sheet.specs.Tests.{inRange, distinct, lowLabel, goodCorners, goodQuadAt}
+use Rattle.sheet.specs.Tests.{inRange, lowLabel, goodCorners, goodQuadAt}
 use Rattle.sheet.proofs.Flat.{valence-flat, count-upto, length-quads}
 use Rattle.sheet.proofs.FirstUse.{is-other}
 use Rattle.sheet.proofs.Tests.{corners-tested, length-points}
@@ -23,32 +21,19 @@ use Rattle.incidence.proofs.Corners.{cornered}
 use Rattle.lookup.proofs.Maps.{quads-take}
 use Rattle.swaps.specs.Claims.{Low, Below, Differ}
 use Rattle.swaps.specs.Swaps.{noneQuad}
-use Rattle.swaps.proofs.Sweep.{not-true}
+use Rattle.swaps.proofs.Tests.{low-of, differ-of}
 use Rattle.merges.specs.Merges.{out, slot}
 use Rattle.merges.specs.Coarse.{freshMerge}
-use Rattle.merges.specs.Invariant.{MInv}
-use Rattle.merging.specs.State.{isMarked, usedOf, slotAt, slotsOf, stateOf}
+use Rattle.merging.specs.State.{isMarked, usedOf, stateOf}
+use Rattle.merges.specs.Slots.{slotAt, slotsOf}
+use Rattle.merges.proofs.Slots.{slot-at, inv-fresh}
 use Rattle.merging.specs.Layout.{startOf}
 use Rattle.merging.proofs.Around.{Positive, upto-find, quad-get}
 use Rattle.starting.specs.Starts.{Startable, Started}
 use Rattle.candidates.specs.Choices.{Passing, stateIn}
 use Rattle.coarse.specs.Pass.{sheetIn, Mergeable}
 
--- ---- what the tests of the quads say
-
--- the labels are low
-low-of : (labels : List ℕ) → all lowLabel labels ≡ true → Low labels
-unfolding Low
-low-of [] e = tt
-low-of (l ∷ labels) e = (leb-true l 7 (and-left (leb l 7) (all lowLabel labels) e), low-of labels (and-right (leb l 7) (all lowLabel labels) e))
-
--- the corners of a quad differ
-differ-of : (q : Quad) → distinct q ≡ true → Differ q
-unfolding distinct
-differ-of (quad a b c d) e = (apart a b (search (and-left, and-right)), apart a c (search (and-left, and-right)), apart a d (search (and-left, and-right)), apart b c (search (and-left, and-right)), apart b d (search (and-left, and-right)), apart c d (search (and-left, and-right)))
-  where
-    apart : (x y : ℕ) → not (eqb x y) ≡ true → x ≢ y
-    apart x y h p = not-true (eqb x y) h (eq-eqb x y p)
+-- ---- what the corners say
 
 -- a point with a quad is one of the np
 below-of : {np nq : ℕ} {Q : List ℕ} → Cornered np nq Q → Below np (quadsOf nq Q)
@@ -87,12 +72,6 @@ module _ {np nq : ℕ} {P : List Float} {Q labels w : List ℕ} (M : Mergeable n
 
 -- ---- the state at the start
 
--- a slot of the start
-pub slot-at : (S : List Quad) (j : ℕ) → j < length S → getD (map slot S) j out ≡ slot (getD S j noneQuad)
-slot-at [] j l = absurd (omega arith)
-slot-at (q ∷ S) zero l = refl
-slot-at (q ∷ S) (suc j) l = slot-at S j (omega arith)
-
 -- no quad is out
 slots-fresh : (nq : ℕ) (Q : List ℕ) → slotsOf nq Q (replicate nq 0) ≡ map slot (quadsOf nq Q)
 unfolding slotsOf
@@ -103,10 +82,6 @@ slots-fresh nq Q = sym (is-table out (map slot (quadsOf nq Q)) (slotAt Q (replic
 used-fresh : (np : ℕ) → usedOf np (replicate np 0) ≡ replicate np false
 unfolding usedOf
 used-fresh np = tab-ext (isMarked (replicate np 0)) (always false) np (λ v h. ap (λ (m : ℕ). not (eqb m 0)) (getD-replicate np v 0 0 h)) ∙ tab-same false np
-
--- every quad stands as at the start
-inv-fresh : (S : List Quad) (U : ℕ → Type 0) → MInv S (map slot S) U
-inv-fresh S U = record { len = length-map S slot; same = λ v n j l h. slot-at S j l }
 
 module _ {np nq : ℕ} {Q labels w : List ℕ} (S : Started np nq Q labels w) where
   -- the quads at the start are those of the slice

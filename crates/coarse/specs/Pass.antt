@@ -11,7 +11,7 @@ use Rattle.sheet.specs.Tests.{goodQuadAt}
 use Rattle.sheet.specs.Sheet.{Sheet, limit, sheetOf, pointsOf}
 use Rattle.incidence.specs.Corners.{Cornered}
 use Rattle.merges.specs.Coarse.{MergeState, mergePass}
-use Rattle.merging.specs.State.{slotsOf}
+use Rattle.merges.specs.Slots.{slotsOf}
 use Rattle.merging.specs.Layout.{removedIn}
 use Rattle.fits.specs.MergeFits.{mergeFits, mergePosition}
 

@@ -21,15 +21,15 @@ use Rattle.sheet.proofs.Flat.{length-quads}
 use Rattle.sheet.proofs.Tests.{length-points, corners-tested}
 use Rattle.results.specs.Results.{countsOf, Room}
 use Rattle.results.proofs.Results.{length-flat-points, length-flat-quads}
-use Rattle.smoothed.proofs.Fronts.{points-front, quads-front}
+use Rattle.results.proofs.Fronts.{points-front, quads-front}
 use Rattle.swaps.specs.Runs.{Answer, run}
 use Rattle.swaps.proofs.Runs.{idle}
 use Rattle.merges.specs.Merges.{Slot}
 use Rattle.merges.specs.Coarse.{MergeState, mergePass, compact}
-use Rattle.merging.specs.State as state
 use Rattle.merging.specs.Layout.{removedAt, removedIn}
 use Rattle.fits.specs.MergeFits.{mergeFits, mergePosition}
-use Rattle.compact.specs.Compact.{slotsOf, compacted, Begins, Compacting}
+use Rattle.compact.specs.Compact.{compacted, Begins, Compacting}
+use Rattle.merges.specs.Slots.{slotsOf}
 use Rattle.closed.proofs.Fine.{Fine, accepted-of}
 use Rattle.coarse.specs.Pass.{sheetIn, Mergeable, bandPass, Passed}
 use Rattle.coarse.proofs.Pass.{passed-none}
@@ -50,11 +50,6 @@ begins-room {s} B =
       quads = omega (arith, B .quads .fits, length-flat-quads (s .quads));
       labels = B .labelled .fits;
     })
-
--- the slots of a pass are those of the renumbering
-slots-same : (n : ℕ) (Q R : List ℕ) → slotsOf n Q R ≡ state.slotsOf n Q R
-unfolding slotsOf state.slotsOf
-slots-same n Q R = refl
 
 module _ {b : Band} {c : Counts} {P : List Float} {Q labels w : List ℕ} {f : ℕ} (A : Coarsenable b c P Q labels w f) where
   -- the sheet
@@ -119,7 +114,7 @@ module _ {b : Band} {c : Counts} {P : List Float} {Q labels w : List ℕ} {f : �
         step z = rw (z, run) refl
 
     slots-are : slotsOf (c .quads) Q′ (removedIn (c .points) (c .quads) w′) ≡ mergePass (mergeFits b) (mergePosition b) held .slots
-    slots-are = slots-same (c .quads) Q′ (removedIn (c .points) (c .quads) w′) ∙ D .slots ∙ ap (λ (t : MergeState). t .slots) pass-of
+    slots-are = D .slots ∙ ap (λ (t : MergeState). t .slots) pass-of
 
     next-is : compacted (c .points) (c .quads) P′ Q′ labels (removedIn (c .points) (c .quads) w′) ≡ passLeaves b held
     next-is =

@@ -17,7 +17,7 @@ use Rattle.sheet.proofs.Tests.{lent-is}
 use Rattle.results.specs.declared.Made.the-variants as made
 use Rattle.results.specs.Results.{cleared, padded, shownCounts, countsOf, makes, Fills, Room}
 use Rattle.results.proofs.Results.{fills-leaves}
-use Rattle.smoothed.proofs.Fronts.{front-points, front-quads}
+use Rattle.results.proofs.Fronts.{front-points, front-quads}
 use Rattle.swaps.specs.Runs.{Answer}
 use Rattle.coarsen.specs.declared.Merged.{Merged}
 use Rattle.coarsen.specs.declared.Coarsened.{Coarsened}

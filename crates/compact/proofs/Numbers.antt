@@ -7,7 +7,7 @@ use mathlib.Core.List.{List, [], _∷_, _++_}
 use native.Mathlib.Omega.{arith}
 use native.Mathlib.Numerals.{add-one}
 use lib.Dec.{eqb}
-use lib.ListN.{length, getD, set, length-append, length-set, length-map, replicate}
+use lib.ListN.{length, getD, set, length-append, length-map, replicate}
 use lib.Ieee.{Float}
 use borrow.Author.Tests.{eq-eqb, ne-eqb}
 use Rattle.lists.specs.Sort.{tabulate}
@@ -22,7 +22,7 @@ use Rattle.sheet.proofs.FirstUse.{is-same, is-other, place-in, place-new, first
 use Rattle.sheet.proofs.FirstUse as first-use
 use Rattle.sheet.proofs.Flat.{upto, sum-append}
 use Rattle.results.specs.Results.{Front}
-use Rattle.refine.proofs.Loops.{front-none, front-filled, front-point}
+use Rattle.results.proofs.Fronts.{front-none, front-filled, front-point, length-with}
 use Rattle.merges.proofs.Renumber.{Apart, firsts-apart, firsts-some, sum-by-point}
 use Rattle.compact.specs.Compact.{nth, usedIn, numberIn, pointsIn, Meeting, Numbering}
 
@@ -164,10 +164,6 @@ given-start {np} {m} P {Q} {numbers} {u} g N = record {
   front = rw (used-none Q) (front-none g);
 }
 
-length-with : (s : List Float) (k v : ℕ) (P : List Float) → length (withPoint s k (pointAt P v)) ≡ length s
-unfolding withPoint
-length-with s k v P = simp length-set
-
 module _ {np m : ℕ} {P : List Float} {Q : List ℕ} {numbers : ℕ} {u : List ℕ} {g : List Float} {w : List ℕ} {h : List Float} {used c : ℕ} (G : Given np m P Q numbers u g w h used c) (l : c < m) where
   point-below : getD Q c 0 < np
   point-below = G .asked .points c l
@@ -206,7 +202,7 @@ module _ {np m : ℕ} {P : List Float} {Q : List ℕ} {numbers : ℕ} {u : List 
         used-is = rw (used-new Q c e) (omega (arith, G .used-is));
         marks = rw (used-new Q c e) (part-as (part-set v (used + 1) (G .marks) point-below) (rw (G .used-is) (marks-new np v U point-below e)));
         kept = kept-set (numbers + v) (used + 1) (G .kept) (λ o. o (omega arith) (omega (arith, point-below)));
-        len = length-with h used v P ∙ G .len;
+        len = length-with h used (pointAt P v) ∙ G .len;
         front = rw (used-new Q c e, f) (front-point (pointsIn P U) used (pointAt P v) (G .front) k (omega (arith, G .asked .floats, G .len)));
       }
     where

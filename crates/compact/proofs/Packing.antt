@@ -11,7 +11,7 @@ use Rattle.lists.specs.Sort.{tabulate}
 use Rattle.lists.proofs.Laws.{is-table, Filled}
 use Rattle.lists.proofs.Regions.{elementOf}
 use Rattle.results.specs.Results.{Front}
-use Rattle.refine.proofs.Loops.{front-none, front-next, front-filled}
+use Rattle.results.proofs.Fronts.{front-none, front-next, front-filled}
 use Rattle.compact.specs.Compact.{packed}
 
 module _ (p : ℕ → Bool) (l : List ℕ) where

@@ -10,7 +10,7 @@ use lib.Seq.{getD-append-add, getD-take, take-suc, length-take-le}
 use lib.Ieee.{Float}
 use Rattle.lists.specs.Sort.{tabulate}
 use Rattle.lists.specs.Regions.{part, Part}
-use Rattle.lists.proofs.Laws.{lt-or-le, length-tab, getD-tab, tab-suc, tab-take}
+use Rattle.lists.proofs.Laws.{lt-or-le, getD-tab, tab-suc, tab-take, map-tab}
 use Rattle.points.specs.Points.{pointAt}
 use Rattle.sheet.specs.declared.Counts.{Counts}
 use Rattle.sheet.specs.Quads.{Quad, quad, is, sum}
@@ -20,11 +20,12 @@ use Rattle.sheet.proofs.FirstUse.{is-same}
 use Rattle.sheet.specs.Sheet.{pointsOf, flatPoints}
 use Rattle.results.specs.Results.{Front}
 use Rattle.results.proofs.Results.{length-flat-points}
-use Rattle.refine.proofs.Requests.{map-tab}
 use Rattle.merges.specs.Merges.{Slot, out, slot, live, liveLabels, renameQuad, order, renumber, nonePoint, gathered}
 use Rattle.merges.proofs.MergePass.{live-length}
 use Rattle.merges.proofs.Renumber.{renumber-length}
-use Rattle.compact.specs.Compact.{slotAt, slotsOf, compacted, Begins, Compacting, quadStays, cornerStays, packed, nth, usedIn, numberIn, pointsIn, Numbering}
+use Rattle.compact.specs.Compact.{compacted, Begins, Compacting, quadStays, cornerStays, packed, nth, usedIn, numberIn, pointsIn, Numbering}
+use Rattle.merges.specs.Slots.{slotAt, slotsOf}
+use Rattle.merges.proofs.Slots.{length-slots}
 use Rattle.compact.proofs.Packing.{packed-suc}
 use Rattle.compact.proofs.Numbers.{used-few, used-below}
 
@@ -33,10 +34,6 @@ use Rattle.compact.proofs.Numbers.{used-few, used-below}
 slots-suc : (n : ℕ) (Q R : List ℕ) → slotsOf (suc n) Q R ≡ slotsOf n Q R ++ (slotAt Q R n ∷ [])
 unfolding slotsOf
 slots-suc n Q R = tab-suc (slotAt Q R) n
-
-length-slots : (n : ℕ) (Q R : List ℕ) → length (slotsOf n Q R) ≡ n
-unfolding slotsOf
-length-slots n Q R = length-tab (slotAt Q R) n
 
 live-append : (S T : List Slot) → live (S ++ T) ≡ live S ++ live T
 live-append [] T = refl

@@ -11,21 +11,13 @@ use Rattle.lists.specs.Regions.{Part}
 use Rattle.points.specs.declared.Point.{Point}
 use Rattle.points.specs.Points.{pointAt}
 use Rattle.sheet.specs.declared.Counts.{Counts}
-use Rattle.sheet.specs.Flat.{quadAt, flatQuads}
+use Rattle.sheet.specs.Flat.{flatQuads}
 use Rattle.sheet.specs.FirstUse.{firsts, place}
 use Rattle.sheet.specs.Sheet.{Sheet, limit, pointsOf, flatPoints}
 use Rattle.results.specs.Results.{countsOf, Front}
 use Rattle.incidence.specs.Corners.{Cornered}
-use Rattle.merges.specs.Merges.{Slot, out, slot}
 use Rattle.merges.specs.Coarse.{compact}
-
--- quad j as the pass leaves it: it is out where its mark in R is not 0
-abbrev pub slotAt : List ℕ → List ℕ → ℕ → Slot
-slotAt Q R j = cond (eqb (getD R j 0) 0) (slot (quadAt Q j)) out
-
--- the first n quads
-unfoldable pub slotsOf : ℕ → List ℕ → List ℕ → List Slot
-slotsOf n Q R = tabulate (slotAt Q R) n
+use Rattle.merges.specs.Slots.{slotsOf}
 
 -- the sheet that is left of np points and nq quads with labels, by the marks R of the quads that are out
 abbrev pub compacted : ℕ → ℕ → List Float → List ℕ → List ℕ → List ℕ → Sheet

@@ -11,7 +11,7 @@ use lib.Ieee.{Float, binary64, div}
 use Rattle.lists.specs.Sort.{tabulate, itself, consIf}
 use Rattle.lists.proofs.Every.{and-left}
 use Rattle.points.specs.declared.Point.{Point}
-use Rattle.points.specs.Points.{one, addP, mulP}
+use Rattle.points.specs.Points.{one, addP, mulP, origin}
 use Rattle.sampling.specs.declared.Grid.{Grid}
 use Rattle.sampling.specs.declared.Site.{Site}
 use Rattle.sampling.specs.Grids.{float}
@@ -22,7 +22,7 @@ use Rattle.cells.proofs.Bits.{kind-edge}
 use Rattle.lattice.specs.Lattice.{caseOf, edgeSite}
 use Rattle.paths.specs.Paths.{edgeCrosses, edgePath}
 use Rattle.drawing.specs.declared.Sum.{Sum}
-use Rattle.drawing.specs.Drawing.{isMember, membersOf, crossingAt, origin, meanOf}
+use Rattle.drawing.specs.Drawing.{isMember, membersOf, crossingAt, meanOf}
 use Rattle.drawing.specs.Slots.{isMemberIn, addedIf}
 use Rattle.drawing.proofs.Counts.{those-append}
 

@@ -6,7 +6,7 @@ use mathlib.Core.Logic.{⊎-elim}
 use mathlib.Core.List.{List, [], _∷_, _++_, map, append-assoc, append-nil}
 use native.Mathlib.Omega.{arith}
 use native.Mathlib.Numerals.{add-one}
-use lib.ListN.{length, length-append, length-set}
+use lib.ListN.{length, length-append}
 use lib.Ieee.{Float}
 use Rattle.lists.specs.Every.{some}
 use Rattle.lists.proofs.Laws.{eq-or-ne}
@@ -15,7 +15,7 @@ use Rattle.points.specs.Points.{withPoint}
 use Rattle.sheet.specs.Edges.{joinTo}
 use Rattle.sheet.specs.Sheet.{flatPoints}
 use Rattle.results.specs.Results.{Front}
-use Rattle.refine.proofs.Loops.{front-none, front-point}
+use Rattle.results.proofs.Fronts.{front-none, front-point, length-with}
 use Rattle.sampling.specs.declared.Grid.{Grid}
 use Rattle.sampling.specs.declared.Site.{Site}
 use Rattle.drawing.specs.Drawing.{isMember, membersOf, crossingAt, meanOf, groupPoint, groupPoints, cellPoints}
@@ -23,10 +23,6 @@ use Rattle.drawing.specs.Slots.{hasIn, Known, putPoints}
 use Rattle.drawing.proofs.Counts.{length-join, group-length, has-is}
 
 -- ---- points put from a place on
-
-length-with : (s : List Float) (k : ℕ) (p : Point) → length (withPoint s k p) ≡ length s
-unfolding withPoint
-length-with s k p = rw (length-set, length-set, length-set) refl
 
 pub length-put : (l : List Point) (k : ℕ) (s : List Float) → length (putPoints l k s) ≡ length s
 unfolding putPoints

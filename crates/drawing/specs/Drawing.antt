@@ -6,9 +6,9 @@ use mathlib.Core.List.{List, [], _∷_, map, foldl}
 use lib.Dec.{eqb, leb, ltb}
 use lib.ListN.{length, getD}
 use lib.Ieee.{binary64, div}
-use Rattle.numeric.specs.Num.{zeroF, finiteOf}
+use Rattle.numeric.specs.Num.{finiteOf}
 use Rattle.points.specs.declared.Point.{Point}
-use Rattle.points.specs.Points.{one, addP, mulP}
+use Rattle.points.specs.Points.{one, addP, mulP, origin}
 use Rattle.band.specs.declared.Band.{Band}
 use Rattle.band.specs.Bands.{validOf}
 use Rattle.lists.specs.Sort.{tabulate, itself, consIf}
@@ -40,10 +40,6 @@ membersOf g c k = those (isMember g c k) (tabulate itself 12)
 -- the crossing on an edge of a cell
 unfoldable pub crossingAt : Grid → Site → ℕ → Point
 crossingAt g c e = crossingOf g (edgeSite c e) (e / 4)
-
--- (+0.0, +0.0, +0.0), from which a mean is added up
-abbrev pub origin : Point
-origin = record { x = zeroF; y = zeroF; z = zeroF }
 
 -- a mean: the sum from +0.0 on, times the reciprocal of the count
 unfoldable pub meanOf : List Point → Point

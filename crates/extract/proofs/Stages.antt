@@ -28,7 +28,7 @@ use Rattle.results.specs.declared.Made.{Made}
 use Rattle.results.specs.declared.Made.the-variants.{Done}
 use Rattle.results.specs.Results.{Outcome, refuses, makes, countsOf, answerOf, Front, Fills}
 use Rattle.results.proofs.Results.{refused-fills}
-use Rattle.smoothed.proofs.Fronts.{points-front, quads-front}
+use Rattle.results.proofs.Fronts.{points-front, quads-front}
 use Rattle.sampling.specs.declared.Grid.{Grid}
 use Rattle.sampling.specs.Grids.{gridOf}
 use Rattle.lattice.specs.Lattice.{sampleAt, finiteIn, Samples}

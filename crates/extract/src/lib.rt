@@ -9,9 +9,8 @@ ghost use mathlib.Core.Bool.{true};
 ghost use Prim.Native.Nat.{_+_, _*_, _≤_};
 ghost use lib.ListN.{length, take, replicate};
 ghost use Rattle.numeric.specs.Num.{zeroF};
-ghost use Rattle.lists.specs.Every.{every};
 ghost use Rattle.sheet.specs.Flat.{quadsOf, flatQuads, Holds};
-ghost use Rattle.sheet.specs.Tests.{goodCorners, goodMasks, goodMaskAt};
+ghost use Rattle.sheet.specs.Tests.{goodCorners, goodMasks};
 ghost use Rattle.sheet.specs.Sheet.{flatPoints, sheetOf, LentSheet};
 ghost use Rattle.results.specs.Results.{countsOf, answerOf, Front, Fills, Leaves};
 ghost use Rattle.lattice.specs.Lattice.{Samples};
@@ -32,21 +31,6 @@ pub const MOST_CELLS: usize = 128;
 
 // ---- the last tests
 
-// Every mask is good.
-fn good_masks(masks: &[u32]) -> bool
-    ensures { λ r. ⌜ r ≡ every (goodMaskAt (now (masks .entry))) (length (now (masks .entry))) ⌝ }
-{
-    let mut v = 0;
-    while v < masks.len() {
-        if sheet::good_mask(masks[v]) {
-            v += 1;
-        } else {
-            return false;
-        }
-    }
-    true
-}
-
 // 7, of nq good quads and as many points as there are masks: whether no mask clashes.
 fn masks_tested(nq: usize, quads: &[u32], labels: &[u8], masks: &mut [u32]) -> bool
     requires { ⌜ Holds nq (now quads) (now labels) ⌝ }
@@ -55,7 +39,7 @@ fn masks_tested(nq: usize, quads: &[u32], labels: &[u8], masks: &mut [u32]) -> b
 {
     lists::clear(masks);
     sheet::mark_quads(nq, quads, labels, masks);
-    good_masks(masks)
+    sheet::good_masks(masks)
 }
 
 // 5 and 7, of a sheet that its slices hold and whose corners are good.

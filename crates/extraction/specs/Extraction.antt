@@ -4,8 +4,7 @@ use mathlib.Core.List.{List}
 use lib.Ieee.{Float}
 use lib.ListN.{length}
 use Rattle.exports.specs.Given.{bandOf, bandVerdict}
-use Rattle.refine.specs.Finer.{afterLent}
-use Rattle.results.specs.Results.{Outcome}
+use Rattle.results.specs.Results.{Outcome, afterLent}
 use Rattle.drawing.specs.Drawing.{extractRule}
 
 -- 13 and 1 of the band that is given come first

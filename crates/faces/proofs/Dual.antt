@@ -8,7 +8,7 @@ use native.Mathlib.Nat.{mod-lt, div-lt-iff-lt-mul, mul-pos}
 use lib.ListN.{length, getD, set}
 use lib.Dec.{eqb}
 use Rattle.sheet.specs.Quads.{quad}
-use Rattle.refine.specs.Requests.{withQuad}
+use Rattle.sheet.specs.Flat.{withQuad}
 use Rattle.sampling.specs.declared.Grid.{Grid}
 use Rattle.sampling.specs.declared.Site.{Site}
 use Rattle.sampling.specs.Samples.{sampleOf}

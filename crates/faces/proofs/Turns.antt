@@ -8,12 +8,10 @@ use native.Mathlib.Numerals.{add-one}
 use native.Mathlib.Nat.{mul-le-mul-right}
 use lib.ListN.{length, set, length-set, length-append}
 use Rattle.lists.specs.Sort.{consIf}
-use Rattle.sheet.specs.Quads.{Quad, quad}
 use Rattle.sheet.specs.Edges.{joinTo}
-use Rattle.sheet.specs.Flat.{flatQuads}
+use Rattle.sheet.specs.Flat.{flatQuads, withQuad}
 use Rattle.results.specs.Results.{Front}
-use Rattle.refine.specs.Requests.{withQuad}
-use Rattle.refine.proofs.Loops.{front-none, front-next, front-quad}
+use Rattle.results.proofs.Fronts.{front-none, front-next, front-quad, length-with-quad}
 use Rattle.sampling.specs.declared.Grid.{Grid}
 use Rattle.crossings.specs.Crossings.{nextSite, crossedLabel}
 use Rattle.lattice.specs.Lattice.{insideAt}
@@ -95,9 +93,6 @@ edges-few n h =
     omega arith
 
 -- ---- quads and labels
-
-length-with-quad : (s : List ℕ) (k : ℕ) (q : Quad) → length (withQuad s k q) ≡ length s
-length-with-quad s k (quad a b c d) = simp length-set
 
 pub drawn-start : {g : Grid} {n : ℕ} {Q labels : List ℕ} → 4 * length (joinTo (quadIf g n) (innerCount n)) ≤ length Q → length (joinTo (labelIf g n) (innerCount n)) ≤ length labels → Drawn g n (edgeNumber n 0 0) 0 Q labels
 unfolding joinTo flatQuads

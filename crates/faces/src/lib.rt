@@ -7,9 +7,8 @@ ghost use mathlib.Core.Bool.{true};
 ghost use Prim.Native.Nat.{_+_, _-_, _*_, _≤_, _<_};
 ghost use lib.ListN.{length, set};
 ghost use Rattle.sheet.specs.Edges.{joinTo};
-ghost use Rattle.sheet.specs.Flat.{flatQuads};
+ghost use Rattle.sheet.specs.Flat.{flatQuads, withQuad};
 ghost use Rattle.results.specs.Results.{Front};
-ghost use Rattle.refine.specs.Requests.{withQuad};
 ghost use Rattle.crossings.specs.Crossings.{nextSite, crossedLabel};
 ghost use Rattle.lattice.specs.Lattice.{Within, Samples, insideAt};
 ghost use Rattle.paths.specs.Paths.{crossedAt, strideOf};
@@ -213,10 +212,10 @@ fn put_quad(
     let t = slot_at(g, n, row, j, 3, w);
     labels[place] = (s % 8) as u8;
     if sign {
-        refine::put_quad(quads, place, p / 8, q / 8, s / 8, t / 8);
+        results::put_quad(quads, place, p / 8, q / 8, s / 8, t / 8);
         return;
     }
-    refine::put_quad(quads, place, t / 8, s / 8, q / 8, p / 8);
+    results::put_quad(quads, place, t / 8, s / 8, q / 8, p / 8);
 }
 
 // Puts the quad and the label of the edge j of the row r, if it crosses; the next place.

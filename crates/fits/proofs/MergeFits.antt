@@ -17,7 +17,7 @@ use Rattle.band.specs.declared.Band.{Band}
 use Rattle.band.specs.Bands.{lengthOf, normalWith}
 use Rattle.projection.specs.declared.Projected.{Projected}
 use Rattle.projection.specs.declared.Projected.the-variants.{Onto, Refused}
-use Rattle.projection.specs.Project.{longestMove, lookCount, freePartOf, onFacesOf, targetOf, walkFrom, withinOf, insideOf, closeOf, closeAfter, projectWith, projectOf}
+use Rattle.projection.specs.Project.{longestMove, lookCount, freePartOf, onFacesOf, targetOf, walkFrom, withinOf, insideOf, closeOf, closeAfter, projectWith, projectOf, isOnto, ontoOf}
 use Rattle.lists.specs.Every.{every}
 use Rattle.lists.proofs.Laws.{getD-tab}
 use Rattle.lists.proofs.Every.{and-left, and-right, every-at, or-split, bool-iff}
@@ -33,7 +33,7 @@ use Rattle.merges.specs.Coarse.{hasCorner, MergeFits, Position, masksJoin}
 use Rattle.fits.specs.declared.Four.{Four}
 use Rattle.fits.specs.declared.Merge.{Merge}
 use Rattle.fits.specs.Shaped.{pointIn, centreOf, quadIs, fourAt, FourBelow}
-use Rattle.fits.specs.MergeFits.{joinedMask, movedTo, movedAt, quadStays, mergeAt, fitsAt, mergeFits, ontoOr, mergePosition, staysAt}
+use Rattle.fits.specs.MergeFits.{joinedMask, movedTo, movedAt, quadStays, mergeAt, fitsAt, mergeFits, mergePosition, staysAt}
 use Rattle.fits.proofs.Walk.{every-each, unless-then}
 use Rattle.fits.proofs.Shaped.{point-there, four-below, Agree, shape-same, centre-same}
 
@@ -151,11 +151,6 @@ joined-max n S labels a c e =
 
 -- ---- a projection that is not refused is finite
 
--- a projection gives a point
-abbrev gives : Projected → Bool
-gives (Onto p) = true
-gives Refused = false
-
 within-finite : (low high p : Point) (len : Float) → insideOf low high p len ≡ true → finiteP p ≡ true
 unfolding insideOf withinOf finiteP
 within-finite low high p len e =
@@ -169,18 +164,19 @@ unfolding closeOf
 close-finite low high p len r = go (insideOf low high p len) refl
   where
     go : (t : Bool) → insideOf low high p len ≡ t → cond t (Onto p) Refused ≡ Onto r → finiteP r ≡ true
-    go true i e = let q : p ≡ r = ap ontoOr e in rw (← q) (within-finite low high p len i)
-    go false i e = absurd (false≢true (ap gives e))
+    go true i e = let q : p ≡ r = ap ontoOf e in rw (← q) (within-finite low high p len i)
+    go false i e = absurd (false≢true (ap isOnto e))
 
 after-finite : (low high : Point) (len : Float) (x : Projected) (r : Point) → closeAfter low high len x ≡ Onto r → finiteP r ≡ true
 after-finite low high len (Onto q) r e = close-finite low high q len r e
-after-finite low high len Refused r e = absurd (false≢true (ap gives e))
+after-finite low high len Refused r e = absurd (false≢true (ap isOnto e))
 
 either : (t : Bool) (r : Point) (x y : Projected) → (x ≡ Onto r → finiteP r ≡ true) → (y ≡ Onto r → finiteP r ≡ true) → cond t x y ≡ Onto r → finiteP r ≡ true
 either true r x y f g e = f e
 either false r x y f g e = g e
 
-project-finite : (b : Band) (p : Point) (mask : ℕ) (r : Point) → projectOf b p mask ≡ Onto r → finiteP r ≡ true
+-- a projection that is not refused is finite
+pub project-finite : (b : Band) (p : Point) (mask : ℕ) (r : Point) → projectOf b p mask ≡ Onto r → finiteP r ≡ true
 unfolding projectOf projectWith
 project-finite b p mask r =
     let q = onFacesOf (b .low) (b .high) p mask in
@@ -192,6 +188,6 @@ pub merge-finite : (b : Band) (s : Sheet) (ps : List Point) (S : List Slot) (f a
 unfolding mergeFits mergePosition movedTo
 merge-finite b s ps S f a c h = go (movedTo b s ps a c) refl
   where
-    go : (x : Projected) → movedTo b s ps a c ≡ x → fitsAt b s ps f a c x ≡ true → finiteP (ontoOr x) ≡ true
+    go : (x : Projected) → movedTo b s ps a c ≡ x → fitsAt b s ps f a c x ≡ true → finiteP (ontoOf x) ≡ true
     go (Onto p) e t = project-finite b _ _ p e
     go Refused e t = absurd (false≢true t)

@@ -13,12 +13,11 @@ use Rattle.band.specs.declared.Band.{Band}
 use Rattle.band.specs.Bands.{lengthOf, normalWith}
 use Rattle.projection.specs.declared.Projected.{Projected}
 use Rattle.projection.specs.declared.Projected.the-variants.{Onto, Refused}
-use Rattle.projection.specs.Project.{projectOf}
+use Rattle.projection.specs.Project.{projectOf, ontoOf}
 use Rattle.sheet.specs.Quads.{Quad, hasLabel, pack}
 use Rattle.sheet.specs.Flat.{quadAt}
 use Rattle.sheet.specs.Sheet.{Sheet}
 use Rattle.swaps.specs.Swaps.{noneQuad}
-use Rattle.merges.specs.Merges.{nonePoint}
 use Rattle.merges.specs.Coarse.{hasCorner, MergeFits, Position}
 use Rattle.fits.specs.declared.Merge.{Merge}
 use Rattle.fits.specs.Shaped.{pointIn, centreOf, quadShape, noWorse}
@@ -60,14 +59,9 @@ fitsAt b s ps f a c Refused = false
 unfoldable pub mergeFits : Band → Sheet → MergeFits
 mergeFits b s ps S f a c = fitsAt b s ps f a c (movedTo b s ps a c)
 
--- the point of a projection; where it is refused, no position is asked for
-abbrev pub ontoOr : Projected → Point
-ontoOr (Onto p) = p
-ontoOr Refused = nonePoint
-
 -- the position of the merged point
 unfoldable pub mergePosition : Band → Sheet → Position
-mergePosition b s ps a c = ontoOr (movedTo b s ps a c)
+mergePosition b s ps a c = ontoOf (movedTo b s ps a c)
 
 -- ---- the same, one point at a time
 

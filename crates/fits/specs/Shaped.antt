@@ -4,9 +4,9 @@ use mathlib.Core.Bool.{Bool, not}
 use mathlib.Core.List.{List}
 use lib.ListN.{length, getD}
 use lib.Ieee.{Float, binary64, lt, ofBits}
-use Rattle.numeric.specs.Num.{zeroF, minOf}
+use Rattle.numeric.specs.Num.{minOf}
 use Rattle.points.specs.declared.Point.{Point}
-use Rattle.points.specs.Points.{addP, mulP}
+use Rattle.points.specs.Points.{addP, mulP, origin}
 use Rattle.shape.specs.Shapes.{shapeOf}
 use Rattle.sheet.specs.Quads.{Quad, quad}
 use Rattle.sheet.specs.Flat.{corner}
@@ -29,10 +29,6 @@ leastRise = ofBits binary64 0x3f94_7ae1_47ae_147b
 -- the point of a number in a list of points
 abbrev pub pointIn : List Point → ℕ → Point
 pointIn ps v = getD ps v nonePoint
-
--- the point from which the sum of a centre starts
-abbrev pub origin : Point
-origin = record { x = zeroF; y = zeroF; z = zeroF }
 
 -- 0.25, the mean of four
 abbrev pub quarter : Float

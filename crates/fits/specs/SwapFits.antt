@@ -7,7 +7,7 @@ use lib.Dec.{eqb}
 use lib.Ieee.{Float, binary64, div, lt, ofBits}
 use Rattle.numeric.specs.Num.{minOf}
 use Rattle.points.specs.declared.Point.{Point}
-use Rattle.points.specs.Points.{_⊕_, one, addP, mulP}
+use Rattle.points.specs.Points.{_⊕_, one, addP, mulP, origin}
 use Rattle.field.specs.declared.Field.{Field}
 use Rattle.band.specs.declared.Band.{Band}
 use Rattle.band.specs.Bands.{lengthOf, normalWith}
@@ -15,7 +15,7 @@ use Rattle.sheet.specs.Quads.{Quad, quad}
 use Rattle.swaps.specs.Swaps.{Hex, hex, noneQuad, Fits}
 use Rattle.fits.specs.declared.Six.{Six}
 use Rattle.fits.specs.declared.Held.{Held}
-use Rattle.fits.specs.Shaped.{leastRise, pointIn, origin, quadShape, noWorse}
+use Rattle.fits.specs.Shaped.{leastRise, pointIn, quadShape, noWorse}
 
 -- 1.0 / 6.0
 abbrev pub sixth : Float

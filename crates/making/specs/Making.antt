@@ -5,10 +5,9 @@ use lib.Ieee.{Float}
 use lib.ListN.{length}
 use Rattle.sheet.specs.declared.Counts.{Counts}
 use Rattle.exports.specs.Given.{bandOf, bandVerdict}
-use Rattle.refine.specs.Finer.{afterLent}
 use Rattle.subdivide.specs.Subdivide.{subdivideRule}
 use Rattle.rows.specs.Rows.{rowsRule}
-use Rattle.results.specs.Results.{Outcome}
+use Rattle.results.specs.Results.{Outcome, afterLent}
 
 -- `subdivide` with a band as an export is given it: 13 and 1 of the band come first
 unfoldable pub subdivideBy : List Float → List ℕ → List ℕ → Counts → ℕ → List Float → List Float → Float → Float → ℕ → ℕ → ℕ → ℕ → ℕ → Outcome

@@ -11,7 +11,7 @@ use lib.Ieee.{Float, nan}
 use Rattle.lists.specs.Sort.{tabulate}
 use Rattle.lists.specs.Every.{every}
 use Rattle.lists.specs.Regions.{Part, Out, Kept}
-use Rattle.lists.proofs.Laws.{eq-or-ne, length-tab, getD-tab, tab-ext}
+use Rattle.lists.proofs.Laws.{eq-or-ne, length-tab, getD-tab, tab-ext, map-tab}
 use Rattle.lists.proofs.Every.{every-zero, every-suc, every-fails}
 use Rattle.lists.proofs.Regions.{part-is, kept-refl, kept-set}
 use Rattle.points.specs.declared.Point.{Point}
@@ -28,7 +28,7 @@ use Rattle.sheet.proofs.Tests.{all-tab}
 use Rattle.cell.specs.declared.Corners.{Corners}
 use Rattle.measure.specs.Measure.{Cell, nowhere, centreOf, goodNormal, cornersOf, cellOf, cellsOf, hasNormal, cellShape, cellJacobian, cellArea}
 use Rattle.measure.specs.Readings.{cornersAt, cellWith, cellAt, cellsTo, stored, storedIf, Readings, Readable, Measurable}
-use Rattle.measure.proofs.Folds.{zip-tab, map-tab}
+use Rattle.measure.proofs.Folds.{zip-tab}
 
 -- ---- the cells of a lent sheet
 

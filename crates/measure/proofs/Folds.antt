@@ -1,8 +1,8 @@
--- Loops that fold a list from its front, and the tables of maps and zips. Assumes nothing.
+-- Loops that fold a list from its front, and the tables of zips. Assumes nothing.
 use Prim.Native.Nat.{ℕ, zero, suc, _+_, _≤_, _<_}
 use mathlib.Core.Path.{_≡_, refl, sym, ap, _∙_}
 use mathlib.Core.Bool.{Bool, true, false}
-use mathlib.Core.List.{List, [], _∷_, map, map-append, zipWith, foldl}
+use mathlib.Core.List.{List, [], _∷_, zipWith, foldl}
 use native.Mathlib.Omega.{arith}
 use lib.ListN.{length, getD, drop, drop-of-length-le}
 use lib.Seq.{drop-cons}
@@ -34,12 +34,6 @@ sum-turn f s i d h = ap (sum f) (next s i d h)
 
 pub sum-end : {A : Type 0} (f : A → ℕ) (s : List A) (i : ℕ) → length s ≤ i → sum f (drop i s) ≡ 0
 sum-end f s i h = ap (sum f) (drop-of-length-le s h)
-
--- the map of a table
-pub map-tab : {A B : Type 0} (h : A → B) (g : ℕ → A) (n : ℕ) → map h (tabulate g n) ≡ tabulate (λ i. h (g i)) n
-unfolding tabulate
-map-tab h g zero = refl
-map-tab h g (suc n) = map-append h (tabulate g n) (g n ∷ []) ∙ rw (map-tab h g n)
 
 module _ {A B C : Type 0} (f : A → B → C) (x : A) (y : B) where
   -- the length and the elements of a zip

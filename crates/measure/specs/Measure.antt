@@ -7,7 +7,7 @@ use lib.ListN.{length, getD}
 use lib.Ieee.{Float, nan, binary64, div, lt, le, ofBits, ofInt}
 use Rattle.numeric.specs.Num.{zeroF, half, minOf, floorOf}
 use Rattle.points.specs.declared.Point.{Point}
-use Rattle.points.specs.Points.{_⊕_, _⊖_, _⊗_, one, negZero, addP, mulP, normP, finiteP}
+use Rattle.points.specs.Points.{_⊕_, _⊖_, _⊗_, one, negZero, addP, mulP, normP, origin, finiteP}
 use Rattle.band.specs.declared.Band.{Band}
 use Rattle.band.specs.Bands.{normalOf}
 use Rattle.sheet.specs.Quads.{Quad, quad, num, sum, all}
@@ -28,10 +28,6 @@ nowhere = record { x = nan; y = nan; z = nan }
 -- the points at the four corners of a quad
 unfoldable pub cornersOf : List Point → Quad → Corners
 cornersOf P (quad a b c d) = record { p0 = getD P a nowhere; p1 = getD P b nowhere; p2 = getD P c nowhere; p3 = getD P d nowhere }
-
--- (+0.0, +0.0, +0.0), from which a centre is added up
-abbrev pub origin : Point
-origin = record { x = zeroF; y = zeroF; z = zeroF }
 
 -- the centre: the four points added up from +0.0 on, times 0.25
 unfoldable pub centreOf : Corners → Point

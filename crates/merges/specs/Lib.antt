@@ -1,3 +1,4 @@
 pub mod Merges
 pub mod Coarse
+pub mod Slots
 pub mod Invariant

@@ -33,7 +33,9 @@ use Rattle.merges.specs.Invariant.{MInv, Used, weigh}
 use Rattle.merges.proofs.MergePass.{slot-inj}
 use Rattle.merges.proofs.Visits.{near-of}
 use Rattle.merging.specs.Tests.{unmarked}
-use Rattle.merging.specs.State.{isMarked, usedOf, slotAt, slotsOf, stateOf}
+use Rattle.merging.specs.State.{isMarked, usedOf, stateOf}
+use Rattle.merges.specs.Slots.{slotAt, slotsOf}
+use Rattle.merges.proofs.Slots.{slot-get}
 use Rattle.merging.specs.Layout.{flatStart, startOf, usedIn, removedIn, removedAt, Grounds}
 use Rattle.merging.specs.Marks.{isAt, joins, markedNear, markedBoth, renamedAt, renamedQuads, Merging, Joined}
 use Rattle.merging.proofs.Around.{quad-get, used-get, Near, near-find}
@@ -142,14 +144,6 @@ nth-corner Q j (suc (suc (suc (suc i)))) h = absurd (omega arith)
 -- equal quads have equal corners
 pub corner-same : (Q R : List ℕ) (j i : ℕ) → i < 4 → quadAt Q j ≡ quadAt R j → corner Q j i ≡ corner R j i
 corner-same Q R j i h e = sym (nth-corner Q j i h) ∙ (ap (nth i) e ∙ nth-corner R j i h)
-
-pub slot-get : (nq : ℕ) (Q R : List ℕ) (j : ℕ) → j < nq → getD (slotsOf nq Q R) j out ≡ slotAt Q R j
-unfolding slotsOf
-slot-get nq Q R j h = getD-tab (slotAt Q R) nq j out h
-
-pub length-slots : (nq : ℕ) (Q R : List ℕ) → length (slotsOf nq Q R) ≡ nq
-unfolding slotsOf
-length-slots nq Q R = length-tab (slotAt Q R) nq
 
 pub not-used : (np : ℕ) (U : List ℕ) (v : ℕ) → v < np → unmarked U v ≡ true → ¬ Used (usedOf np U) v
 unfolding Used

@@ -1,15 +1,12 @@
 -- The state of a pass as the slices have it: the quads now, which of them are out, the barred points, the points now.
 use Prim.Native.Nat.{ℕ}
-use mathlib.Core.Bool.{Bool, cond, not}
+use mathlib.Core.Bool.{Bool, not}
 use mathlib.Core.List.{List}
-use lib.Dec.{eqb}
-use lib.ListN.{getD}
 use lib.Ieee.{Float}
 use Rattle.lists.specs.Sort.{tabulate}
-use Rattle.sheet.specs.Flat.{quadAt}
 use Rattle.sheet.specs.Sheet.{pointsOf}
-use Rattle.merges.specs.Merges.{Slot, out, slot}
 use Rattle.merges.specs.Coarse.{MergeState}
+use Rattle.merges.specs.Slots.{slotsOf}
 use Rattle.merging.specs.Tests.{unmarked}
 
 -- point v is barred
@@ -19,14 +16,6 @@ isMarked U v = not (unmarked U v)
 -- the barred points of n
 unfoldable pub usedOf : ℕ → List ℕ → List Bool
 usedOf n U = tabulate (isMarked U) n
-
--- quad q: out where it is marked, else as it reads now
-abbrev pub slotAt : List ℕ → List ℕ → ℕ → Slot
-slotAt Q R q = cond (unmarked R q) (slot (quadAt Q q)) out
-
--- the n quads
-unfoldable pub slotsOf : ℕ → List ℕ → List ℕ → List Slot
-slotsOf n Q R = tabulate (slotAt Q R) n
 
 -- the state: coordinates P, quads Q, marks R of the quads that are out, marks U of the barred points, and the merges so far
 unfoldable pub stateOf : ℕ → ℕ → List Float → List ℕ → List ℕ → List ℕ → ℕ → MergeState

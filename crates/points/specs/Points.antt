@@ -82,6 +82,10 @@ unitP a = unitBy a (normP a)
 unfoldable pub halfwayP : Point → Point → Point
 halfwayP a b = record { x = halfwayOf (a .x) (b .x); y = halfwayOf (a .y) (b .y); z = halfwayOf (a .z) (b .z) }
 
+-- (0.0, 0.0, 0.0), from which a sum of points starts
+abbrev pub origin : Point
+origin = record { x = zeroF; y = zeroF; z = zeroF }
+
 -- all three coordinates are finite
 unfoldable pub finiteP : Point → Bool
 finiteP p = finiteOf (p .x) && finiteOf (p .y) && finiteOf (p .z)

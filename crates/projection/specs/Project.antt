@@ -1,11 +1,11 @@
 -- Projection: it puts masked box coordinates on their faces, and for a level it then looks up to 20 times.
 use Prim.Native.Nat.{ℕ, zero, suc, _/_, _%_}
-use mathlib.Core.Bool.{Bool, not, _&&_, _||_, cond}
+use mathlib.Core.Bool.{Bool, true, false, not, _&&_, _||_, cond}
 use lib.Dec.{eqb, leb}
 use lib.Ieee.{Float, binary64, div, neg, lt, le, ofBits}
 use Rattle.numeric.specs.Num.{zeroF, finiteOf, absOf, clampOf}
 use Rattle.points.specs.declared.Point.{Point}
-use Rattle.points.specs.Points.{_⊕_, _⊖_, _⊗_, one, subP, mulP, timesP, normP, unitBy}
+use Rattle.points.specs.Points.{_⊕_, _⊖_, _⊗_, one, subP, mulP, timesP, normP, unitBy, origin}
 use Rattle.field.specs.declared.Field.{Field}
 use Rattle.field.specs.Fields.{valueOf}
 use Rattle.band.specs.declared.Band.{Band}
@@ -134,3 +134,15 @@ projectWith b len longest looks p mask =
 -- the projection of a band: a move is at most length × 0.05, and it looks up to 20 times
 unfoldable pub projectOf : Band → Point → ℕ → Projected
 projectOf b p mask = projectWith b (lengthOf b) longestMove lookCount p mask
+
+-- ---- what it answers
+
+-- a projection succeeds
+abbrev pub isOnto : Projected → Bool
+isOnto (Onto p) = true
+isOnto Refused = false
+
+-- the point that a projection leads to; of a refused one it is not asked for
+abbrev pub ontoOf : Projected → Point
+ontoOf (Onto p) = p
+ontoOf Refused = origin

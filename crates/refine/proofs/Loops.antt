@@ -5,8 +5,7 @@ use mathlib.Core.Bool.{Bool, true, false, cond}
 use mathlib.Core.List.{List, [], _∷_, _++_, append-nil, append-assoc}
 use native.Mathlib.Omega.{arith}
 use native.Mathlib.Numerals.{add-one}
-use lib.ListN.{length, getD, set, take, drop, length-append, length-set}
-use lib.Seq.{take-suc-set, take-at}
+use lib.ListN.{length, getD, set, length-append}
 use lib.Ieee.{Float}
 use borrow.Author.Tests.{eq-eqb, ne-eqb, eqb-true, lt-ltb, le-ltb}
 use Rattle.points.specs.declared.Point.{Point}
@@ -14,17 +13,17 @@ use Rattle.points.specs.Points.{withPoint, halfwayP}
 use Rattle.lists.specs.Sort.{tabulate}
 use Rattle.lists.specs.Every.{countTo}
 use Rattle.lists.specs.Regions.{part, Part, Out, Kept}
-use Rattle.lists.proofs.Laws.{getD-tab, length-tab, tab-suc, Filled, filled-end}
+use Rattle.lists.proofs.Laws.{getD-tab, length-tab, tab-suc}
 use Rattle.lists.proofs.Every.{count-le, count-zero}
 use Rattle.lists.proofs.Regions.{part-of, part-get, part-set, part-as, part-kept, kept-refl, kept-set, RegionFilled, region-start, region-turn, region-part, region-end, region-other}
 use Rattle.sheet.specs.Quads.{Quad, quad}
-use Rattle.sheet.specs.Flat.{corner, flatQuads}
+use Rattle.sheet.specs.Flat.{corner, flatQuads, withQuad}
 use Rattle.sheet.specs.Sheet.{flatPoints}
 use Rattle.results.specs.Results.{Front}
-use Rattle.results.proofs.Results.{length-flat-points, length-flat-quads}
+use Rattle.results.proofs.Fronts.{front-none, front-point, front-quad, length-with, length-with-quad}
 use Rattle.incidence.specs.Corners.{edgeOrder}
 use Rattle.refine.specs.Finer.{centreP}
-use Rattle.refine.specs.Requests.{requestOf, firstOf, own, numberOf, sameEdge, linkedTo, positionIn, childAt, withQuad}
+use Rattle.refine.specs.Requests.{requestOf, firstOf, own, numberOf, sameEdge, linkedTo, positionIn, childAt}
 use Rattle.refine.specs.Loops.{lowAt, nth, Held, Linking, Numbering, Numbered, Writing, madeTo, putRequest}
 use Rattle.refine.proofs.Edges.{Same, sorted, same-yes, same-no, linked-new, linked-same, linked-end}
 
@@ -176,68 +175,6 @@ module _ {n m first num : ℕ} {v w : List ℕ} {next t : ℕ} (I : NumberLoop n
       let e : t ≡ m = omega (arith, I .filled .i≤) in
       (rw e at (I .next-is), region-end (I .filled) h)
 
--- ---- a slice that is written from the front
-
--- one element more
-pub front-next : {A : Type 0} {l s : List A} (i : ℕ) (x : A) → Front l s → i ≡ length l → i < length s → Front (l ++ (x ∷ [])) (set s i x)
-front-next {A} {l} {s} i x F e h =
-    let n : length (l ++ (x ∷ [])) ≡ suc i = length-append l (x ∷ []) ∙ omega arith in
-    record {
-      fits = rw (n, length-set) h;
-      is = rw n (take-suc-set s i x h ∙ ap (λ (k : List A). k ++ (x ∷ [])) (rw (← e) at (F .is)));
-    }
-
-pub front-none : {A : Type 0} (s : List A) → Front [] s
-front-none s = record { fits = zero-le; is = refl }
-
--- a list that was filled from the front
-pub front-filled : {A : Type 0} {f : ℕ → A} {d s : List A} {n i : ℕ} → Filled f d n s i → n ≤ i → Front (tabulate f n) s
-front-filled {A} {f} {d} {s} {n} {i} F h =
-    let e = filled-end F h in
-    record {
-      fits = rw length-tab (omega (arith, F .fits, F .len));
-      is = rw (length-tab f n) (ap (take n) e ∙ take-at (tabulate f n) (drop n d) n (length-tab f n));
-    }
-
-flat-points-snoc : (ps : List Point) (p : Point) → flatPoints (ps ++ (p ∷ [])) ≡ flatPoints ps ++ (p .x ∷ p .y ∷ p .z ∷ [])
-unfolding flatPoints
-flat-points-snoc [] p = refl
-flat-points-snoc (q ∷ ps) p = rw (flat-points-snoc ps p)
-
--- one point more
-pub front-point : (ps : List Point) {s : List Float} (k : ℕ) (p : Point) → Front (flatPoints ps) s → k ≡ length ps → k * 3 + 3 ≤ length s → Front (flatPoints (ps ++ (p ∷ []))) (withPoint s k p)
-unfolding withPoint
-front-point ps {s} k p F e h =
-    let l = flatPoints ps in
-    let n : length l ≡ 3 * length ps = length-flat-points ps in
-    let n1 : length (l ++ (p .x ∷ [])) ≡ length l + 1 = length-append l (p .x ∷ []) in
-    let n2 : length ((l ++ (p .x ∷ [])) ++ (p .y ∷ [])) ≡ length l + 2 = length-append (l ++ (p .x ∷ [])) (p .y ∷ []) ∙ omega arith in
-    let A = front-next (k * 3) (p .x) F (omega arith) (omega arith) in
-    let B = front-next (k * 3 + 1) (p .y) A (omega arith) (rw length-set (omega arith)) in
-    let C = front-next (k * 3 + 2) (p .z) B (omega arith) (rw (length-set, length-set) (omega arith)) in
-    let j : ((l ++ (p .x ∷ [])) ++ (p .y ∷ [])) ++ (p .z ∷ []) ≡ l ++ (p .x ∷ p .y ∷ p .z ∷ []) = simp append-assoc in
-    rw flat-points-snoc (rw j at C)
-
-flat-quads-snoc : (S : List Quad) (a b c d : ℕ) → flatQuads (S ++ (quad a b c d ∷ [])) ≡ flatQuads S ++ (a ∷ b ∷ c ∷ d ∷ [])
-unfolding flatQuads
-flat-quads-snoc [] a b c d = refl
-flat-quads-snoc (quad x y z w ∷ S) a b c d = rw (flat-quads-snoc S a b c d)
-
--- one quad more
-pub front-quad : (S : List Quad) {s : List ℕ} (k : ℕ) (q : Quad) → Front (flatQuads S) s → k ≡ length S → 4 * k + 4 ≤ length s → Front (flatQuads (S ++ (q ∷ []))) (withQuad s k q)
-front-quad S {s} k (quad a b c d) F e h =
-    let l = flatQuads S in
-    let n : length l ≡ 4 * length S = length-flat-quads S in
-    let n1 : length (l ++ (a ∷ [])) ≡ length l + 1 = length-append l (a ∷ []) in
-    let n2 : length ((l ++ (a ∷ [])) ++ (b ∷ [])) ≡ length l + 2 = length-append (l ++ (a ∷ [])) (b ∷ []) ∙ omega arith in
-    let n3 : length (((l ++ (a ∷ [])) ++ (b ∷ [])) ++ (c ∷ [])) ≡ length l + 3 = length-append ((l ++ (a ∷ [])) ++ (b ∷ [])) (c ∷ []) ∙ omega arith in
-    let A = front-next (4 * k) a F (omega arith) (omega arith) in
-    let B = front-next (4 * k + 1) b A (omega arith) (rw length-set (omega arith)) in
-    let C = front-next (4 * k + 2) c B (omega arith) (rw (length-set, length-set) (omega arith)) in
-    let D = front-next (4 * k + 3) d C (omega arith) (rw (length-set, length-set, length-set) (omega arith)) in
-    let j : (((l ++ (a ∷ [])) ++ (b ∷ [])) ++ (c ∷ [])) ++ (d ∷ []) ≡ l ++ (a ∷ b ∷ c ∷ d ∷ []) = simp append-assoc in
-    rw flat-quads-snoc (rw j at D)
-
 -- ---- the new points
 
 pub length-made : {A : Type 0} (F : List ℕ) (pos : ℕ → A) (t : ℕ) → length (madeTo F pos t) ≡ countTo (own F) t
@@ -252,10 +189,6 @@ length-made F pos (suc t) = length-append (madeTo F pos t) _ ∙ go (own F t) (l
 made-suc : {A : Type 0} (F : List ℕ) (pos : ℕ → A) (t : ℕ) → madeTo F pos (t + 1) ≡ madeTo F pos t ++ cond (own F t) (pos t ∷ []) []
 unfolding madeTo
 made-suc F pos t = rw (add-one t)
-
-pub length-with : (s : List Float) (k : ℕ) (p : Point) → length (withPoint s k p) ≡ length s
-unfolding withPoint
-length-with s k p = simp length-set
 
 -- the invariant of the loop that writes the new points behind the n old ones, ps
 pub record PointLoop (n m : ℕ) (ps : List Point) (pos : ℕ → Point) (F : List ℕ) (d s : List Float) (t : ℕ) : Type 0 where
@@ -343,9 +276,6 @@ pub record QuadLoop (f : ℕ → Quad) (m : ℕ) (d s : List ℕ) (c : ℕ) : Ty
 pub quads-start : (f : ℕ → Quad) (m : ℕ) (d : List ℕ) → QuadLoop f m d d 0
 unfolding tabulate flatQuads
 quads-start f m d = record { c≤ = zero-le; len = refl; front = front-none d }
-
-length-with-quad : (s : List ℕ) (k : ℕ) (q : Quad) → length (withQuad s k q) ≡ length s
-length-with-quad s k (quad a b c d) = simp length-set
 
 pub quads-turn : {f : ℕ → Quad} {m : ℕ} {d s : List ℕ} {c : ℕ} (r : List ℕ) → QuadLoop f m d s c → c < m → 4 * m ≤ length d → r ≡ withQuad s c (f c) → QuadLoop f m d r (c + 1)
 quads-turn {f} {m} {d} {s} {c} r I h b er = record {

@@ -11,31 +11,13 @@ use borrow.Author.Tests.{eq-eqb, ne-eqb}
 use Rattle.points.specs.declared.Point.{Point}
 use Rattle.points.specs.Points.{pointAt}
 use Rattle.lists.specs.Sort.{tabulate}
+use Rattle.lists.proofs.Laws.{tab-add, map-tab}
 use Rattle.sheet.specs.Quads.{Quad, quad, is, sum}
 use Rattle.sheet.specs.Flat.{corner, quadAt, quadsOf}
 use Rattle.sheet.specs.FirstUse.{firsts}
 use Rattle.sheet.proofs.Flat.{length-quads}
 use Rattle.refine.specs.Finer.{split, fourLabels, keys, asked, Request, keyOf, requests, made}
 use Rattle.refine.specs.Requests.{positionIn, keyAt, requestAt, keysOf, childAt, labelAt}
-
--- ---- lists and tables
-
--- a table of m + k elements is one of m and one of k
-pub tab-add : {A : Type 0} (f : ℕ → A) (m k : ℕ) → tabulate f (m + k) ≡ tabulate f m ++ tabulate (λ i. f (m + i)) k
-unfolding tabulate
-tab-add f m zero = let e : m + 0 ≡ m = omega arith in rw (e, append-nil)
-tab-add f m (suc k) =
-    let e : m + suc k ≡ suc (m + k) = omega arith in
-    rw (e, tab-add f m k) (append-assoc (tabulate f m) (tabulate (λ i. f (m + i)) k) (f (m + k) ∷ []))
-
-pub map-append : {A B : Type 0} (f : A → B) (l m : List A) → map f (l ++ m) ≡ map f l ++ map f m
-map-append f [] m = refl
-map-append f (x ∷ l) m = rw (map-append f l m)
-
-pub map-tab : {A B : Type 0} (f : A → B) (g : ℕ → A) (n : ℕ) → map f (tabulate g n) ≡ tabulate (λ i. f (g i)) n
-unfolding tabulate
-map-tab f g zero = refl
-map-tab f g (suc n) = rw (map-append f (tabulate g n) (g n ∷ []), map-tab f g n)
 
 -- ---- the requests in order
 

@@ -25,15 +25,13 @@ use Rattle.sheet.specs.Sheet.{sheetOf, pointsOf, flatPoints, isLarge, isShort, 
 use Rattle.sheet.proofs.Flat.{length-quads}
 use Rattle.sheet.proofs.Tests.{or-left, or-right, all-tab, lent-is, length-points}
 use Rattle.results.specs.declared.Made.{Made}
-use Rattle.numeric.specs.Num.{zeroF}
-use Rattle.results.specs.Results.{Outcome, refuses, makes, answerOf, countsOf, Front, Fills, Leaves, Room, cleared, shownCounts}
-use Rattle.results.proofs.Results.{fills-room, fills-leaves}
+use Rattle.results.specs.Results.{Outcome, refuses, makes, answerOf, countsOf, Front, Fills}
+use Rattle.results.proofs.Results.{refused-fills}
 use Rattle.incidence.specs.Corners.{Cornered, edgeOrder}
 use Rattle.refine.specs.Finer.{finerSheet, madeOrShort, refined, refineRule}
 use Rattle.refine.specs.Requests.{positionAt, firstsOf, own, numberOf, childAt, labelAt}
 use Rattle.refine.specs.Loops.{lowAt, nth, Linking, Numbering, Numbered, Writing, madeTo, orderAt, firstsAt, numbersAt, pointsAfter, Behind, Worked, Finished, Refinable}
 use Rattle.refine.proofs.Edges.{linked-start}
-use Rattle.refine.proofs.Loops.{front-none}
 use Rattle.refine.proofs.Sheet.{firsts-known, finer-points, finer-quads, finer-labels, finer-counts}
 use Rattle.results.specs.declared.Made.the-variants as made
 
@@ -135,10 +133,6 @@ module _ {np nq : ℕ} {P : List Float} {Q labels w : List ℕ} {p q l : ℕ} (F
 
 -- ---- the result's 13
 
-pub fills-refused : (n : ℕ) (P : List Float) (Q labels : List ℕ) → Fills (refuses n) (answerOf (refuses n)) P Q labels
-unfolding flatPoints flatQuads
-fills-refused n P Q labels = record { answer = refl; points = front-none P; quads = front-none Q; labelled = front-none labels }
-
 -- the counts of the finer sheet, by the number of its points
 abbrev pub countsAfter : Counts → ℕ → Counts
 countsAfter c n = record { points = n; quads = 4 * c .quads; labels = 4 * c .quads }
@@ -152,11 +146,11 @@ module _ (c : Counts) (P : List Float) (Q labels : List ℕ) (w : ℕ) (R : Refi
   counts-are = finer-counts c P Q labels (R .cornered) (R .same) (R .lent .labels) n en
 
   pub tested-large : (A : List Float) (B D : List ℕ) → isLarge (countsAfter c n) ≡ true → Fills (madeOrShort (finerSheet (sheetOf c P Q labels)) p q l) (answerOf (refuses 13)) A B D
-  tested-large A B D h = rw (counts-are, h) (fills-refused 13 A B D)
+  tested-large A B D h = rw (counts-are, h) (refused-fills 13 A B D)
 
   pub tested-short : (A : List Float) (B D : List ℕ) → isLarge (countsAfter c n) ≡ false → isShort (countsAfter c n) p q l ≡ true
       → Fills (madeOrShort (finerSheet (sheetOf c P Q labels)) p q l) (answerOf (refuses 13)) A B D
-  tested-short A B D h s = rw (counts-are, h, s) (fills-refused 13 A B D)
+  tested-short A B D h s = rw (counts-are, h, s) (refused-fills 13 A B D)
 
   pub tested-finished : (v : List ℕ) → Worked (c .points) (c .quads) Q v → isShort (countsAfter c n) p q l ≡ false → Finished (c .points) (c .quads) P Q labels v p q l
   tested-finished v W s =
@@ -214,7 +208,7 @@ module _ (c : Counts) (P : List Float) (Q labels : List ℕ) (w f p q l : ℕ) w
 
   pub rule-lent : (n : ℕ) (A : List Float) (B D : List ℕ) → lentVerdict c (length P) (length Q) (length labels) w f ≡ Refused n → Fills Rule (answerOf (refuses n)) A B D
   unfolding refineRule
-  rule-lent n A B D e = rw e (fills-refused n A B D)
+  rule-lent n A B D e = rw e (refused-fills n A B D)
 
   module _ (e : lentVerdict c (length P) (length Q) (length labels) w f ≡ Accepted) where
     lent-sheet : LentSheet c (length P) (length Q) (length labels)
@@ -228,11 +222,11 @@ module _ (c : Counts) (P : List Float) (Q labels : List ℕ) (w f p q l : ℕ) w
 
     pub rule-bare : (A : List Float) (B D : List ℕ) → (c .labels ≡ c .quads → ⊥) → Fills Rule (answerOf (refuses 5)) A B D
     unfolding refineRule refined
-    rule-bare A B D ne = rw (e, length-labels, length-quads (c .quads) Q, ne-eqb (c .labels) (c .quads) ne) (fills-refused 5 A B D)
+    rule-bare A B D ne = rw (e, length-labels, length-quads (c .quads) Q, ne-eqb (c .labels) (c .quads) ne) (refused-fills 5 A B D)
 
     pub rule-corner : (A : List Float) (B D : List ℕ) → c .labels ≡ c .quads → every (lowAt (c .points) Q) (4 * c .quads) ≡ false → Fills Rule (answerOf (refuses 6)) A B D
     unfolding refineRule refined
-    rule-corner A B D s r = rw (e, length-labels, length-quads (c .quads) Q, eq-eqb (c .labels) (c .quads) s, length-points (c .points) P, ← range-is (c .points) (c .quads) Q, r) (fills-refused 6 A B D)
+    rule-corner A B D s r = rw (e, length-labels, length-quads (c .quads) Q, eq-eqb (c .labels) (c .quads) s, length-points (c .points) P, ← range-is (c .points) (c .quads) Q, r) (refused-fills 6 A B D)
 
     pub rule-refinable : c .labels ≡ c .quads → every (lowAt (c .points) Q) (4 * c .quads) ≡ true → Refinable c (length P) Q (length labels) w
     rule-refinable s r = record {
@@ -246,13 +240,3 @@ module _ (c : Counts) (P : List Float) (Q labels : List ℕ) (w f p q l : ℕ) w
         → Fills (madeOrShort (finerSheet (sheetOf c P Q labels)) p q l) a A B D → Fills Rule a A B D
     unfolding refineRule refined
     rule-tested a A B D s r F = rw (e, length-labels, length-quads (c .quads) Q, eq-eqb (c .labels) (c .quads) s, length-points (c .points) P, ← range-is (c .points) (c .quads) Q, r) F
-
--- ---- the slices once they are cleared
-
-pub shown-room : {o : Outcome} {r : Made} {P : List Float} {Q labels : List ℕ} {k : Counts} → Fills o r P Q labels → k ≡ shownCounts r → Room k (length P) (length Q) (length labels)
-shown-room F e = rw e (fills-room F)
-
-pub leaves-of : {o : Outcome} {r : Made} {P A : List Float} {Q labels B D : List ℕ} {k : Counts} (p q l : ℕ) → Fills o r P Q labels → k ≡ shownCounts r
-    → length P ≡ p → length Q ≡ q → length labels ≡ l
-    → (A ≡ cleared zeroF (3 * k .points) P) × ((B ≡ cleared 0 (4 * k .quads) Q) × (D ≡ cleared 0 (k .labels) labels)) → Leaves o p q l r A B D
-leaves-of {o} {r} {P} {A} {Q} {labels} {B} {D} {k} p q l F e ep eq el E = rw (← ep, ← eq, ← el, E .0, E .1 .0, E .1 .1, e) (fills-leaves F)

@@ -2,7 +2,7 @@
 use Prim.Native.Nat.{ℕ, zero, suc, _+_, _*_, _/_, _%_, _≤_, _<_}
 use mathlib.Core.Logic.{_⊎_, ⊎-elim}
 use mathlib.Core.Path.{_≡_, refl, sym, ap, _∙_}
-use mathlib.Core.List.{List, [], _∷_, _++_, map, append-nil}
+use mathlib.Core.List.{List, [], _∷_, _++_, map, map-append, append-nil}
 use native.Mathlib.Omega.{arith}
 use lib.ListN.{length, getD, length-append, length-map}
 use lib.Dec.{eqb}
@@ -12,7 +12,7 @@ use Rattle.points.specs.declared.Point.{Point}
 use Rattle.points.specs.Points.{pointAt}
 use Rattle.lists.specs.Sort.{tabulate}
 use Rattle.lists.specs.Every.{countTo}
-use Rattle.lists.proofs.Laws.{eq-or-ne, length-tab, getD-tab, tab-ext}
+use Rattle.lists.proofs.Laws.{eq-or-ne, length-tab, getD-tab, tab-ext, map-tab}
 use Rattle.lists.proofs.Every.{count-ext}
 use Rattle.sheet.specs.declared.Counts.{Counts}
 use Rattle.sheet.specs.Quads.{Quad, quad}
@@ -28,7 +28,7 @@ use Rattle.refine.specs.Requests.{positionIn, positionAt, keyAt, request
 use Rattle.refine.specs.Loops.{Firsts, madeTo}
 use Rattle.refine.proofs.Edges.{first-of}
 use Rattle.refine.proofs.Loops.{length-made}
-use Rattle.refine.proofs.Requests.{map-append, map-tab, requests-flat, keys-flat, asked-made, made-snoc, made-new, made-old, labels-flat, Numbers, split-flat}
+use Rattle.refine.proofs.Requests.{requests-flat, keys-flat, asked-made, made-snoc, made-new, made-old, labels-flat, Numbers, split-flat}
 
 -- ---- the numbers
 

@@ -5,18 +5,15 @@ use mathlib.Core.List.{List, [], _∷_, _++_, map}
 use lib.Dec.{eqb}
 use lib.ListN.{length, getD}
 use lib.Ieee.{Float, binary64, ofBits}
-use Rattle.numeric.specs.Num.{zeroF}
 use Rattle.points.specs.declared.Point.{Point}
-use Rattle.points.specs.Points.{addP, mulP, halfwayP}
+use Rattle.points.specs.Points.{addP, mulP, halfwayP, origin}
 use Rattle.sheet.specs.declared.Counts.{Counts}
-use Rattle.sheet.specs.declared.Verdict.{Verdict}
-use Rattle.sheet.specs.declared.Verdict.the-variants.{Accepted, Refused}
 use Rattle.sheet.specs.Quads.{Quad, quad, is, sum, all}
 use Rattle.sheet.specs.FirstUse.{firsts, place}
 use Rattle.sheet.specs.Tests.{inRange}
 use Rattle.sheet.specs.Numbers.{bare, corner, short}
 use Rattle.sheet.specs.Sheet.{Sheet, sheetOf, isLarge, isShort, lentVerdict}
-use Rattle.results.specs.Results.{Outcome, refuses, makes, countsOf}
+use Rattle.results.specs.Results.{Outcome, refuses, makes, afterLent, countsOf}
 
 -- ---- the quads and labels
 
@@ -69,10 +66,6 @@ finerCount n S = n + length (asked n S)
 -- 0.25
 abbrev pub quarter : Float
 quarter = ofBits binary64 0x3fd0_0000_0000_0000
-
--- the point from which the sum of a centre starts
-abbrev pub origin : Point
-origin = record { x = zeroF; y = zeroF; z = zeroF }
 
 -- the centre of a quad: the sum of its four points in order, from 0.0 on, times 0.25
 unfoldable pub centreP : Point → Point → Point → Point → Point
@@ -135,11 +128,6 @@ refined s p q l =
     cond (eqb (length (s .labels)) (length (s .quads)))
     (cond (all (inRange (length (s .points))) (s .quads)) (madeOrShort (finerSheet s) p q l) (refuses corner))
     (refuses bare)
-
--- what follows on the tests 12 and 13 of the lent slices
-abbrev pub afterLent : Verdict → Outcome → Outcome
-afterLent Accepted o = o
-afterLent (Refused n) o = refuses n
 
 -- `refine` of the sheet in lent slices, with work of w and f elements, into result slices of p, q and l elements: 12, 13, 5, 6, 13
 unfoldable pub refineRule : Counts → List Float → List ℕ → List ℕ → ℕ → ℕ → ℕ → ℕ → ℕ → Outcome

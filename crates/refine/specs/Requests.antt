@@ -3,7 +3,7 @@ use Prim.Native.Nat.{ℕ, _+_, _*_, _/_, _%_}
 use mathlib.Core.Bool.{Bool, cond, _&&_, _||_}
 use mathlib.Core.List.{List}
 use lib.Dec.{eqb}
-use lib.ListN.{getD, set}
+use lib.ListN.{getD}
 use Rattle.points.specs.declared.Point.{Point}
 use Rattle.points.specs.Points.{halfwayP}
 use Rattle.lists.specs.Sort.{tabulate}
@@ -87,10 +87,6 @@ childOf N Q q j = quad (corner Q q j) (N (5 * q + j)) (N (5 * q + 4)) (N (5 * q 
 -- child quad c
 abbrev pub childAt : (ℕ → ℕ) → List ℕ → ℕ → Quad
 childAt N Q c = childOf N Q (c / 4) (c % 4)
-
--- the list with the quad at place i
-abbrev pub withQuad : List ℕ → ℕ → Quad → List ℕ
-withQuad s i (quad a b c d) = set (set (set (set s (4 * i) a) (4 * i + 1) b) (4 * i + 2) c) (4 * i + 3) d
 
 -- the label of child quad i
 abbrev pub labelAt : List ℕ → ℕ → ℕ

@@ -15,13 +15,12 @@ ghost use Rattle.points.specs.Points.{pointAt};
 ghost use Rattle.lists.specs.Sort.{tabulate};
 ghost use Rattle.lists.specs.Every.{every, countTo};
 ghost use Rattle.lists.specs.Regions.{part, Part, Out, Kept};
-ghost use Rattle.sheet.specs.Quads.{quad};
-ghost use Rattle.sheet.specs.Flat.{corner, flatQuads};
+ghost use Rattle.sheet.specs.Flat.{corner, flatQuads, withQuad};
 ghost use Rattle.sheet.specs.Sheet.{pointsOf, flatPoints, sheetOf};
 ghost use Rattle.results.specs.Results.{Leaves, Fills, Front};
 ghost use Rattle.incidence.specs.Corners.{Cornered};
 ghost use Rattle.refine.specs.Finer.{centreP, finerSheet, madeOrShort, refineRule};
-ghost use Rattle.refine.specs.Requests.{requestOf, sameEdge, positionIn, positionAt, firstOf, linkedTo, own, numberOf, childAt, withQuad, labelAt, firstsOf};
+ghost use Rattle.refine.specs.Requests.{requestOf, sameEdge, positionIn, positionAt, firstOf, linkedTo, own, numberOf, childAt, labelAt, firstsOf};
 ghost use Rattle.refine.specs.Loops.{lowAt, nth, Linking, Numbering, Held, putRequest, madeTo, Writing, Numbered, Behind, Worked, Finished, Refinable, pointsAfter};
 
 // Regions of the work slice, in units of points and quads together: behind the counters of the sort and its first order stand the corners in the
@@ -251,17 +250,6 @@ fn put_points(
     }
 }
 
-// Puts a quad at place i.
-pub fn put_quad(quads: &mut [u32], i: usize, a: u32, b: u32, c: u32, d: u32)
-    requires { ⌜ 4 * i + 4 ≤ length (now quads) ⌝ }
-    ensures { λ _. ⌜ now (quads .exit) ≡ withQuad (now (quads .entry)) i (quad a b c d) ⌝ }
-{
-    quads[4 * i] = a;
-    quads[4 * i + 1] = b;
-    quads[4 * i + 2] = c;
-    quads[4 * i + 3] = d;
-}
-
 // Puts the child quad at corner c.
 fn put_child(nq: usize, quads: &[u32], num: usize, c: usize, w: &[u32], out: &mut [u32])
     requires { ⌜ c < 4 * nq ⌝ }
@@ -276,7 +264,7 @@ fn put_child(nq: usize, quads: &[u32], num: usize, c: usize, w: &[u32], out: &mu
     let b = w[num + (5 * q + j)];
     let e = w[num + (5 * q + 4)];
     let d = w[num + (5 * q + (j + 3) % 4)];
-    put_quad(out, c, a, b, e, d);
+    results::put_quad(out, c, a, b, e, d);
 }
 
 // Puts the four children of every quad.

@@ -1,29 +1,29 @@
 -- The clean-up of an accepted sheet is the rule's, and so are the refusals. Assumes nothing.
-use Prim.Native.Nat.{ℕ, zero, suc, _+_, _-_, _*_, _≤_, _<_}
-use mathlib.Core.Path.{_≡_, refl, sym, ap, ap₂, _∙_}
+use Prim.Native.Nat.{ℕ, zero, suc, _-_, _*_, _≤_, _<_}
+use mathlib.Core.Path.{_≡_, refl, sym, ap, _∙_}
 use mathlib.Core.Bool.{Bool, true, false, cond, not, _||_, true≢false}
-use mathlib.Core.List.{List, [], _∷_, _++_}
+use mathlib.Core.List.{List, [], _∷_}
 use native.Mathlib.Omega.{arith}
 use lib.Dec.{eqb}
-use lib.ListN.{length, getD, take}
-use lib.Seq.{take-suc, length-take-le}
+use lib.ListN.{length, take}
 use lib.Ieee.{Float}
 use borrow.Author.Tests.{eqb-false}
 use Rattle.lists.specs.Every.{every}
-use Rattle.lists.specs.Sort.{tabulate}
 use Rattle.band.specs.declared.Band.{Band}
 use Rattle.band.specs.Bands.{lengthOf, validOf}
 use Rattle.sheet.specs.declared.Counts.{Counts}
 use Rattle.sheet.specs.declared.Verdict.the-variants.{Accepted, Refused}
 use Rattle.sheet.specs.Numbers.{box, bare, corner, clash}
-use Rattle.sheet.specs.Quads.{Quad, quad}
+use Rattle.sheet.specs.Quads.{Quad}
 use Rattle.sheet.specs.Flat.{quadsOf, flatQuads}
 use Rattle.sheet.specs.Tests.{goodCorners, goodMasks}
 use Rattle.sheet.specs.Sheet.{Sheet, sheetOf, pointsOf, LentSheet, isBare, bareBy, finiteAt, lentVerdict, quadsVerdict, sheetVerdict}
-use Rattle.sheet.proofs.Flat.{quads-suc}
+use Rattle.sheet.proofs.Flat.{length-quads}
 use Rattle.sheet.proofs.Tests.{lent-is, length-points, bare-is, labels-match}
 use Rattle.incidence.proofs.Corners.{cornered}
 use Rattle.results.specs.Results.{cleared, padded}
+use Rattle.results.proofs.Results.{length-flat-quads}
+use Rattle.results.proofs.Fronts.{front-quads}
 use Rattle.swaps.specs.Runs.{Answer, capped}
 use Rattle.swaps.specs.Swaps.{swapRun}
 use Rattle.fits.specs.SwapFits.{fitsWith, swapFits}
@@ -35,44 +35,12 @@ use Rattle.regularize.specs.Rule.{swapSheet, Cleanable, Cleans, cleanRul
 
 -- ---- the quads of a slice, flat
 
-flat-snoc : (S : List Quad) (a b c d : ℕ) → flatQuads (S ++ (quad a b c d ∷ [])) ≡ flatQuads S ++ (a ∷ b ∷ c ∷ d ∷ [])
-unfolding flatQuads
-flat-snoc [] a b c d = refl
-flat-snoc (quad x y z w ∷ S) a b c d = rw (flat-snoc S a b c d)
-
-take-four : (n : ℕ) (R : List ℕ) → 4 * suc n ≤ length R → take (4 * suc n) R ≡ take (4 * n) R ++ (getD R (4 * n + 0) 0 ∷ getD R (4 * n + 1) 0 ∷ getD R (4 * n + 2) 0 ∷ getD R (4 * n + 3) 0 ∷ [])
-take-four n R h =
-    let e : 4 * suc n ≡ suc (suc (suc (suc (4 * n)))) = omega arith in
-    let z : 4 * n ≡ 4 * n + 0 = omega arith in
-    let a : suc (4 * n) ≡ 4 * n + 1 = omega arith in
-    let b : suc (suc (4 * n)) ≡ 4 * n + 2 = omega arith in
-    let c : suc (suc (suc (4 * n))) ≡ 4 * n + 3 = omega arith in
-    ap (λ (k : ℕ). take k R) e
-    ∙ take-suc R (suc (suc (suc (4 * n)))) 0 (omega arith)
-    ∙ ap₂ (λ (l : List ℕ) (k : ℕ). l ++ (getD R k 0 ∷ [])) (take-suc R (suc (suc (4 * n))) 0 (omega arith)) c
-    ∙ ap₂ (λ (l : List ℕ) (k : ℕ). (l ++ (getD R k 0 ∷ [])) ++ (getD R (4 * n + 3) 0 ∷ [])) (take-suc R (suc (4 * n)) 0 (omega arith)) b
-    ∙ ap₂ (λ (l : List ℕ) (k : ℕ). ((l ++ (getD R k 0 ∷ [])) ++ (getD R (4 * n + 2) 0 ∷ [])) ++ (getD R (4 * n + 3) 0 ∷ [])) (take-suc R (4 * n) 0 (omega arith)) a
-    ∙ ap (λ (k : ℕ). (((take (4 * n) R ++ (getD R k 0 ∷ [])) ++ (getD R (4 * n + 1) 0 ∷ [])) ++ (getD R (4 * n + 2) 0 ∷ [])) ++ (getD R (4 * n + 3) 0 ∷ [])) z
-    ∙ regroup (take (4 * n) R) _ _ _ _
-  where
-    regroup : (l : List ℕ) (x y z u : ℕ) → (((l ++ (x ∷ [])) ++ (y ∷ [])) ++ (z ∷ [])) ++ (u ∷ []) ≡ l ++ (x ∷ y ∷ z ∷ u ∷ [])
-    regroup [] x y z u = refl
-    regroup (k ∷ l) x y z u = ap (λ (t : List ℕ). k ∷ t) (regroup l x y z u)
-
-flat-take : (n : ℕ) (R : List ℕ) → 4 * n ≤ length R → flatQuads (quadsOf n R) ≡ take (4 * n) R
-unfolding flatQuads quadsOf tabulate
-flat-take zero R h = refl
-flat-take (suc n) R h =
-    ap flatQuads (quads-suc n R)
-    ∙ flat-snoc (quadsOf n R) (getD R (4 * n + 0) 0) (getD R (4 * n + 1) 0) (getD R (4 * n + 2) 0) (getD R (4 * n + 3) 0)
-    ∙ ap (λ (l : List ℕ). l ++ (getD R (4 * n + 0) 0 ∷ getD R (4 * n + 1) 0 ∷ getD R (4 * n + 2) 0 ∷ getD R (4 * n + 3) 0 ∷ [])) (flat-take n R (omega arith))
-    ∙ sym (take-four n R h)
-
 cleared-padded : (n : ℕ) (Q R : List ℕ) (S : List Quad) → quadsOf n R ≡ S → 4 * n ≤ length R → length R ≡ length Q → cleared 0 (4 * n) R ≡ padded 0 (length Q) (flatQuads S)
 unfolding cleared padded
 cleared-padded n Q R S e h l =
-    let f : flatQuads S ≡ take (4 * n) R = ap flatQuads (sym e) ∙ flat-take n R h in
-    rw (f, length-take-le (4 * n) R h, l)
+    let F = rw e at (front-quads n R h) in
+    let k : length (flatQuads S) ≡ 4 * n = length-flat-quads S ∙ ap (λ (m : ℕ). 4 * m) (ap length (sym e) ∙ length-quads n R) in
+    rw (← k, F .is, l)
 
 -- ---- an accepted sheet
 

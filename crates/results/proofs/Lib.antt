@@ -1,2 +1,3 @@
--- `Results` has the laws of `specs/Results.antt`.
+-- `Results` has the laws of `specs/Results.antt`, `Fronts` those of a slice that begins with a list.
 pub mod Results
+pub mod Fronts

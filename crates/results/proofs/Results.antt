@@ -10,6 +10,7 @@ use borrow.Rule.Slice.PartMut.{midOf, putMid}
 use Rattle.lists.proofs.Parts.{tail-same}
 use Rattle.numeric.specs.Num.{zeroF}
 use Rattle.points.specs.declared.Point.{Point}
+use Rattle.sheet.specs.declared.Counts.{Counts}
 use Rattle.sheet.specs.Quads.{Quad, quad}
 use Rattle.sheet.specs.Flat.{flatQuads}
 use Rattle.sheet.specs.Sheet.{flatPoints}
@@ -62,6 +63,15 @@ fills-leaves {o} {r} {P} {Q} {labels} F =
       quads = pad 0 _ _ Q (F .quads) (rw e (sym (length-flat-quads (shown o .quads))));
       labelled = pad 0 _ _ labels (F .labelled) (rw e);
     }
+
+-- the same, by the counts that are shown
+pub shown-room : {o : Outcome} {r : Made} {P : List Float} {Q labels : List ℕ} {k : Counts} → Fills o r P Q labels → k ≡ shownCounts r → Room k (length P) (length Q) (length labels)
+shown-room F e = rw e (fills-room F)
+
+pub leaves-of : {o : Outcome} {r : Made} {P A : List Float} {Q labels B D : List ℕ} {k : Counts} (p q l : ℕ) → Fills o r P Q labels → k ≡ shownCounts r
+    → length P ≡ p → length Q ≡ q → length labels ≡ l
+    → (A ≡ cleared zeroF (3 * k .points) P) × ((B ≡ cleared 0 (4 * k .quads) Q) × (D ≡ cleared 0 (k .labels) labels)) → Leaves o p q l r A B D
+leaves-of {o} {r} {P} {A} {Q} {labels} {B} {D} {k} p q l F e ep eq el E = rw (← ep, ← eq, ← el, E .0, E .1 .0, E .1 .1, e) (fills-leaves F)
 
 -- a refusal shows nothing, whatever the slices hold
 pub refused-fills : (n : ℕ) (P : List Float) (Q labels : List ℕ) → Fills (refuses n) (Refused n) P Q labels

@@ -6,10 +6,12 @@ use lib.ListN.{length, take, replicate}
 use lib.Ieee.{Float}
 use Rattle.numeric.specs.Num.{zeroF}
 use Rattle.sheet.specs.declared.Counts.{Counts}
+use Rattle.sheet.specs.declared.Verdict.{Verdict}
 use Rattle.sheet.specs.Flat.{flatQuads}
 use Rattle.sheet.specs.Sheet.{Sheet, flatPoints}
 use Rattle.results.specs.declared.Made.{Made}
 use Rattle.results.specs.declared.Made.the-variants.{Done, Refused}
+use Rattle.sheet.specs.declared.Verdict.the-variants as verdict
 
 -- the first n elements, and zeros behind them
 unfoldable pub cleared : {A : Type 0} → A → ℕ → List A → List A
@@ -31,6 +33,11 @@ pub record Room (c : Counts) (p q l : ℕ) : Type 0 where
 pub data Outcome : Type 0 where
   refuses : ℕ → Outcome
   makes : Sheet → Outcome
+
+-- what follows on a test: its refusal, or else the outcome
+abbrev pub afterLent : Verdict → Outcome → Outcome
+afterLent verdict.Accepted o = o
+afterLent (verdict.Refused n) o = refuses n
 
 abbrev pub countsOf : Sheet → Counts
 countsOf s = record { points = length (s .points); quads = length (s .quads); labels = length (s .labels) }

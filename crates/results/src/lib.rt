@@ -2,9 +2,11 @@
 
 use sheet::Counts;
 ghost use mathlib.Core.Path.{_≡_};
-ghost use Prim.Native.Nat.{_*_, _≤_};
+ghost use Prim.Native.Nat.{_+_, _*_, _≤_};
 ghost use lib.ListN.{length, replicate};
 ghost use Rattle.numeric.specs.Num.{zeroF};
+ghost use Rattle.sheet.specs.Quads.{quad};
+ghost use Rattle.sheet.specs.Flat.{withQuad};
 ghost use Rattle.results.specs.Results.{cleared, shownCounts, Room};
 
 // The answer of an operation that makes a sheet: its counts, or the number of a refusal.
@@ -25,6 +27,17 @@ pub fn shown_counts(r: Made) -> Counts
             labels: 0,
         },
     }
+}
+
+// Puts a quad at place i.
+pub fn put_quad(quads: &mut [u32], i: usize, a: u32, b: u32, c: u32, d: u32)
+    requires { ⌜ 4 * i + 4 ≤ length (now quads) ⌝ }
+    ensures { λ _. ⌜ now (quads .exit) ≡ withQuad (now (quads .entry)) i (quad a b c d) ⌝ }
+{
+    quads[4 * i] = a;
+    quads[4 * i + 1] = b;
+    quads[4 * i + 2] = c;
+    quads[4 * i + 3] = d;
 }
 
 // Clears what lies behind the first n elements.

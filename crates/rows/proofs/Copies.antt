@@ -2,7 +2,7 @@
 use Prim.Native.Nat.{ℕ, zero, suc, _+_, _-_, _*_, _/_, _%_, _^_, _≤_, _<_}
 use mathlib.Core.Path.{_≡_, refl, sym, ap, _∙_}
 use mathlib.Core.Bool.{Bool, true, false, cond, not, true≢false}
-use mathlib.Core.List.{List, [], _∷_, _++_, map, append-nil}
+use mathlib.Core.List.{List, [], _∷_, _++_, map, map-append, append-nil}
 use native.Mathlib.Omega.{arith}
 use native.Mathlib.Numerals.{add-one, sub-one}
 use lib.ListN.{length, getD, set, drop, length-append, length-drop}
@@ -23,7 +23,6 @@ use Rattle.projection.specs.Project.{longestMove, lookCount, projectWith, proje
 use Rattle.sheet.specs.Quads.{num}
 use Rattle.smoothing.specs.Smooth.{sumOf}
 use Rattle.smoothing.specs.Rounded.{pointwise}
-use Rattle.refine.proofs.Requests.{map-append}
 use Rattle.smoothed.specs.Steps.{cornerCentre, keep}
 use Rattle.smoothing.proofs.Coordinates.{sum-snoc}
 use Rattle.smoothed.proofs.Sums.{part-suc}

@@ -11,7 +11,7 @@ use lib.Seq.{getD-take}
 use lib.Ieee.{Float}
 use Rattle.lists.specs.Sort.{tabulate, itself, consIf}
 use Rattle.lists.specs.Every.{every}
-use Rattle.lists.proofs.Laws.{lt-or-le, getD-tab, length-tab}
+use Rattle.lists.proofs.Laws.{lt-or-le, getD-tab, length-tab, tab-add}
 use Rattle.lists.proofs.Every.{count-ext, every-ext}
 use Rattle.lists.proofs.Order.{Each, each-bucket, below-tab}
 use Rattle.band.specs.declared.Band.{Band}
@@ -22,14 +22,15 @@ use Rattle.sheet.specs.Sheet.{masksOf}
 use Rattle.sheet.proofs.Edges.{join-ext}
 use Rattle.sheet.proofs.Masks.{bit-pack}
 use Rattle.sheet.proofs.Tests.{length-points}
+use Rattle.results.proofs.Fronts.{flat-quads-snoc}
 use Rattle.incidence.specs.Corners.{edgeOrder}
 use Rattle.refine.proofs.Edges.{sorted}
-use Rattle.refine.proofs.Requests.{tab-add}
 use Rattle.smoothed.specs.Smoothed.{those, labelCount, centreAt}
 use Rattle.smoothed.specs.Steps.{cornerCentre, keep, flatSheet}
 use Rattle.smoothed.proofs.Quads.{quadOf, point-quads}
 use Rattle.smoothed.proofs.Moved.{map-map, map-ext, each-append, those-below, ones-count, point-is, centre-is}
-use Rattle.rows.specs.Rows.{keyOf, isCopied, copies, numberOf, isLabelled, labelCentres, inward, copyOf, isFound, found, cornerFor, copiedAt, copiedQuads, labelOf, stripAt, rowSides}
+use Rattle.rows.specs.Rows.{keyOf, isCopied, copies, numberOf, isLabelled, labelCentres, inward, copyOf, cornerFor, copiedAt, copiedQuads, labelOf, stripAt, rowSides}
+use Rattle.projection.specs.Project.{isOnto, ontoOf}
 use Rattle.rows.specs.Steps.{copiedBy, copiedIn, numberIn, ofLabel, centresOf, inwardAt, copyAt, foundAt, copiesTo, cornerLabel, cornerIn, seamCorners, seamAt, seamsTo, seamsOf, stripIn, Labelled}
 use Rattle.rows.proofs.Seams.{sideAt, row-sides}
 
@@ -62,17 +63,12 @@ unfolding those
 those-ext p q n h = join-ext _ _ n (λ k l. rw (h k l))
 
 -- quads by their corners
-flat-snoc : (S : List Quad) (a b c d : ℕ) → flatQuads (S ++ (quad a b c d ∷ [])) ≡ flatQuads S ++ (a ∷ b ∷ c ∷ d ∷ [])
-unfolding flatQuads
-flat-snoc [] a b c d = refl
-flat-snoc (quad x y z w ∷ S) a b c d = rw (flat-snoc S a b c d)
-
 flat-tab : (f : ℕ → ℕ) (g : ℕ → Quad) (n : ℕ) → ((q : ℕ) → q < n → g q ≡ quad (f (4 * q + 0)) (f (4 * q + 1)) (f (4 * q + 2)) (f (4 * q + 3))) → flatQuads (tabulate g n) ≡ tabulate f (4 * n)
 unfolding flatQuads tabulate
 flat-tab f g zero h = refl
 flat-tab f g (suc n) h =
     let e : 4 * suc n ≡ 4 * n + 4 = omega arith in
-    rw (h n (omega arith), flat-snoc (tabulate g n), flat-tab f g n (λ q l. h q (omega arith)), e, tab-add f (4 * n) 4)
+    rw (h n (omega arith), flat-quads-snoc (tabulate g n), flat-tab f g n (λ q l. h q (omega arith)), e, tab-add f (4 * n) 4)
 
 -- ---- the copies
 
@@ -120,17 +116,17 @@ module _ {np nq : ℕ} {P : List Float} {Q labels : List ℕ} (L : Labelled np n
   unfolding copyAt copyOf
   copy-is b k h = rw (inward-is (k / 8) (k % 8) (omega arith), ← point-is (L .held .cornered) P labels (k / 8) (omega arith))
 
-  pub found-is : (b : Band) → every (foundAt b nq P Q labels M) (8 * np) ≡ all (λ k. isFound (copyOf b (flatSheet np nq P Q labels) k)) (copies (flatSheet np nq P Q labels))
+  pub found-is : (b : Band) → every (foundAt b nq P Q labels M) (8 * np) ≡ all (λ k. isOnto (copyOf b (flatSheet np nq P Q labels) k)) (copies (flatSheet np nq P Q labels))
   unfolding foundAt copies
   found-is b =
-      every-ext _ (λ k. not (isCopied (flatSheet np nq P Q labels) k) || isFound (copyOf b (flatSheet np nq P Q labels) k)) (8 * np) (λ k h. rw (copied-is k h, copy-is b k h))
-      ∙ sym (rw (length-points np P) (all-those (λ k. isFound (copyOf b (flatSheet np nq P Q labels) k)) (isCopied (flatSheet np nq P Q labels)) (8 * np)))
+      every-ext _ (λ k. not (isCopied (flatSheet np nq P Q labels) k) || isOnto (copyOf b (flatSheet np nq P Q labels) k)) (8 * np) (λ k h. rw (copied-is k h, copy-is b k h))
+      ∙ sym (rw (length-points np P) (all-those (λ k. isOnto (copyOf b (flatSheet np nq P Q labels) k)) (isCopied (flatSheet np nq P Q labels)) (8 * np)))
 
-  pub copies-are : (b : Band) → copiesTo b nq P Q labels M (8 * np) ≡ map (λ k. found (copyOf b (flatSheet np nq P Q labels) k)) (copies (flatSheet np nq P Q labels))
+  pub copies-are : (b : Band) → copiesTo b nq P Q labels M (8 * np) ≡ map (λ k. ontoOf (copyOf b (flatSheet np nq P Q labels) k)) (copies (flatSheet np nq P Q labels))
   unfolding copiesTo copies
   copies-are b =
       rw (length-points np P, those-ext (copiedIn M) (isCopied (flatSheet np nq P Q labels)) (8 * np) copied-is)
-      (map-ext 0 _ _ (those (isCopied (flatSheet np nq P Q labels)) (8 * np)) (λ i h. ap found (copy-is b _ (those-below (isCopied (flatSheet np nq P Q labels)) (8 * np) (8 * np) (omega arith) i h))))
+      (map-ext 0 _ _ (those (isCopied (flatSheet np nq P Q labels)) (8 * np)) (λ i h. ap ontoOf (copy-is b _ (those-below (isCopied (flatSheet np nq P Q labels)) (8 * np) (8 * np) (omega arith) i h))))
 
   -- ---- the copied quads
 

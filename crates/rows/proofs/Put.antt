@@ -2,7 +2,7 @@
 use Prim.Native.Nat.{ℕ, zero, suc, _+_, _*_, _/_, _%_, _^_, _≤_, _<_}
 use mathlib.Core.Path.{_≡_, refl, sym, _∙_}
 use mathlib.Core.Bool.{Bool, true, false, cond, true≢false}
-use mathlib.Core.List.{List, [], _++_, map, append-nil, append-assoc}
+use mathlib.Core.List.{List, [], _++_, map, map-append, append-nil, append-assoc}
 use native.Mathlib.Omega.{arith}
 use native.Mathlib.Numerals.{add-one}
 use lib.ListN.{length, getD, length-append, length-map}
@@ -22,10 +22,10 @@ use Rattle.sheet.specs.Edges.{joinTo}
 use Rattle.sheet.specs.Sheet.{pointsOf, flatPoints}
 use Rattle.sheet.proofs.Tests.{length-points}
 use Rattle.results.specs.Results.{Front}
-use Rattle.refine.proofs.Requests.{map-append}
-use Rattle.refine.proofs.Loops.{front-point, length-with}
+use Rattle.results.proofs.Fronts.{front-point, length-with}
 use Rattle.smoothed.specs.Smoothed.{those}
-use Rattle.rows.specs.Rows.{firstStep, tryCount, tryFrom, found}
+use Rattle.rows.specs.Rows.{firstStep, tryCount, tryFrom}
+use Rattle.projection.specs.Project.{ontoOf}
 use Rattle.rows.specs.Steps.{copiedIn, numberIn, pointsAfter, inwardAt, copyAt, foundAt, putCopy, copiesTo, numbersAt}
 
 -- ---- the numbers that pass a test
@@ -54,7 +54,7 @@ number-at np M k e h =
 module _ (b : Band) (np nq : ℕ) (P : List Float) (Q labels M : List ℕ) where
   -- the copy of the key k
   abbrev placed : ℕ → Point
-  placed k = found (copyAt b nq P Q labels k)
+  placed k = ontoOf (copyAt b nq P Q labels k)
 
   abbrev pub foundBy : ℕ → Bool
   foundBy k = foundAt b nq P Q labels M k

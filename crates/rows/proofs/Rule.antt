@@ -23,19 +23,19 @@ use Rattle.sheet.specs.declared.Verdict.the-variants.{Accepted, Refused}
 use Rattle.sheet.specs.Quads.{Quad, quad, all, maskOf}
 use Rattle.sheet.specs.Tests.{goodQuadAt, goodCorners}
 use Rattle.sheet.specs.Flat.{quadsOf, flatQuads}
-use Rattle.sheet.specs.Sheet.{Sheet, pointsOf, flatPoints, sheetOf, masksOf, MasksIf, LentSheet, isLarge, isShort, lentVerdict, sheetVerdict}
+use Rattle.sheet.specs.Sheet.{Sheet, pointsOf, flatPoints, sheetOf, masksOf, LentSheet, isLarge, isShort, lentVerdict, sheetVerdict}
 use Rattle.sheet.proofs.Tests.{or-left, or-right, holds-of, lent-is, length-points, bare-is, labels-match, found-nothing, some-quad, proper-of, corners-tested}
 use Rattle.results.specs.declared.Made.{Made}
 use Rattle.results.specs.declared.Made.the-variants as made
-use Rattle.results.specs.Results.{Front, Fills, Outcome, refuses, makes, countsOf, answerOf}
+use Rattle.results.specs.Results.{Front, Fills, Outcome, refuses, makes, countsOf, answerOf, afterLent}
 use Rattle.incidence.proofs.Corners.{cornered}
-use Rattle.refine.specs.Finer.{afterLent}
 use Rattle.refine.proofs.Edges.{sorted}
-use Rattle.refine.proofs.Rule.{fills-refused}
+use Rattle.results.proofs.Results.{refused-fills}
 use Rattle.smoothed.specs.Smoothed.{paired}
 use Rattle.smoothed.specs.Steps.{flatSheet}
-use Rattle.smoothed.proofs.Fronts.{points-front, quads-front}
-use Rattle.rows.specs.Rows.{isCopied, copies, numberOf, copyOf, isFound, found, copiedQuads, labelOf, stripAt, rowSides, rowsSheet, rowsMade, rowed, rowsRule}
+use Rattle.results.proofs.Fronts.{points-front, quads-front}
+use Rattle.rows.specs.Rows.{isCopied, copies, numberOf, copyOf, copiedQuads, labelOf, stripAt, rowSides, rowsSheet, rowsMade, rowed, rowsRule}
+use Rattle.projection.specs.Project.{isOnto, ontoOf}
 use Rattle.rows.specs.Steps.{numberIn, pointsAfter, foundAt, copiesTo, cornerLabel, cornerIn, seamsOf, stripIn, masksAt, countsAfter, madeBy, Worked, Gathered, Gathering, Finished, Tested}
 use Rattle.rows.proofs.Copies.{number-le}
 use Rattle.rows.proofs.Seams.{sideAt, row-sides}
@@ -105,7 +105,7 @@ module _ {np nq : ℕ} {P : List Float} {Q labels M w : List ℕ} (G : Gathered 
       rw (x, y, z)
     where
       points-count : length (t .points) ≡ numberOf s (8 * np)
-      points-count = length-append (s .points) (map (λ k. found (copyOf b s k)) (copies s)) ∙ rw (length-map (copies s) (λ k. found (copyOf b s k)), length-points np P, length-those (isCopied s) (8 * np))
+      points-count = length-append (s .points) (map (λ k. ontoOf (copyOf b s k)) (copies s)) ∙ rw (length-map (copies s) (λ k. ontoOf (copyOf b s k)), length-points np P, length-those (isCopied s) (8 * np))
 
   module _ {A : List Float} {B D : List ℕ} (FA : Front (flatPoints (t .points)) A) (FB : Front (flatQuads (t .quads)) B) (FD : Front (t .labels) D) (c : Counts) (ec : c ≡ countsOf t) where
     sheet-is : sheetOf c A B D ≡ t
@@ -113,27 +113,27 @@ module _ {np nq : ℕ} {P : List Float} {Q labels M w : List ℕ} (G : Gathered 
 
     made-fills : (v : Verdict) (r : Made) → sheetVerdict b t ≡ v → r ≡ madeBy c v → Fills (afterLent v (makes t)) r A B D
     made-fills Accepted r e er = record { answer = er ∙ ap made.Done ec; points = FA; quads = FB; labelled = FD }
-    made-fills (Refused n) r e er = rw er (fills-refused n A B D)
+    made-fills (Refused n) r e er = rw er (refused-fills n A B D)
 
     -- all copies are found, and the edges have two quads each
     pub rows-done : (r : Made) → every (foundAt b nq P Q labels M) (8 * np) ≡ true → paired np (quadsOf nq Q) ≡ true → r ≡ madeBy c (sheetVerdict b (sheetOf c A B D)) → Fills (rowsMade b s) r A B D
     unfolding rowsMade
     rows-done r f pr er =
-        let g : all (λ k. isFound (copyOf b s k)) (copies s) ≡ true = sym (found-is (G .sheet) b) ∙ rw em at f in
+        let g : all (λ k. isOnto (copyOf b s k)) (copies s) ≡ true = sym (found-is (G .sheet) b) ∙ rw em at f in
         rw (g, length-points np P, pr) (made-fills (sheetVerdict b t) r refl (rw sheet-is at er))
 
   -- 10 and 8
   pub rows-lost : (A : List Float) (B D : List ℕ) → every (foundAt b nq P Q labels M) (8 * np) ≡ false → Fills (rowsMade b s) (answerOf (refuses 10)) A B D
   unfolding rowsMade
   rows-lost A B D f =
-      let g : all (λ k. isFound (copyOf b s k)) (copies s) ≡ false = sym (found-is (G .sheet) b) ∙ rw em at f in
-      rw g (fills-refused 10 A B D)
+      let g : all (λ k. isOnto (copyOf b s k)) (copies s) ≡ false = sym (found-is (G .sheet) b) ∙ rw em at f in
+      rw g (refused-fills 10 A B D)
 
   pub rows-open : (A : List Float) (B D : List ℕ) → every (foundAt b nq P Q labels M) (8 * np) ≡ true → paired np (quadsOf nq Q) ≡ false → Fills (rowsMade b s) (answerOf (refuses 8)) A B D
   unfolding rowsMade
   rows-open A B D f pr =
-      let g : all (λ k. isFound (copyOf b s k)) (copies s) ≡ true = sym (found-is (G .sheet) b) ∙ rw em at f in
-      rw (g, length-points np P, pr) (fills-refused 8 A B D)
+      let g : all (λ k. isOnto (copyOf b s k)) (copies s) ≡ true = sym (found-is (G .sheet) b) ∙ rw em at f in
+      rw (g, length-points np P, pr) (refused-fills 8 A B D)
 
 -- ---- the sheet with rows once it is gathered
 
@@ -243,7 +243,7 @@ module _ (b : Band) (c : Counts) (P : List Float) (Q labels u : List ℕ) (T : T
 
     pub tested-over : (A : List Float) (B D : List ℕ) → over ≡ true → Fills (rowed b (sheetOf c P Q labels) p q l) (answerOf (refuses 13)) A B D
     unfolding rowed
-    tested-over A B D o = rw (counts-same, o) (fills-refused 13 A B D)
+    tested-over A B D o = rw (counts-same, o) (refused-fills 13 A B D)
 
     pub tested-done : (r : Made) (A : List Float) (B D : List ℕ) → over ≡ false → Fills (rowsMade b (flatSheet np nq P Q labels)) r A B D → Fills (rowed b (sheetOf c P Q labels) p q l) r A B D
     unfolding rowed
@@ -261,18 +261,6 @@ module _ (b : Band) (c : Counts) (P : List Float) (Q labels u : List ℕ) (T : T
           work = omega (arith, T .work);
         }
 
--- the masks of an accepted sheet
-pub masks-told : {v : Verdict} {masks y : List ℕ} → v ≡ Accepted → MasksIf v masks y → y ≡ masks
-masks-told e m = rw e at m
-
--- ---- the result's 13
-
-pub over-large : (c : Counts) (p q l : ℕ) → isLarge c ≡ true → true ≡ (isLarge c || isShort c p q l)
-over-large c p q l e = rw e
-
-pub over-short : (c : Counts) (p q l : ℕ) (r : Bool) → isLarge c ≡ false → r ≡ isShort c p q l → r ≡ (isLarge c || isShort c p q l)
-over-short c p q l r e s = rw e s
-
 -- ---- the tests before
 
 module _ (b : Band) (c : Counts) (P : List Float) (Q labels : List ℕ) (w f p q l : ℕ) where
@@ -281,7 +269,7 @@ module _ (b : Band) (c : Counts) (P : List Float) (Q labels : List ℕ) (w f p q
 
   pub rule-lent : (n : ℕ) (A : List Float) (B D : List ℕ) → lentVerdict c (length P) (length Q) (length labels) w f ≡ Refused n → Fills Rule (answerOf (refuses n)) A B D
   unfolding rowsRule
-  rule-lent n A B D e = rw e (fills-refused n A B D)
+  rule-lent n A B D e = rw e (refused-fills n A B D)
 
   module _ (e : lentVerdict c (length P) (length Q) (length labels) w f ≡ Accepted) where
     pub rule-sheet : LentSheet c (length P) (length Q) (length labels)
@@ -292,7 +280,7 @@ module _ (b : Band) (c : Counts) (P : List Float) (Q labels : List ℕ) (w f p q
 
     pub rule-refused : (n : ℕ) (A : List Float) (B D : List ℕ) → sheetVerdict b (sheetOf c P Q labels) ≡ Refused n → Fills Rule (answerOf (refuses n)) A B D
     unfolding rowsRule
-    rule-refused n A B D t = rw (e, t) (fills-refused n A B D)
+    rule-refused n A B D t = rw (e, t) (refused-fills n A B D)
 
     pub rule-done : (r : Made) (A : List Float) (B D : List ℕ) → sheetVerdict b (sheetOf c P Q labels) ≡ Accepted → Fills (rowed b (sheetOf c P Q labels) p q l) r A B D → Fills Rule r A B D
     unfolding rowsRule

@@ -3,7 +3,7 @@ use Prim.Native.Nat.{ℕ, zero, suc, _+_, _*_, _/_, _%_, _≤_, _<_}
 use mathlib.Core.Path.{_≡_, refl, sym, ap, _∙_}
 use mathlib.Core.Bool.{Bool, true, false, cond, not, _&&_, true≢false, false≢true}
 use mathlib.Core.Logic.{⊎-elim}
-use mathlib.Core.List.{List, [], _∷_, _++_, map, append-nil, append-assoc}
+use mathlib.Core.List.{List, [], _∷_, _++_, map, map-append, append-nil, append-assoc}
 use native.Mathlib.Omega.{arith}
 use native.Mathlib.Numerals.{add-one}
 use lib.Dec.{eqb, ltb, leb}
@@ -12,7 +12,7 @@ use lib.Seq.{getD-take}
 use lib.Ieee.{Float}
 use borrow.Author.Tests.{ne-eqb, lt-ltb, ltb-false, leb-true, le-leb}
 use Rattle.lists.specs.Sort.{tabulate, itself, consIf, bucket, start}
-use Rattle.lists.proofs.Laws.{lt-or-le, start-suc, start-zero, getD-tab, length-tab}
+use Rattle.lists.proofs.Laws.{lt-or-le, start-suc, start-zero, getD-tab, length-tab, tab-add}
 use Rattle.sheet.specs.Quads.{quad, isEdge}
 use Rattle.sheet.specs.Flat.{from, to, quadAt, quadsOf}
 use Rattle.sheet.specs.Edges.{Pair, pair, joinTo, joinOf, edgeIf, edgesFrom, edgesOf, smaller, larger, allCorners, edgeCorners}
@@ -21,7 +21,6 @@ use Rattle.sheet.proofs.Tests.{length-points}
 use Rattle.incidence.specs.Corners.{edgeOrder}
 use Rattle.census.proofs.Blocks.{block, byLarger, off, off-suc, row-length, at-off, key-smaller, key-larger}
 use Rattle.census.proofs.EdgeKinds.{kindOf, kind-first, kind-later}
-use Rattle.refine.proofs.Requests.{map-append, tab-add}
 use Rattle.smoothed.specs.Steps.{flatSheet}
 use Rattle.rows.specs.Rows.{Side, side, lowOf, highOf, fourSides, sidesOf, edgeSides, twoLabels, rowSides}
 use Rattle.rows.specs.Steps.{cornerLabel, isTwo, seamAt, seamCorners, seamsTo, seamsOf}

@@ -17,16 +17,15 @@ use Rattle.lists.proofs.Regions.{part-len, part-get, part-set-out, part-as, kep
 use Rattle.points.specs.declared.Point.{Point}
 use Rattle.points.specs.Points.{pointAt, subP}
 use Rattle.sheet.specs.Quads.{quad}
-use Rattle.sheet.specs.Flat.{from, to}
+use Rattle.sheet.specs.Flat.{from, to, withQuad}
 use Rattle.sheet.specs.Edges.{joinTo}
 use Rattle.incidence.specs.Corners.{Cornered, edgeOrder}
 use Rattle.census.specs.Places.{linked, goesOn, sameStart, kindAt}
 use Rattle.smoothing.specs.Smooth.{mean}
 use Rattle.smoothing.specs.Rounded.{pointwise}
-use Rattle.refine.specs.Requests.{withQuad}
 use Rattle.refine.specs.Loops.{orderAt}
 use Rattle.refine.proofs.Edges.{sorted}
-use Rattle.refine.proofs.Requests.{map-tab}
+use Rattle.lists.proofs.Laws.{map-tab}
 use Rattle.smoothed.specs.Steps.{keep, Spans}
 use Rattle.smoothed.proofs.Sums.{part-suc}
 use Rattle.rows.specs.declared.Centres.{Centres}

@@ -1,6 +1,6 @@
 -- The sheet of `boundary_rows`: a row of quads along the edges between two labels. Document 01, "The finer sheet and the rows", and `boundary_rows` of 000.
 use Prim.Native.Nat.{ℕ, zero, suc, _+_, _*_, _/_, _%_, _^_, min, max}
-use mathlib.Core.Bool.{Bool, true, false, cond, _&&_, _||_}
+use mathlib.Core.Bool.{Bool, cond, _&&_, _||_}
 use mathlib.Core.List.{List, [], _∷_, _++_, map}
 use lib.Dec.{eqb, ltb}
 use lib.ListN.{length, getD}
@@ -12,22 +12,17 @@ use Rattle.points.specs.Points.{_⊗_, addP, subP, mulP}
 use Rattle.band.specs.declared.Band.{Band}
 use Rattle.projection.specs.declared.Projected.{Projected}
 use Rattle.projection.specs.declared.Projected.the-variants.{Onto, Refused}
-use Rattle.projection.specs.Project.{projectOf}
+use Rattle.projection.specs.Project.{projectOf, isOnto, ontoOf}
 use Rattle.sheet.specs.declared.Counts.{Counts}
 use Rattle.sheet.specs.Quads.{Quad, quad, all, hasLabel}
 use Rattle.sheet.specs.Edges.{Pair, joinTo, joinOf, edgesOf}
-use Rattle.sheet.specs.Numbers.{short}
+use Rattle.sheet.specs.Numbers.{edge, short}
 use Rattle.sheet.specs.Sheet.{Sheet, sheetOf, isLarge, isShort, lentVerdict, sheetVerdict}
-use Rattle.results.specs.Results.{Outcome, refuses, makes, countsOf}
+use Rattle.results.specs.Results.{Outcome, refuses, makes, countsOf, afterLent}
 use Rattle.smoothing.specs.Smooth.{mean, sumOf}
 use Rattle.smoothing.specs.Rounded.{pointwise}
-use Rattle.refine.specs.Finer.{origin, afterLent}
 use Rattle.smoothed.specs.Smoothed.{those, pointQuads, paired, labelCount, pointOf, centreAt}
 use Rattle.smoothed.specs.Steps.{keep}
-
--- 8, edge: "subdivide, boundary_rows: an edge without exactly two quads"
-abbrev pub edge : ℕ
-edge = 8
 
 -- 10, row: "all twenty steps fail"
 abbrev pub row : ℕ
@@ -95,15 +90,6 @@ tryFrom (suc n) b p d mask step = orElse (projectOf b (addP p (mulP d step)) mas
 -- the copy of a key: "trying steps 0.7, 0.35 and so on, twenty in all", onto its label alone
 unfoldable pub copyOf : Band → Sheet → ℕ → Projected
 copyOf b s k = tryFrom tryCount b (pointOf s (pointIn k)) (inward s (pointIn k) (labelIn k)) (2 ^ labelIn k) firstStep
-
-abbrev pub isFound : Projected → Bool
-isFound (Onto p) = true
-isFound Refused = false
-
--- the point that is found
-abbrev pub found : Projected → Point
-found (Onto p) = p
-found Refused = origin
 
 -- ---- the copied quads
 
@@ -173,7 +159,7 @@ stripAt s x = quad (x .start) (x .end) (numberOf s (keyOf (x .end) (x .label))) 
 -- the points and their copies; "The strip quads stand behind the copied quads in the lent result."
 unfoldable pub rowsSheet : Band → Sheet → Sheet
 rowsSheet b s = record {
-  points = s .points ++ map (λ k. found (copyOf b s k)) (copies s);
+  points = s .points ++ map (λ k. ontoOf (copyOf b s k)) (copies s);
   quads = copiedQuads s ++ map (stripAt s) (rowSides s);
   labels = s .labels ++ map labelOf (rowSides s);
 }
@@ -182,7 +168,7 @@ rowsSheet b s = record {
 unfoldable pub rowsMade : Band → Sheet → Outcome
 rowsMade b s =
     let t = rowsSheet b s in
-    cond (all (λ k. isFound (copyOf b s k)) (copies s))
+    cond (all (λ k. isOnto (copyOf b s k)) (copies s))
     (cond (paired (length (s .points)) (s .quads)) (afterLent (sheetVerdict b t) (makes t)) (refuses edge))
     (refuses row)
 

@@ -32,7 +32,8 @@ use Rattle.refine.specs.Loops.{Held, orderAt}
 use Rattle.smoothed.specs.Smoothed.{those}
 use Rattle.smoothed.specs.Steps.{onesOf, cornerCentre, keep}
 use Rattle.rows.specs.declared.Centres.{Centres}
-use Rattle.rows.specs.Rows.{keyOf, pointIn, labelIn, firstStep, tryCount, tryFrom, isFound, found}
+use Rattle.rows.specs.Rows.{keyOf, pointIn, labelIn, firstStep, tryCount, tryFrom}
+use Rattle.projection.specs.Project.{isOnto, ontoOf}
 
 -- ---- the copies
 
@@ -79,15 +80,15 @@ copyAt b nq P Q labels k =
 
 -- the key k has no copy, or it is found
 unfoldable pub foundAt : Band → ℕ → List Float → List ℕ → List ℕ → List ℕ → ℕ → Bool
-foundAt b nq P Q labels M k = not (copiedIn M k) || isFound (copyAt b nq P Q labels k)
+foundAt b nq P Q labels M k = not (copiedIn M k) || isOnto (copyAt b nq P Q labels k)
 
 -- the coordinates s with the copy of the key k at its number, if it has one
 unfoldable pub putCopy : Band → ℕ → ℕ → List Float → List ℕ → List ℕ → List ℕ → ℕ → List Float → List Float
-putCopy b np nq P Q labels M k s = cond (copiedIn M k) (withPoint s (numberIn np M k) (found (copyAt b nq P Q labels k))) s
+putCopy b np nq P Q labels M k s = cond (copiedIn M k) (withPoint s (numberIn np M k) (ontoOf (copyAt b nq P Q labels k))) s
 
 -- the copies of the keys below n
 unfoldable pub copiesTo : Band → ℕ → List Float → List ℕ → List ℕ → List ℕ → ℕ → List Point
-copiesTo b nq P Q labels M n = map (λ k. found (copyAt b nq P Q labels k)) (those (copiedIn M) n)
+copiesTo b nq P Q labels M n = map (λ k. ontoOf (copyAt b nq P Q labels k)) (those (copiedIn M) n)
 
 -- ---- the copied quads
 

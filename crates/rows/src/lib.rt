@@ -10,7 +10,7 @@ use results::Made;
 use sheet::Counts;
 use sheet::Verdict;
 ghost use mathlib.Core.Path.{_≡_};
-ghost use mathlib.Core.Bool.{true, cond, _||_};
+ghost use mathlib.Core.Bool.{true, cond};
 ghost use mathlib.Core.List.{_++_, map};
 ghost use Prim.Native.Nat.{_+_, _*_, _/_, _%_, _<_, _≤_};
 ghost use lib.ListN.{length, getD, take, replicate};
@@ -19,12 +19,11 @@ ghost use Rattle.lists.specs.Sort.{tabulate};
 ghost use Rattle.lists.specs.Every.{every};
 ghost use Rattle.lists.specs.Regions.{part, Part, Out, Apart, Kept};
 ghost use Rattle.band.specs.Bands.{lengthOf};
-ghost use Rattle.sheet.specs.Flat.{flatQuads};
-ghost use Rattle.sheet.specs.Sheet.{pointsOf, flatPoints, sheetOf, sheetVerdict, LentSheet, isLarge, isShort};
+ghost use Rattle.sheet.specs.Flat.{flatQuads, withQuad};
+ghost use Rattle.sheet.specs.Sheet.{pointsOf, flatPoints, sheetOf, sheetVerdict, LentSheet};
 ghost use Rattle.results.specs.Results.{Front, Fills, Leaves};
 ghost use Rattle.incidence.specs.Corners.{Cornered, edgeOrder};
 ghost use Rattle.incidence.specs.Marks.{Incident};
-ghost use Rattle.refine.specs.Requests.{withQuad};
 ghost use Rattle.refine.specs.Loops.{Held, orderAt};
 ghost use Rattle.smoothed.specs.Steps.{Below, keep, flatSheet};
 ghost use Rattle.rows.specs.Rows.{firstStep, tryCount, tryFrom, rowsMade, rowed, rowsRule};
@@ -62,9 +61,7 @@ ghost use Rattle.rows.specs.Steps.{
   Tested,
 };
 
-// The numbers of refusals: an edge without exactly two quads, and a copy for which all steps fail.
-pub const EDGE: u32 = 8;
-
+// The number of a refusal: a copy for which all steps fail.
 pub const ROW: u32 = 10;
 
 // The first step of a copy towards the centres, and how many are tried, each half as long as the one before.
@@ -441,7 +438,7 @@ fn put_strip(
     let b = quads[c / 4 * 4 + (c + 1) % 4];
     let e = w[num + (8 * b as usize + l)];
     let f = w[num + (8 * a as usize + l)];
-    refine::put_quad(out, i, a, b, e, f);
+    results::put_quad(out, i, a, b, e, f);
 }
 
 // Puts the m strips.
@@ -559,16 +556,6 @@ fn tested(b: Band, c: Counts, points: &[f64], quads: &[u32], labels: &[u8], w: &
     Made::Done(c)
 }
 
-// 13, of a made sheet: more than slices of these lengths or the limit hold.
-fn is_over(c: Counts, points: usize, quads: usize, labels: usize) -> bool
-    ensures { λ r. ⌜ r ≡ (isLarge c || isShort c points quads labels) ⌝ }
-{
-    if sheet::is_large(c) {
-        return true;
-    }
-    sheet::is_short(c, points, quads, labels)
-}
-
 // Writes the sheet with rows, whose counts are m, and tests it: 10, 8, 7.
 fn put_sheet(
     b: Band,
@@ -591,7 +578,7 @@ fn put_sheet(
         return Made::Refused(ROW);
     }
     if !smoothed::is_paired(np, nq, quads, w) {
-        return Made::Refused(EDGE);
+        return Made::Refused(sheet::EDGE);
     }
     put_quads(
         points,
@@ -623,7 +610,7 @@ fn rows_tested(
     ensures { λ r. ⌜ Fills (rowed b (sheetOf c (now (points .entry)) (now (quads .entry)) (now (labels .entry))) (length (now («new_points» .entry))) (length (now («new_quads» .entry))) (length (now («new_labels» .entry)))) r (now («new_points» .exit)) (now («new_quads» .exit)) (now («new_labels» .exit)) ⌝ }
 {
     let m = gather(quads, labels, c.points, c.quads, w);
-    if is_over(m, new_points.len(), new_quads.len(), new_labels.len()) {
+    if sheet::is_over(m, new_points.len(), new_quads.len(), new_labels.len()) {
         return Made::Refused(sheet::SHORT);
     }
     put_sheet(

@@ -54,6 +54,13 @@ holds-of c p q l e s = record {
   labels = ltb-false _ _ (search (or-left, or-right));
 }
 
+-- more than the slices or the limit hold
+pub over-large : (c : Counts) (p q l : ℕ) → isLarge c ≡ true → true ≡ (isLarge c || isShort c p q l)
+over-large c p q l e = rw e
+
+pub over-short : (c : Counts) (p q l : ℕ) (r : Bool) → isLarge c ≡ false → r ≡ isShort c p q l → r ≡ (isLarge c || isShort c p q l)
+over-short c p q l r e s = rw e s
+
 work-of : (c : Counts) (w f : ℕ) → isShortWork c w f ≡ false → LentWork c w f
 unfolding isShortWork
 work-of c w f e = record { work = ltb-false _ _ (search (or-left)); floats = ltb-false _ _ (search (or-right)) }
@@ -202,3 +209,7 @@ some-quad c P e = ⊎-elim (λ (z : c .quads ≡ 0). absurd (true≢false (rw (e
 pub proper-of : (n : ℕ) (S : List Quad) (labels : List ℕ) → goodCorners n S labels ≡ true → all (proper n) S ≡ true
 unfolding goodCorners
 proper-of n S labels e = and-right (all lowLabel labels) (all (proper n) S) e
+
+-- the masks of an accepted sheet
+pub masks-told : {v : Verdict} {masks y : List ℕ} → v ≡ Accepted → MasksIf v masks y → y ≡ masks
+masks-told e m = rw e at m

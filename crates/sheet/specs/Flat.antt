@@ -2,7 +2,7 @@
 use Prim.Native.Nat.{ℕ, _+_, _*_, _/_, _%_, _≤_}
 use mathlib.Core.Bool.{Bool}
 use mathlib.Core.List.{List, [], _∷_}
-use lib.ListN.{getD, length, take}
+use lib.ListN.{getD, set, length, take}
 use Rattle.lists.specs.Sort.{tabulate}
 use Rattle.sheet.specs.Quads.{Quad, quad, hasLabel, maskOf}
 
@@ -21,6 +21,10 @@ quadsOf n Q = tabulate (quadAt Q) n
 unfoldable pub flatQuads : List Quad → List ℕ
 flatQuads [] = []
 flatQuads (quad a b c d ∷ S) = a ∷ b ∷ c ∷ d ∷ flatQuads S
+
+-- the list with the quad at place i
+abbrev pub withQuad : List ℕ → ℕ → Quad → List ℕ
+withQuad s i (quad a b c d) = set (set (set (set s (4 * i) a) (4 * i + 1) b) (4 * i + 2) c) (4 * i + 3) d
 
 -- the point at corner c, the one before it in its quad, and the one after it
 abbrev pub from : List ℕ → ℕ → ℕ

@@ -13,6 +13,10 @@ corner = 6
 abbrev pub clash : ℕ
 clash = 7
 
+-- "subdivide, boundary_rows: an edge without exactly two quads"
+abbrev pub edge : ℕ
+edge = 8
+
 abbrev pub large : ℕ
 large = 12
 

@@ -2,7 +2,7 @@
 
 use band::Band;
 ghost use mathlib.Core.Path.{_≡_};
-ghost use mathlib.Core.Bool.{Bool, true, false};
+ghost use mathlib.Core.Bool.{Bool, true, false, _||_};
 ghost use Prim.Native.Nat.{ℕ, _+_, _*_, _<_, _≤_};
 ghost use lib.ListN.{length, getD, take, replicate};
 ghost use Rattle.lists.specs.Every.{every};
@@ -24,6 +24,8 @@ pub const BARE: u32 = 5;
 pub const CORNER: u32 = 6;
 
 pub const CLASH: u32 = 7;
+
+pub const EDGE: u32 = 8;
 
 pub const LARGE: u32 = 12;
 
@@ -55,6 +57,16 @@ pub fn is_short(c: Counts, points: usize, quads: usize, labels: usize) -> bool
     ensures { λ r. ⌜ r ≡ isShort c points quads labels ⌝ }
 {
     (points < 3 * c.points) | (quads < 4 * c.quads) | (labels < c.labels)
+}
+
+// 13, of a made sheet: more than slices of these lengths or the limit hold.
+pub fn is_over(c: Counts, points: usize, quads: usize, labels: usize) -> bool
+    ensures { λ r. ⌜ r ≡ (isLarge c || isShort c points quads labels) ⌝ }
+{
+    if is_large(c) {
+        return true;
+    }
+    is_short(c, points, quads, labels)
 }
 
 // 13: too little work.
@@ -184,7 +196,7 @@ pub fn good_mask(m: u32) -> bool
 }
 
 // Every mask is good.
-fn good_masks(masks: &[u32]) -> bool
+pub fn good_masks(masks: &[u32]) -> bool
     ensures { λ r. ⌜ r ≡ every (goodMaskAt (now (masks .entry))) (length (now (masks .entry))) ⌝ }
 {
     let mut v = 0;

@@ -2,7 +2,7 @@
 use Prim.Native.Nat.{ℕ, _+_, _*_, _/_, _≤_, _<_}
 use mathlib.Core.Path.{_≡_, refl, sym, ap, _∙_}
 use mathlib.Core.Bool.{Bool, true, false, cond, not, true≢false}
-use mathlib.Core.List.{List, [], _∷_, _++_, map, append-nil}
+use mathlib.Core.List.{List, [], _∷_, _++_, map, map-append, append-nil}
 use native.Mathlib.Omega.{arith}
 use lib.ListN.{length, getD, drop, length-append, length-drop, length-map}
 use lib.Seq.{length-take-le}
@@ -11,7 +11,6 @@ use borrow.Author.Tests.{ne-eqb}
 use Rattle.lists.specs.Sort.{consIf}
 use Rattle.lists.specs.Regions.{part}
 use Rattle.lists.proofs.Regions.{part-of, part-get}
-use Rattle.refine.proofs.Requests.{map-append}
 use Rattle.smoothed.specs.declared.Creases.{Creases}
 use Rattle.smoothed.specs.Steps.{Below, otherEnd, creaseAt, creasesOf, withCrease, keep, creaseEnds}
 use Rattle.smoothed.proofs.Sums.{part-suc}

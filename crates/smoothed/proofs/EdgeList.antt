@@ -3,13 +3,13 @@ use Prim.Native.Nat.{ℕ, zero, suc, _+_, _*_, _/_, _%_, _≤_, _<_, min, max}
 use mathlib.Core.Path.{_≡_, refl, sym, ap, _∙_}
 use mathlib.Core.Bool.{Bool, true, false, not, _&&_}
 use mathlib.Core.Logic.{⊎-elim}
-use mathlib.Core.List.{List, [], _∷_, map}
+use mathlib.Core.List.{List, [], _∷_, map, map-append}
 use native.Mathlib.Omega.{arith}
 use lib.ListN.{length, getD, length-map}
 use lib.Dec.{eqb, ltb}
 use borrow.Author.Tests.{eqb-true, ne-eqb, lt-ltb, ltb-true}
 use Rattle.lists.specs.Sort.{tabulate, itself, consIf, bucket}
-use Rattle.lists.proofs.Laws.{eq-or-ne, bucket-append}
+use Rattle.lists.proofs.Laws.{eq-or-ne, bucket-append, tab-add}
 use Rattle.lists.proofs.Every.{and-left, and-right, bool-iff}
 use Rattle.sheet.specs.Quads.{all, side, isEdge}
 use Rattle.sheet.specs.Flat.{from, quadsOf}
@@ -22,7 +22,6 @@ use Rattle.census.proofs.Blocks.{key-smaller, key-larger}
 use Rattle.census.proofs.Sides.{no-loop, length-block}
 use Rattle.census.proofs.Tight.{edges-pass, edge-passes, all-and, all-none}
 use Rattle.refine.proofs.Edges.{sorted}
-use Rattle.refine.proofs.Requests.{map-append, tab-add}
 use Rattle.smoothed.specs.Smoothed.{edgeQuads, isPaired, paired}
 use Rattle.smoothed.specs.Steps.{endAt, Ends, otherEnd, keep}
 use Rattle.smoothed.proofs.CreaseLoop.{keep-append}

@@ -10,5 +10,4 @@ pub mod Moved
 pub mod Places
 pub mod Turns
 pub mod Lists
-pub mod Fronts
 pub mod Sheets

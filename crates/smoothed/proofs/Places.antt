@@ -3,7 +3,7 @@ use Prim.Native.Nat.{ℕ, zero, suc, _+_, _-_, _*_, _/_, _%_, _<_}
 use mathlib.Core.Path.{_≡_, refl, sym, ap, _∙_}
 use mathlib.Core.Bool.{Bool, true, false, cond}
 use mathlib.Core.Logic.{⊎-elim}
-use mathlib.Core.List.{List, [], _∷_, _++_, map}
+use mathlib.Core.List.{List, [], _∷_, _++_, map, map-append}
 use native.Mathlib.Omega.{arith}
 use native.Mathlib.Nat.{mul-add-div-right, div-eq-of-lt, mul-add-mod-self-right, mod-eq-of-lt}
 use lib.ListN.{getD}
@@ -20,7 +20,6 @@ use Rattle.incidence.specs.Corners.{Cornered, edgeOrder}
 use Rattle.refine.specs.Requests.{requestOf, keyAt, firstOf, firstsOf, own}
 use Rattle.refine.specs.Loops.{madeTo}
 use Rattle.refine.proofs.Edges.{sorted, before-less, key-corner, key-centre, edge-below, low-of, high-of, first-of}
-use Rattle.refine.proofs.Requests.{map-append}
 use Rattle.refine.proofs.Sheet.{asked-keys}
 use Rattle.smoothed.specs.Smoothed.{paired, isCrease, oldPoint, edgePlace, newPlace, smoothSheet}
 use Rattle.smoothed.specs.Steps.{Ends, cornerCentre, movedPoint, edgeAt, cornerOf, placeAt, flatSheet}

@@ -2,16 +2,15 @@
 use Prim.Native.Nat.{ℕ, zero, suc, _+_, _*_, _/_, _%_, _≤_, _<_, min, max}
 use mathlib.Core.Path.{_≡_, refl, sym, ap, _∙_}
 use mathlib.Core.Bool.{Bool, true, false, cond, _&&_}
-use mathlib.Core.List.{List, [], _∷_, _++_, map, append-nil, append-assoc}
+use mathlib.Core.List.{List, [], _∷_, _++_, map, map-append, append-nil, append-assoc}
 use native.Mathlib.Omega.{arith}
 use lib.ListN.{length, getD, replicate}
 use lib.Dec.{eqb}
 use Rattle.lists.specs.Sort.{tabulate, itself, consIf, bucket}
-use Rattle.lists.proofs.Laws.{eq-or-ne, lt-or-le, length-tab}
+use Rattle.lists.proofs.Laws.{eq-or-ne, lt-or-le, length-tab, tab-add}
 use Rattle.sheet.specs.Quads.{Quad, num, is, uses}
 use Rattle.sheet.specs.Flat.{quadAt, quadsOf, from}
 use Rattle.sheet.specs.Edges.{pair, smaller, larger, allCorners, pointCorners, edgeCorners}
-use Rattle.refine.proofs.Requests.{map-append, tab-add}
 use Rattle.smoothed.specs.Smoothed.{timed, sides, edgeQuads, pointQuads}
 use Rattle.smoothed.specs.Steps.{keep}
 use Rattle.smoothed.proofs.CreaseLoop.{keep-append}

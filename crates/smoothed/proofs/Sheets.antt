@@ -27,7 +27,7 @@ use Rattle.smoothed.specs.Smoothed.{smoothSheet}
 use Rattle.smoothed.specs.Steps.{Ends, Seconds, cornerOf, movedPoint, placeAt, flatSheet, masksAt, secondsAt, BeforeScratch, Listed, Gathered, movedIn, Placing, Gathering, Smoothable}
 use Rattle.smoothed.proofs.Places.{first-corner, points-are}
 use Rattle.smoothed.proofs.Lists.{order-below}
-use Rattle.smoothed.proofs.Fronts.{points-front}
+use Rattle.results.proofs.Fronts.{points-front}
 
 -- what the gathering leaves
 abbrev pub Ready : ℕ → ℕ → List ℕ → List ℕ → List ℕ → List ℕ → Type 0

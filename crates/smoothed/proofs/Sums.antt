@@ -1,7 +1,7 @@
 -- Sums over a part of the work slice, one element more at a time. Assumes nothing.
 use Prim.Native.Nat.{ℕ, _+_, _-_, _*_, _/_, _%_, _≤_, _<_}
 use mathlib.Core.Path.{_≡_, ap, _∙_}
-use mathlib.Core.List.{List, [], _∷_, _++_, map}
+use mathlib.Core.List.{List, [], _∷_, _++_, map, map-append}
 use native.Mathlib.Omega.{arith}
 use native.Mathlib.Numerals.{add-one}
 use lib.ListN.{length, getD, drop, length-drop}
@@ -12,7 +12,6 @@ use Rattle.points.specs.declared.Point.{Point}
 use Rattle.smoothing.specs.Smooth.{sumOf}
 use Rattle.smoothing.specs.Rounded.{pointwise}
 use Rattle.refine.specs.Loops.{Held}
-use Rattle.refine.proofs.Requests.{map-append}
 use Rattle.smoothing.proofs.Coordinates.{sum-snoc, halfway-by}
 use Rattle.points.specs.Points.{addP, halfwayP, pointAt}
 use Rattle.smoothed.specs.Steps.{Below, otherEnd, halfwayTo}

@@ -18,11 +18,10 @@ use Rattle.band.specs.declared.Band.{Band}
 use Rattle.band.specs.Bands.{lengthOf}
 use Rattle.projection.specs.declared.Projected.{Projected}
 use Rattle.projection.specs.declared.Projected.the-variants.{Onto, Refused}
-use Rattle.projection.specs.Project.{longestMove, lookCount, projectWith, projectOf}
+use Rattle.projection.specs.Project.{longestMove, lookCount, projectWith, projectOf, ontoOf}
 use Rattle.sheet.specs.Sheet.{flatPoints}
 use Rattle.results.specs.Results.{Front}
-use Rattle.refine.proofs.Loops.{front-none, front-point, length-with}
-use Rattle.subdivide.specs.Subdivide.{ontoOf}
+use Rattle.results.proofs.Fronts.{front-none, front-point, length-with}
 use Rattle.subdivide.specs.Steps.{landAt, landsOf, landedTo}
 
 -- a point put elsewhere leaves this one

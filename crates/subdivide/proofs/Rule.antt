@@ -17,42 +17,30 @@ use Rattle.lists.proofs.Every.{every-ext, count-le}
 use Rattle.lists.proofs.Regions.{part-as, part-kept, lent}
 use Rattle.band.specs.declared.Band.{Band}
 use Rattle.sheet.specs.declared.Counts.{Counts}
-use Rattle.sheet.specs.declared.Verdict.{Verdict}
 use Rattle.sheet.specs.declared.Verdict.the-variants.{Accepted, Refused}
 use Rattle.sheet.specs.Quads.{hasLabel, maskOf}
 use Rattle.sheet.specs.Flat.{quadsOf, flatQuads}
 use Rattle.sheet.specs.Tests.{goodCorners}
-use Rattle.sheet.specs.Sheet.{Sheet, sheetOf, pointsOf, flatPoints, isLarge, isShort, lentVerdict, sheetVerdict, masksOf, MasksIf, LentSheet}
+use Rattle.sheet.specs.Sheet.{Sheet, sheetOf, pointsOf, flatPoints, isLarge, isShort, lentVerdict, sheetVerdict, masksOf, LentSheet}
 use Rattle.sheet.proofs.Flat.{length-quads}
 use Rattle.sheet.proofs.Masks.{pack-lt}
 use Rattle.sheet.proofs.Tests.{or-left, or-right, holds-of, lent-is, length-points, bare-is, labels-match, found-nothing, some-quad, proper-of}
 use Rattle.results.specs.declared.Made.{Made}
-use Rattle.results.specs.Results.{Outcome, refuses, answerOf, countsOf, Front, Fills}
+use Rattle.results.specs.Results.{Outcome, refuses, answerOf, countsOf, Front, Fills, afterLent}
 use Rattle.results.proofs.Results.{refused-fills}
 use Rattle.incidence.proofs.Corners.{cornered}
-use Rattle.refine.specs.Finer.{asked, finerSheet, afterLent}
+use Rattle.refine.specs.Finer.{asked, finerSheet}
 use Rattle.refine.specs.Requests.{firstsOf, own}
 use Rattle.refine.specs.Loops.{pointsAfter, Behind, Worked, Finished}
 use Rattle.refine.proofs.Rule.{countsAfter, tested-finished}
 use Rattle.refine.proofs.Sheet.{count-is, finer-counts}
 use Rattle.smoothed.specs.Smoothed.{paired, newPlace, oldPoint, smoothSheet}
 use Rattle.smoothed.specs.Steps.{masksAt, flatSheet, Smoothable}
-use Rattle.smoothed.proofs.Fronts.{front-quads, points-front, quads-front}
-use Rattle.subdivide.specs.Subdivide.{landing, ontoOf, landsAt, projectedSheet, projected, subdivided, subdivideRule}
+use Rattle.results.proofs.Fronts.{front-quads, points-front, quads-front}
+use Rattle.subdivide.specs.Subdivide.{landing, landsAt, projectedSheet, projected, subdivided, subdivideRule}
+use Rattle.projection.specs.Project.{ontoOf}
 use Rattle.subdivide.specs.Steps.{Masked, landAt, landsOf, landedTo, Tested}
 use Rattle.results.specs.declared.Made.the-variants as made
-
--- the masks of an accepted sheet
-pub masks-told : {v : Verdict} {masks y : List ℕ} → v ≡ Accepted → MasksIf v masks y → y ≡ masks
-masks-told e m = rw e at m
-
--- ---- the result's 13
-
-pub over-large : (c : Counts) (p q l : ℕ) → isLarge c ≡ true → true ≡ (isLarge c || isShort c p q l)
-over-large c p q l e = rw e
-
-pub over-short : (c : Counts) (p q l : ℕ) (r : Bool) → isLarge c ≡ false → r ≡ isShort c p q l → r ≡ (isLarge c || isShort c p q l)
-over-short c p q l r e s = rw e s
 
 -- ---- the tests and the projection of the smoothed sheet
 

@@ -11,7 +11,7 @@ use Rattle.points.specs.declared.Point.{Point}
 use Rattle.points.specs.Points.{pointAt}
 use Rattle.band.specs.declared.Band.{Band}
 use Rattle.projection.specs.declared.Projected.{Projected}
-use Rattle.projection.specs.Project.{projectOf}
+use Rattle.projection.specs.Project.{projectOf, isOnto, ontoOf}
 use Rattle.sheet.specs.declared.Counts.{Counts}
 use Rattle.sheet.specs.Quads.{all}
 use Rattle.sheet.specs.Flat.{quadsOf}
@@ -19,7 +19,6 @@ use Rattle.sheet.specs.Sheet.{masksOf}
 use Rattle.sheet.specs.Tests.{proper}
 use Rattle.refine.specs.Loops.{Refinable}
 use Rattle.smoothed.specs.Steps.{masksAt}
-use Rattle.subdivide.specs.Subdivide.{isOnto, ontoOf}
 
 -- M has the masks of n points
 pub record Masked (n : ℕ) (M : List ℕ) : Type 0 where

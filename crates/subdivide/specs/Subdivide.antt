@@ -1,27 +1,21 @@
 -- The sheet of `subdivide`: the smoothed sheet with its points projected. Document 01, "The finer sheet and the rows", and `subdivide` of 000.
 use Prim.Native.Nat.{ℕ}
-use mathlib.Core.Bool.{Bool, true, false, cond, _||_}
+use mathlib.Core.Bool.{Bool, cond, _||_}
 use mathlib.Core.List.{List}
 use lib.ListN.{length}
 use lib.Ieee.{Float}
 use Rattle.lists.specs.Sort.{tabulate}
 use Rattle.lists.specs.Every.{every}
-use Rattle.points.specs.declared.Point.{Point}
 use Rattle.band.specs.declared.Band.{Band}
 use Rattle.projection.specs.declared.Projected.{Projected}
-use Rattle.projection.specs.declared.Projected.the-variants.{Onto, Refused}
-use Rattle.projection.specs.Project.{projectOf}
+use Rattle.projection.specs.Project.{projectOf, isOnto, ontoOf}
 use Rattle.sheet.specs.declared.Counts.{Counts}
 use Rattle.sheet.specs.Quads.{maskOf}
-use Rattle.sheet.specs.Numbers.{short}
+use Rattle.sheet.specs.Numbers.{edge, short}
 use Rattle.sheet.specs.Sheet.{Sheet, sheetOf, isLarge, isShort, lentVerdict, sheetVerdict}
-use Rattle.results.specs.Results.{Outcome, refuses, makes, countsOf}
-use Rattle.refine.specs.Finer.{origin, finerSheet, afterLent}
+use Rattle.results.specs.Results.{Outcome, refuses, makes, countsOf, afterLent}
+use Rattle.refine.specs.Finer.{finerSheet}
 use Rattle.smoothed.specs.Smoothed.{paired, pointOf, smoothSheet}
-
--- 8, edge: "subdivide, boundary_rows: an edge without exactly two quads"
-abbrev pub edge : ℕ
-edge = 8
 
 -- 9, astray: "subdivide: a point's projection fails"
 abbrev pub astray : ℕ
@@ -32,16 +26,6 @@ astray = 9
 -- point v projected by its mask
 unfoldable pub landing : Band → Sheet → ℕ → Projected
 landing b t v = projectOf b (pointOf t v) (maskOf (t .quads) (t .labels) v)
-
--- a projection succeeds
-abbrev pub isOnto : Projected → Bool
-isOnto (Onto p) = true
-isOnto Refused = false
-
--- the point that a projection leads to
-abbrev pub ontoOf : Projected → Point
-ontoOf (Onto p) = p
-ontoOf Refused = origin
 
 abbrev pub landsAt : Band → Sheet → ℕ → Bool
 landsAt b t v = isOnto (landing b t v)

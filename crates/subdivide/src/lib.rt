@@ -8,20 +8,17 @@ use results::Made;
 use sheet::Counts;
 use sheet::Verdict;
 ghost use mathlib.Core.Path.{_≡_};
-ghost use mathlib.Core.Bool.{true, _||_};
+ghost use mathlib.Core.Bool.{true};
 ghost use Prim.Native.Nat.{_*_, _≤_};
 ghost use lib.ListN.{length, replicate};
 ghost use Rattle.numeric.specs.Num.{zeroF};
 ghost use Rattle.lists.specs.Every.{every};
-ghost use Rattle.sheet.specs.Sheet.{flatPoints, sheetOf, isLarge, isShort, sheetVerdict, LentSheet};
-ghost use Rattle.results.specs.Results.{Leaves, Fills, Front};
-ghost use Rattle.refine.specs.Finer.{afterLent};
+ghost use Rattle.sheet.specs.Sheet.{flatPoints, sheetOf, sheetVerdict, LentSheet};
+ghost use Rattle.results.specs.Results.{Leaves, Fills, Front, afterLent};
 ghost use Rattle.subdivide.specs.Subdivide.{projected, subdivided, subdivideRule};
 ghost use Rattle.subdivide.specs.Steps.{Masked, landsOf, landedTo, Tested};
 
-// The numbers of refusals: an edge without exactly two quads, and a point whose projection fails.
-pub const EDGE: u32 = 8;
-
+// The number of a refusal: a point whose projection fails.
 pub const ASTRAY: u32 = 9;
 
 // Projects the first n points, each by its mask; whether all projections succeed.
@@ -69,16 +66,6 @@ fn land(b: Band, c: Counts, points: &mut [f64], quads: &[u32], labels: &[u8], w:
     Made::Refused(ASTRAY)
 }
 
-// 13, of a made sheet: more than slices of these lengths or the limit hold.
-fn is_over(c: Counts, points: usize, quads: usize, labels: usize) -> bool
-    ensures { λ r. ⌜ r ≡ (isLarge c || isShort c points quads labels) ⌝ }
-{
-    if sheet::is_large(c) {
-        return true;
-    }
-    sheet::is_short(c, points, quads, labels)
-}
-
 // Subdivides a sheet that the tests accept, its masks in the work slice.
 fn subdivide_tested(
     b: Band,
@@ -101,7 +88,7 @@ fn subdivide_tested(
         quads: 4 * nq,
         labels: 4 * nq,
     };
-    if is_over(made, new_points.len(), new_quads.len(), new_labels.len()) {
+    if sheet::is_over(made, new_points.len(), new_quads.len(), new_labels.len()) {
         return Made::Refused(sheet::SHORT);
     }
     if smoothed::is_paired(np, nq, quads, w) {
@@ -118,7 +105,7 @@ fn subdivide_tested(
         );
         return land(b, made, new_points, new_quads, new_labels, w);
     }
-    Made::Refused(EDGE)
+    Made::Refused(sheet::EDGE)
 }
 
 // The subdivided sheet, or the first refusal; the slices behind it may hold anything.

@@ -3,7 +3,7 @@ use Prim.Native.Nat.{ℕ, zero, suc, _+_, _*_, _/_, _%_}
 use mathlib.Core.Path.{_≡_, refl, sym, ap, ap₂, _∙_}
 use mathlib.Core.Bool.{Bool, true, false, _&&_}
 use mathlib.Core.Logic.{⊎-elim}
-use mathlib.Core.List.{List, [], _∷_, _++_, map}
+use mathlib.Core.List.{List, [], _∷_, _++_, map, map-append}
 use native.Mathlib.Omega.{arith}
 use lib.Dec.{eqb}
 use lib.ListN.{length, getD}
@@ -22,10 +22,6 @@ use Rattle.swapping.specs.Steps.{placeOf}
 if-append : {A : Type 0} (b : Bool) (x : A) (l m : List A) → consIf b x l ++ m ≡ consIf b x (l ++ m)
 if-append true x l m = refl
 if-append false x l m = refl
-
-map-append : {A B : Type 0} (f : A → B) (l m : List A) → map f (l ++ m) ≡ map f l ++ map f m
-map-append f [] m = refl
-map-append f (x ∷ l) m = rw (map-append f l m)
 
 eqb-turn : (a b : ℕ) → eqb a b ≡ eqb b a
 eqb-turn a b = ⊎-elim (λ (e : a ≡ b). rw (eq-eqb a b e, eq-eqb b a (sym e))) (λ (n : a ≡ b → ⊥). rw (ne-eqb a b n, ne-eqb b a (λ e. n (sym e)))) (eq-or-ne a b)

@@ -315,7 +315,7 @@ module _ (labels : List ℕ) (S0 S : List Quad) (B : ℕ → Type 0) (i j h0 h1 
       (n23, n24, n25, n34, n35, n45) (n25, (λ p. n02 (sym p)), (λ p. n12 (sym p)), (λ p. n05 (sym p)), (λ p. n15 (sym p)), n01) (λ v. omega (arith, qi (at v (λ p n. 1)), qj (at v (λ p n. 1))))
 
 -- To bar more keeps the invariant.
-inv-more : (S0 S : List Quad) (B B₁ : ℕ → Type 0) → ((k : ℕ) → B k → B₁ k) → Inv S0 S B → Inv S0 S B₁
+pub inv-more : (S0 S : List Quad) (B B₁ : ℕ → Type 0) → ((k : ℕ) → B k → B₁ k) → Inv S0 S B → Inv S0 S B₁
 inv-more S0 S B B₁ f inv = record { len = inv .len; kept = λ i n. inv .kept i (λ b. n (f i b)); old-edge = λ u v h. go u v (inv .old-edge u v h) }
   where
     go : (u v : ℕ) → (0 < side S0 u v) ⊎ ((i : ℕ) → Has (getD S0 i noneQuad) u → B i) → (0 < side S0 u v) ⊎ ((i : ℕ) → Has (getD S0 i noneQuad) u → B₁ i)

@@ -7,7 +7,7 @@ use Rattle.sheet.proofs.Tests.{length-points}
 use Rattle.refine.proofs.Loops.{PointLoop, points-start, points-turn, points-end}
 use Rattle.smoothed.specs.Steps.{placeAt}
 use Rattle.smoothed.proofs.Turns.{placing-same}
-use Rattle.smoothed.proofs.Fronts.{front-points}
+use Rattle.results.proofs.Fronts.{front-points}
 use Rattle.smoothed.proofs.put_places.Statement.{statement}
 use Rattle.smoothed.proofs.put_places.Tie as tie
 

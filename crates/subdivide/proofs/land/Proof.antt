@@ -2,7 +2,8 @@
 use borrow.Author.Needs.{needs}
 use mathlib.Core.Path.{sym, _∙_}
 use lib.Seq.{length-take-le}
-use Rattle.subdivide.proofs.Rule.{masks-told, land-refused, land-masked, land-astray, land-done}
+use Rattle.subdivide.proofs.Rule.{land-refused, land-masked, land-astray, land-done}
+use Rattle.sheet.proofs.Tests.{masks-told}
 use Rattle.lists.proofs.Regions.{front-room}
 use Rattle.subdivide.proofs.land.Statement.{statement}
 use Rattle.subdivide.proofs.land.Tie as tie

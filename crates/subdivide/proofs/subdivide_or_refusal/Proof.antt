@@ -7,7 +7,8 @@ use lib.ListN.{length}
 use Rattle.lists.proofs.Regions.{length-lent}
 use Rattle.sheet.specs.declared.Verdict.the-variants.{Accepted}
 use Rattle.sheet.specs.Sheet.{lentVerdict, LentSheet}
-use Rattle.subdivide.proofs.Rule.{masks-told, rule-lent, rule-sheet, rule-work, rule-refused, rule-done, rule-tested}
+use Rattle.subdivide.proofs.Rule.{rule-lent, rule-sheet, rule-work, rule-refused, rule-done, rule-tested}
+use Rattle.sheet.proofs.Tests.{masks-told}
 use Rattle.smoothed.specs.Steps.{masksAt}
 use Rattle.subdivide.proofs.subdivide_or_refusal.Statement.{statement}
 use Rattle.subdivide.proofs.subdivide_or_refusal.Tie as tie

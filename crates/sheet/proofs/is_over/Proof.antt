@@ -1,10 +1,9 @@
--- `rows::is_over` meets its contract. Assumes nothing.
+-- `sheet::is_over` meets its contract. Assumes nothing.
 use borrow.Author.Needs.{needs}
 use mathlib.Core.Path.{sym, _∙_}
-use Rattle.sheet.proofs.Tests.{few-of}
-use Rattle.rows.proofs.Rule.{over-large, over-short}
-use Rattle.rows.proofs.is_over.Statement.{statement}
-use Rattle.rows.proofs.is_over.Tie as tie
+use Rattle.sheet.proofs.Tests.{few-of, over-large, over-short}
+use Rattle.sheet.proofs.is_over.Statement.{statement}
+use Rattle.sheet.proofs.is_over.Tie as tie
 
 is-large-requires : tie.Need-is-large-requires
 is-large-requires c κs = search needs

@@ -1,9 +1,9 @@
--- `refine::put_quad` meets its contract. Assumes nothing.
+-- `results::put_quad` meets its contract. Assumes nothing.
 use native.Mathlib.Omega.{arith}
 use borrow.Author.Needs.{needs}
 use lib.ListN.{length-set}
-use Rattle.refine.proofs.put_quad.Statement.{statement}
-use Rattle.refine.proofs.put_quad.Tie as tie
+use Rattle.results.proofs.put_quad.Statement.{statement}
+use Rattle.results.proofs.put_quad.Tie as tie
 
 mul-quads : tie.Need-mul-quads
 mul-quads c = search needs
