@@ -51,7 +51,7 @@ impl Lent {
         }
     }
 
-    /// Calls the operation: 0, or the number of its refusal. None where the library has no such export yet.
+    /// Calls the operation: 0, or the number of its refusal. None where it is not one of the library's.
     pub fn run(&mut self, operation: Operation) -> Option<u32> {
         // SAFETY: each pointer and the length after it are of one list of `self`, and no two lists overlap.
         unsafe {
@@ -158,7 +158,7 @@ pub fn expected(call: &Call) -> Answer {
     answer
 }
 
-/// What the library answers, or none where it has no such export yet or left something behind.
+/// What the library answers, or none where the operation is not one of its own or left something behind.
 pub fn answer(call: &Call) -> Option<Answer> {
     let mut lent = Lent::of(call);
     let number = lent.run(call.operation)?;

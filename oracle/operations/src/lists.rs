@@ -69,14 +69,9 @@ fn is_settled(chain: &mut Chain, passes: u64, band: &BandNumbers, first: &Answer
     again.is_none_or(|again| again.count == 0 && again.words == first.words)
 }
 
-/// Whether an accepted call has kept what demand 3 says of the closed sheet before it, and what it says of the sheet after it.
-fn is_kept(before: Claim, after: Option<Claim>, operation: Operation, passes: u64, answer: &Answer) -> bool {
-    let swaps = if operation == Operation::Regularize { answer.count } else { 0 };
-    let kept = before.leads_to(after, swaps);
-    if !kept {
-        println!("{}, {passes} passes: {before:?} with {swaps} swaps leads to {after:?}", operation.name());
-    }
-    kept
+/// How many swaps of `regularize` a call has made.
+fn swaps(operation: Operation, answer: &Answer) -> u64 {
+    if operation == Operation::Regularize { answer.count } else { 0 }
 }
 
 /// Calls the next operation; whether the two agree and the claim of a closed sheet is kept. What another operation makes is a new start.
@@ -92,11 +87,15 @@ fn step(r: &mut Random, band: &BandNumbers, chain: &mut Chain, claim: &mut Optio
     }
     let before = claim.filter(|_| CLAIMED.contains(&operation));
     *claim = Claim::of(chain.sheet());
-    let kept = before.is_none_or(|before| is_kept(before, *claim, operation, passes, &answer));
-    let swapped = operation == Operation::Regularize && before.is_some_and(|before| before.is_settled_by(passes));
-    let settled = !swapped || is_settled(chain, passes, &band, &answer, &mut seen.tallies);
-    seen.broken += u64::from(!kept || !settled);
-    kept && settled
+    let swaps = swaps(operation, &answer);
+    let enough = operation == Operation::Regularize && before.is_some_and(|before| before.is_settled_by(passes));
+    let kept = before.is_none_or(|before| before.leads_to(*claim, swaps))
+        && (!enough || is_settled(chain, passes, &band, &answer, &mut seen.tallies));
+    if !kept {
+        println!("{}, {passes} passes, {swaps} swaps: {before:?} leads to {claim:?}", operation.name());
+        seen.broken += 1;
+    }
+    kept
 }
 
 /// One list.

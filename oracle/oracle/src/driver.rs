@@ -51,7 +51,7 @@ fn show(call: &Call, expected: &Answer, got: Option<&Answer>) {
     println!("{} differs on the record{}", call.operation.name(), hex(&record::encode(&record)));
     match got {
         Some(got) => println!("the library answers {}:{}", got.number, hex(&got.words)),
-        None => println!("the library has no such export, or left something behind"),
+        None => println!("the library has no such operation, or left something behind"),
     }
 }
 

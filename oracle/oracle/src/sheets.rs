@@ -67,8 +67,9 @@ fn on_circle(radius: f64, k: usize) -> Point {
     [0.0, 0.5 + radius * cos, 0.5 - radius * sin]
 }
 
-/// One point that n well-shaped quads share; they wind around it, three to a turn, and the rim is open. No swap keeps the shape.
+/// One point that n well-shaped quads share, or up to two more; they wind around it, three to a turn, and the rim is open. No swap keeps the shape.
 pub fn fan(n: usize) -> QuadMesh {
+    let n = n.next_multiple_of(3);
     let rim = (0..2 * n).map(|k| on_circle(0.4, k));
     let at = |k: usize| 1 + k % (2 * n);
     QuadMesh {
@@ -78,9 +79,10 @@ pub fn fan(n: usize) -> QuadMesh {
     }
 }
 
-/// A fan of n quads with n further quads around it: its spokes end in points of four quads, with points of two between them at this radius. A merge
-/// of the first point with any of those would gain.
+/// A fan of n quads, or up to two more, with as many around it: its spokes end in points of four quads, with points of two between them at this
+/// radius. A merge of the first point with any of those would gain.
 fn spoked(n: usize, radius: f64) -> QuadMesh {
+    let n = n.next_multiple_of(3);
     let ring = |radius, turn| (0..n).map(move |i| on_circle(radius, 2 * i + turn));
     let (spoke, between, outer) = (|i: usize| 1 + i % n, |i: usize| 1 + n + i, |i: usize| 1 + 2 * n + i);
     let hub = [[0.0, 0.5, 0.5]].into_iter();
