@@ -1,6 +1,6 @@
 -- The choice between two diagonals is the rule's. Assumes nothing.
 use mathlib.Core.Path.{_≡_, refl, sym, ap, _∙_}
-use mathlib.Core.Bool.{Bool, true, false, cond, _&&_, false≢true}
+use mathlib.Core.Bool.{Bool, true, false, not, cond, _&&_, and-false, false≢true}
 use Prim.Native.Nat.{ℕ, zero, suc, _+_, _-_, _≤_, _<_}
 use mathlib.Core.List.{List}
 use native.Mathlib.Omega.{arith}
@@ -8,9 +8,10 @@ use native.Mathlib.Numerals.{add-one}
 use lib.Dec.{leb, ltb}
 use lib.Ieee.{Float}
 use lib.ListN.{getD}
-use borrow.Author.Tests.{leb-true}
+use borrow.Author.Tests.{leb-true, not-true, not-false}
 use Rattle.lists.proofs.Every.{and-left, and-right}
 use Rattle.points.specs.declared.Point.{Point}
+use Rattle.field.specs.declared.Field.{Field}
 use Rattle.band.specs.declared.Band.{Band}
 use Rattle.projection.specs.declared.Projected.{Projected}
 use Rattle.projection.specs.declared.Projected.the-variants.{Onto, Refused}
@@ -21,7 +22,8 @@ use Rattle.merging.specs.Layout.{startOf, noLabels, gainOf, worthIt, allowedIn}
 use Rattle.candidates.specs.declared.Diagonal.{Diagonal}
 use Rattle.candidates.specs.declared.Choice.{Choice}
 use Rattle.candidates.specs.declared.Choice.the-variants.{None}
-use Rattle.candidates.specs.Choices.{diagonalOf, landingOf, weighedOf, foundTo, Tried, Searching}
+use Rattle.candidates.specs.declared.Candidate.{Candidate}
+use Rattle.candidates.specs.Choices.{diagonalOf, betterOf, landingOf, stayAround, candidateOf, weighedOf, foundTo, Tried, Searching}
 
 -- an allowed merge gains
 pub allowed-gains : (np nq f a b c d : ℕ) (w : List ℕ) → allowedIn np nq f a b c d w ≡ true → (gainOf np nq a b c d w) .after ≤ (gainOf np nq a b c d w) .before
@@ -39,6 +41,23 @@ allowed-joins np nq f a b c d w e =
     let h = and-left (masksJoined (getD w a 0) (getD w c 0) && leb 4 (valence (startOf np nq w) b) && leb 4 (valence (startOf np nq w) d)
     && leb (sumAfter np (startOf np nq w) noLabels a b c d) (sumBefore np (startOf np nq w) noLabels a b c d)) _ e in
     and-left _ _ (and-left _ _ (and-left (masksJoined (getD w a 0) (getD w c 0) && leb 4 (valence (startOf np nq w) b) && leb 4 (valence (startOf np nq w) d)) _ h))
+
+-- ---- a diagonal whose merge lands
+
+-- x and y tell whether the quads at its two ends stay
+module _ (np nq : ℕ) (g : Diagonal) (f : Field) (len : Float) (p : Point) (P : List Float) (labels w : List ℕ) (best : Choice) where
+  pub falls-at-a : (x : Bool) → x ≡ stayAround np nq g f len p P labels w (g .a) → not x ≡ true → best ≡ weighedOf np nq g f len p P labels w best
+  unfolding weighedOf
+  falls-at-a x e h = rw (← e, not-true x h)
+
+  pub falls-at-c : (x y : Bool) → x ≡ stayAround np nq g f len p P labels w (g .a) → not x ≡ false → y ≡ stayAround np nq g f len p P labels w (g .c) → y ≡ false → best ≡ weighedOf np nq g f len p P labels w best
+  unfolding weighedOf
+  falls-at-c x y e h d k = rw (← e, ← d, k, and-false x)
+
+  pub both-stay : (x y : Bool) (z : Candidate) (r : Choice) → x ≡ stayAround np nq g f len p P labels w (g .a) → not x ≡ false → y ≡ stayAround np nq g f len p P labels w (g .c) → y ≡ true
+      → z ≡ candidateOf np nq g p w → r ≡ betterOf best z → r ≡ weighedOf np nq g f len p P labels w best
+  unfolding weighedOf
+  both-stay x y z r e h d k n b = rw (← e, ← d, k, not-false x h, ← n) b
 
 -- ---- the search
 

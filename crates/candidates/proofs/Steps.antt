@@ -13,10 +13,10 @@ use lib.Ieee.{Float}
 use lib.ListN.{length, getD, take, set, length-set}
 use Rattle.lists.specs.Every.{some}
 use Rattle.lists.specs.Sort.{tabulate}
-use Rattle.lists.specs.Regions.{Kept}
+use Rattle.lists.specs.Regions.{Out, Kept}
 use Rattle.lists.proofs.Every.{and-left, and-right}
 use Rattle.lists.proofs.Laws.{getD-tab, length-tab}
-use Rattle.lists.proofs.Regions.{part-kept, part-get, part-of, kept-refl, kept-then}
+use Rattle.lists.proofs.Regions.{part-kept, part-get, part-of, kept-refl, kept-then, kept-less}
 use Rattle.points.specs.declared.Point.{Point}
 use Rattle.points.specs.Points.{withPoint}
 use Rattle.band.specs.declared.Band.{Band}
@@ -41,10 +41,11 @@ use Rattle.merging.specs.Tests.{unmarked, quadFree}
 use Rattle.merging.specs.State.{usedOf, stateOf}
 use Rattle.merges.specs.Slots.{slotAt, slotsOf}
 use borrow.Rule.Slice.PartMut.{midOf}
-use Rattle.merging.specs.Layout.{usedAt, removedAt, flatStart, startOf, usedIn, removedIn, Steady, Grounds, Masked, Face}
+use Rattle.merging.specs.Layout.{usedAt, removedAt, touchedAt, endedAt, flatStart, startOf, usedIn, removedIn, Steady, Grounds, Masked, Face}
 use Rattle.merging.specs.Marks.{isAt, renamedAt, renamedQuads, Merging, Joined}
 use Rattle.merging.proofs.Around.{quad-get, free-corner}
-use Rattle.merging.proofs.Grounds.{lent-used, in-front, start-kept, grounds-kept}
+use Rattle.merging.proofs.Bars.{touched-as}
+use Rattle.merging.proofs.Grounds.{lent-used, start-kept, grounds-kept}
 use Rattle.merging.proofs.States.{stands, state-merged, corner-same}
 use Rattle.merges.proofs.Slots.{slot-get}
 use Rattle.candidates.specs.declared.Candidate.{Candidate}
@@ -264,7 +265,7 @@ module _ (b : Band) (np nq f : ℕ) (P : List Float) (labels Q w : List ℕ) (R 
         passing = record {
           grounds = grounds-kept (R .grounds) (J .kept);
           touched = J .touched;
-          masked = rw start-same (part-kept (R .masked) (J .kept) (λ i p q. in-front np nq i (omega arith)));
+          masked = rw start-same (part-kept (R .masked) (J .kept) (λ i p q. omega arith));
           labelled = R .labelled;
           points = rw long (R .points);
           sheet = renamed-cornered np nq (z .c) (z .a) (flatStart np nq w) Q Q′ (R .sheet) (T .a<) (J .quads);
@@ -302,6 +303,49 @@ module _ (b : Band) (np nq f : ℕ) (P : List Float) (labels Q w : List ℕ) (R 
 
       inv-now : MInv (startOf np nq w) (slotsOf nq Q′ (removedIn np nq w′)) (Used (usedOf np (usedIn np nq w′)))
       inv-now = inv-after b np nq f P labels Q w R P′ Q′ w′ (mergedState np (startOf np nq w) (take nq labels) (fitsIn b np nq labels w) (positionIn b np nq labels w) (stateIn np nq P Q w 0) f (z .a) (z .c)) (took 0) (same 0)
+
+-- ---- where the walks ended
+
+used-noted : {np nq : ℕ} {v w : List ℕ} → Grounds np nq v → Kept (Out (endedAt np nq) (np + 1)) v w → usedIn np nq w ≡ usedIn np nq v
+used-noted {np} {nq} {v} {w} G K = let r = G .room in part-kept (part-of (usedAt np nq) np v (omega arith)) K (λ i a b c d. omega arith) .is
+
+removed-noted : {np nq : ℕ} {v w : List ℕ} → Grounds np nq v → Kept (Out (endedAt np nq) (np + 1)) v w → removedIn np nq w ≡ removedIn np nq v
+removed-noted {np} {nq} {v} {w} G K = let r = G .room in part-kept (part-of (removedAt np nq) nq v (omega arith)) K (λ i a b c d. omega arith) .is
+
+-- no region that a pass reads
+pub only-ended : (np nq : ℕ) {v w : List ℕ} → Kept (Out (endedAt np nq) (np + 1)) v w → Kept (Steady np nq) v w
+only-ended np nq K = kept-less K (λ i o a b. omega arith)
+
+pub passing-noted : {np nq p : ℕ} {labels Q v w : List ℕ} → Passing np nq labels p Q v → Kept (Out (endedAt np nq) (np + 1)) v w → Passing np nq labels p Q w
+passing-noted {np} {nq} {p} {labels} {Q} {v} {w} R K =
+    let r = R .grounds .room in
+    let S = start-kept (R .grounds) (only-ended np nq K) in
+    let U = used-noted (R .grounds) K in
+    let D = removed-noted (R .grounds) K in
+    record {
+      grounds = grounds-kept (R .grounds) (only-ended np nq K);
+      touched = touched-as (R .touched) S U (part-kept (part-of (touchedAt np nq) np v (omega arith)) K (λ i a b c d. omega arith) .is);
+      masked = rw S (part-kept (R .masked) K (λ i a b c d. omega arith));
+      labelled = R .labelled;
+      points = R .points;
+      sheet = R .sheet;
+      low = R .low;
+      below = rw S (R .below);
+      differ = rw S (R .differ);
+      inv = rw (S, U, D) (R .inv);
+    }
+
+-- the visit leaves the rule's state whatever is kept there
+pub visit-noted : {b : Band} {np nq : ℕ} {labels : List ℕ} {f r : ℕ} {P : List Float} {Q u : List ℕ} {P′ : List Float} {Q′ v w : List ℕ} → VisitedFace b np nq labels f r P Q u P′ Q′ v → Kept (Out (endedAt np nq) (np + 1)) v w
+    → VisitedFace b np nq labels f r P Q u P′ Q′ w
+visit-noted {b} {np} {nq} {labels} {f} {r} {P} {Q} {u} {P′} {Q′} {v} {w} F K = record {
+  state = λ k. rw (used-noted (F .passing .grounds) K, removed-noted (F .passing .grounds) K) (F .state k);
+  passing = passing-noted (F .passing) K;
+  kept = kept-then (F .kept) (only-ended np nq K) (λ i o. (o, o));
+  most = F .most;
+  len-points = F .len-points;
+  len-quads = F .len-quads;
+}
 
 -- the search by the length of the band
 pub by-length : (b : Band) (np nq f : ℕ) (P : List Float) (labels Q w : List ℕ) (len : Float) (x : Choice) → len ≡ lengthOf b → x ≡ foundTo np nq b len P Q labels w f 2 → x ≡ foundTo np nq b (lengthOf b) P Q labels w f 2

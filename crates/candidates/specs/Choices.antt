@@ -30,11 +30,12 @@ use Rattle.merging.specs.Marks.{Merging, Joined}
 use Rattle.merging.specs.State.{usedOf, stateOf}
 use Rattle.merges.specs.Slots.{slotsOf}
 use Rattle.fits.specs.MergeFits.{mergeAt, staysAt, mergeFits, mergePosition}
-use Rattle.merging.specs.Layout.{flatStart, startOf, usedIn, removedIn, Steady, allowedIn, gainOf, Grounds, Touched, Masked, Face}
+use Rattle.merging.specs.Layout.{orderAt, flatStart, startOf, usedIn, removedIn, Steady, allowedIn, gainOf, Grounds, Touched, Masked, Face}
 use Rattle.candidates.specs.declared.Candidate.{Candidate}
 use Rattle.candidates.specs.declared.Choice.{Choice}
 use Rattle.candidates.specs.declared.Choice.the-variants.{None, Take}
 use Rattle.candidates.specs.declared.Diagonal.{Diagonal}
+use Rattle.candidates.specs.declared.Ended.{Ended}
 
 -- diagonal k of quad f, whose corners are those of the flat list Q
 unfoldable pub diagonalOf : List ℕ → ℕ → ℕ → Diagonal
@@ -95,6 +96,11 @@ pub record Holding (np nq p q l : ℕ) : Type 0 where
   pub points : 3 * np ≤ p
   pub quads : 4 * nq ≤ q
   pub labels : nq ≤ l
+
+-- where a walk ended can be kept: its point is one or none, and its place lies among the corners by point or behind them
+pub record Noted (np nq : ℕ) (e : Ended) : Type 0 where
+  pub point≤ : e .point ≤ np
+  pub place≤ : e .place ≤ orderAt np nq + 4 * nq
 
 -- ---- in the words of the rule
 

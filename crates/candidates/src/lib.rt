@@ -3,14 +3,16 @@
 use band::Band;
 use field::Field;
 use fits::Merge;
+use fits::Stay;
 use points::Point;
 use projection::Projected;
 ghost use mathlib.Core.Path.{_≡_};
 ghost use Prim.Native.Nat.{ℕ, _+_, _*_, _<_, _≤_, max};
 ghost use lib.ListN.{length};
 ghost use Rattle.merging.specs.Layout.{Grounds, Touched};
-ghost use Rattle.candidates.specs.Choices.{diagonalOf, betterOf, landingOf, stayAround, weighedOf, foundTo, Tried, Searching, Holding, triedIn, Takeable, Taken, Passing, VisitedFace, VisitedAll};
-ghost use Rattle.merging.specs.Layout.{allowedIn};
+ghost use Rattle.candidates.specs.Choices.{diagonalOf, betterOf, landingOf, stayAround, candidateOf, weighedOf, foundTo, Tried, Searching, Holding, Noted, triedIn, Takeable, Taken, Passing, VisitedFace, VisitedAll};
+ghost use Rattle.lists.specs.Regions.{Out, Kept};
+ghost use Rattle.merging.specs.Layout.{allowedIn, orderAt, endedAt};
 ghost use mathlib.Core.Bool.{true};
 ghost use Rattle.band.specs.Bands.{lengthOf};
 ghost use Rattle.incidence.specs.Corners.{Cornered};
@@ -36,6 +38,25 @@ pub struct Candidate {
 pub enum Choice {
     None,
     Take(Candidate),
+}
+
+// Where the walk round a point ended; the number of points stands for no point.
+pub struct Ended {
+    pub point: usize,
+    pub place: usize,
+}
+
+// The better of what was found and a diagonal, and where the last walk for it ended.
+pub struct Weighing {
+    pub best: Choice,
+    pub ended: Ended,
+}
+
+// What a search finds, and where the last walks of its two diagonals ended.
+pub struct Found {
+    pub choice: Choice,
+    pub first: Ended,
+    pub second: Ended,
 }
 
 // Diagonal k of quad f.
@@ -107,7 +128,7 @@ fn better(best: Choice, next: Candidate) -> Choice
     }
 }
 
-// The other quads at the point v stay, if the merge of a diagonal lands at p.
+// Whether the other quads at the point v stay, if the merge of a diagonal lands at p; the walk begins where the last one round v ended.
 fn stay_around(
     np: usize,
     nq: usize,
@@ -119,12 +140,13 @@ fn stay_around(
     labels: &[u8],
     w: &[u32],
     v: usize,
-) -> bool
+) -> Stay
     requires { ⌜ Grounds np nq (now w) ⌝ }
     requires { ⌜ 3 * np ≤ length (now points) ⌝ }
     requires { ⌜ nq ≤ length (now labels) ⌝ }
     requires { ⌜ v < np ⌝ }
-    ensures { λ r. ⌜ r ≡ stayAround np nq g f len p (now (points .entry)) (now (labels .entry)) (now (w .entry)) v ⌝ }
+    ensures { λ r. ⌜ r .stays ≡ stayAround np nq g f len p (now (points .entry)) (now (labels .entry)) (now (w .entry)) v ⌝ }
+    ensures { λ r. ⌜ r .at ≤ orderAt np nq + 4 * nq ⌝ }
 {
     let n = np + nq;
     let m = Merge {
@@ -133,6 +155,7 @@ fn stay_around(
         c: g.c,
         to: p,
     };
+    let place = lists::at(w, merging::ENDED * n + v);
     fits::quads_stay(
         np,
         nq,
@@ -145,8 +168,25 @@ fn stay_around(
         merging::ORDER * n,
         v,
         m,
+        place,
         w,
     )
+}
+
+// The candidate of a diagonal whose merge lands at p.
+fn candidate_of(np: usize, nq: usize, g: Diagonal, p: Point, w: &[u32]) -> Candidate
+    requires { ⌜ Grounds np nq (now w) ⌝ }
+    requires { ⌜ Tried np nq g (now w) ⌝ }
+    requires { ⌜ allowedIn np nq (g .face) (g .a) (g .b) (g .c) (g .d) (now w) ≡ true ⌝ }
+    ensures { λ r. ⌜ r ≡ candidateOf np nq g p (now (w .entry)) ⌝ }
+{
+    let s = merging::sums_of(np, nq, g.a, g.b, g.c, g.d, w);
+    Candidate {
+        gain: s.before - s.after,
+        a: g.a,
+        c: g.c,
+        to: p,
+    }
 }
 
 // The better of what was found and a diagonal whose merge lands at p, if no other quad's shape falls too far.
@@ -161,29 +201,38 @@ fn weighed(
     labels: &[u8],
     w: &[u32],
     best: Choice,
-) -> Choice
+) -> Weighing
     requires { ⌜ Grounds np nq (now w) ⌝ }
     requires { ⌜ Tried np nq g (now w) ⌝ }
     requires { ⌜ 3 * np ≤ length (now points) ⌝ }
     requires { ⌜ nq ≤ length (now labels) ⌝ }
     requires { ⌜ allowedIn np nq (g .face) (g .a) (g .b) (g .c) (g .d) (now w) ≡ true ⌝ }
-    ensures { λ r. ⌜ r ≡ weighedOf np nq g f len p (now (points .entry)) (now (labels .entry)) (now (w .entry)) best ⌝ }
+    ensures { λ r. ⌜ r .best ≡ weighedOf np nq g f len p (now (points .entry)) (now (labels .entry)) (now (w .entry)) best ⌝ }
+    ensures { λ r. ⌜ Noted np nq (r .ended) ⌝ }
 {
-    if stay_around(np, nq, g, f, len, p, points, labels, w, g.a) {
-        if stay_around(np, nq, g, f, len, p, points, labels, w, g.c) {
-            let s = merging::sums_of(np, nq, g.a, g.b, g.c, g.d, w);
-            return better(
-                best,
-                Candidate {
-                    gain: s.before - s.after,
-                    a: g.a,
-                    c: g.c,
-                    to: p,
-                },
-            );
-        }
+    let one = stay_around(np, nq, g, f, len, p, points, labels, w, g.a);
+    if !one.stays {
+        return Weighing {
+            best,
+            ended: Ended {
+                point: g.a,
+                place: one.at,
+            },
+        };
     }
-    best
+    let other = stay_around(np, nq, g, f, len, p, points, labels, w, g.c);
+    let ended = Ended {
+        point: g.c,
+        place: other.at,
+    };
+    if other.stays {
+        let next = candidate_of(np, nq, g, p, w);
+        return Weighing {
+            best: better(best, next),
+            ended,
+        };
+    }
+    Weighing { best, ended }
 }
 
 // The merge that the rule takes in quad f.
@@ -197,15 +246,22 @@ pub fn search(
     quads: &[u32],
     labels: &[u8],
     w: &[u32],
-) -> Choice
+) -> Found
     requires { ⌜ Grounds np nq (now w) ⌝ }
     requires { ⌜ Searching np nq f (now quads) (now w) ⌝ }
     requires { ⌜ Holding np nq (length (now points)) (length (now quads)) (length (now labels)) ⌝ }
     requires { ⌜ Touched np nq (now w) ⌝ }
-    ensures { λ r. ⌜ r ≡ foundTo np nq b len (now (points .entry)) (now (quads .entry)) (now (labels .entry)) (now (w .entry)) f 2 ⌝ }
+    ensures { λ r. ⌜ r .choice ≡ foundTo np nq b len (now (points .entry)) (now (quads .entry)) (now (labels .entry)) (now (w .entry)) f 2 ⌝ }
+    ensures { λ r. ⌜ Noted np nq (r .first) ⌝ }
+    ensures { λ r. ⌜ Noted np nq (r .second) ⌝ }
 {
     let field = b.field;
-    let mut best = Choice::None;
+    let mut choice = Choice::None;
+    let mut first = Ended {
+        point: np,
+        place: 0,
+    };
+    let mut second = first;
     let mut k = 0;
     while k < 2 {
         let g = diagonal_at(quads, f, k);
@@ -213,9 +269,16 @@ pub fn search(
         let Projected::Onto(p) = landing(np, nq, g, b, len, points, w) else {
             continue;
         };
-        best = weighed(np, nq, g, field, len, p, points, labels, w, best);
+        let r = weighed(np, nq, g, field, len, p, points, labels, w, choice);
+        choice = r.best;
+        first = second;
+        second = r.ended;
     }
-    best
+    Found {
+        choice,
+        first,
+        second,
+    }
 }
 
 // Quad f is still here, and none of its corners is barred.
@@ -255,6 +318,15 @@ fn take(
     }
 }
 
+// Keeps where a walk ended for the next one round the same point.
+fn remember(np: usize, nq: usize, e: Ended, w: &mut [u32])
+    requires { ⌜ Grounds np nq (now w) ⌝ }
+    requires { ⌜ Noted np nq e ⌝ }
+    ensures { λ _. ⌜ Kept (Out (endedAt np nq) (np + 1)) (now (w .entry)) (now (w .exit)) ⌝ }
+{
+    w[merging::ENDED * (np + nq) + e.point] = e.place as u32;
+}
+
 // Visits quad f: makes the merge that the rule takes there, if any; answers how many merges that is.
 pub fn visit(
     np: usize,
@@ -273,8 +345,12 @@ pub fn visit(
     ensures { λ r. ⌜ VisitedFace b np nq (now (labels .entry)) f r (now (points .entry)) (now (quads .entry)) (now (w .entry)) (now (points .exit)) (now (quads .exit)) (now (w .exit)) ⌝ }
 {
     if is_tried(np, nq, f, quads, w) {
-        let choice = search(np, nq, f, b, len, points, quads, labels, w);
-        return take(np, nq, f, choice, points, quads, w);
+        let found = search(np, nq, f, b, len, points, quads, labels, w);
+        let choice = found.choice;
+        let made = take(np, nq, f, choice, points, quads, w);
+        remember(np, nq, found.first, w);
+        remember(np, nq, found.second, w);
+        return made;
     }
     0
 }

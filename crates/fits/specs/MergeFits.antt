@@ -1,6 +1,7 @@
 -- What a merge's rule reads of the points, and the position of the merged point. Document 01, "The merged sheet".
-use Prim.Native.Nat.{ℕ, _/_, _<_}
-use mathlib.Core.Bool.{Bool, false, not, cond, _||_}
+use Prim.Native.Nat.{ℕ, _*_, _/_, _≤_, _<_}
+use mathlib.Core.Bool.{Bool, true, false, not, cond, _||_}
+use mathlib.Core.Path.{_≡_}
 use mathlib.Core.List.{List}
 use lib.ListN.{length, getD}
 use lib.Dec.{eqb}
@@ -73,9 +74,18 @@ faceStays f len at labels Q m j = eqb j (m .face) || quadStays f len at (getD la
 abbrev pub cornerStays : Field → Float → (ℕ → Point) → List ℕ → List ℕ → Merge → List ℕ → ℕ → Bool
 cornerStays f len at labels Q m cs i = faceStays f len at labels Q m (getD cs i 0 / 4)
 
--- each of the numbers is below n
-pub record AllBelow (n : ℕ) (l : List ℕ) : Type 0 where
-  pub each : (i : ℕ) → i < length l → getD l i 0 < n
+-- the elements from one place to another are corners of nq quads
+pub record CornersIn (nq from to : ℕ) (w : List ℕ) : Type 0 where
+  pub low : from ≤ to
+  pub high : to ≤ length w
+  pub each : (i : ℕ) → from ≤ i → i < to → getD w i 0 < 4 * nq
+
+-- r is the first place, from one to another, that does not pass the test p; the end if all pass
+pub record FirstFallen (p : ℕ → Bool) (from to r : ℕ) : Type 0 where
+  pub low : from ≤ r
+  pub high : r ≤ to
+  pub before : (i : ℕ) → from ≤ i → i < r → p i ≡ true
+  pub falls : r < to → p r ≡ false
 
 -- quad j is not at v, or is the merge's own, or stays
 abbrev pub staysAt : Field → Float → (ℕ → Point) → List ℕ → List ℕ → Merge → ℕ → ℕ → Bool

@@ -7,8 +7,8 @@ use projection::LONGEST_MOVE;
 use projection::LOOKS;
 use projection::Projected;
 ghost use mathlib.Core.Path.{_≡_};
-ghost use Prim.Native.Nat.{_*_, _<_, _≤_};
-ghost use lib.ListN.{length};
+ghost use Prim.Native.Nat.{_+_, _*_, _<_, _≤_};
+ghost use lib.ListN.{length, getD};
 ghost use Rattle.points.specs.Points.{addP, halfwayP, pointAt};
 ghost use Rattle.projection.specs.Project.{longestMove, lookCount, projectWith};
 ghost use Rattle.lists.specs.Every.{every};
@@ -18,7 +18,7 @@ ghost use Rattle.incidence.specs.Corners.{Cornered};
 ghost use Rattle.lookup.specs.Maps.{Standing};
 ghost use Rattle.fits.specs.Shaped.{centreOf, quadShape, noWorse, quadIs, fourAt, FourBelow, Positioned};
 ghost use Rattle.fits.specs.SwapFits.{hexCentre, lesserShape, heldOf, nextShape, shapeFits, nextFits, hexOf, SixBelow};
-ghost use Rattle.fits.specs.MergeFits.{movedAt, quadStays, faceStays, cornerStays, staysAt, AllBelow};
+ghost use Rattle.fits.specs.MergeFits.{movedAt, quadStays, faceStays, cornerStays, staysAt, CornersIn, FirstFallen};
 
 // A shape below this may not fall.
 pub const GOOD_SHAPE: f64 = 0.25;
@@ -55,6 +55,12 @@ pub struct Merge {
     pub a: usize,
     pub c: usize,
     pub to: Point,
+}
+
+// Whether the quads at a point stay, and where the walk over its corners ended.
+pub struct Stay {
+    pub stays: bool,
+    pub at: usize,
 }
 
 // The sum and point v.
@@ -319,8 +325,8 @@ fn face_stays(
     quad_stays(np, f, len, points, labels[j], q, m)
 }
 
-// Whether the quad of each corner is the merge's own or stays.
-fn corners_stay(
+// The first place, from one of the work slice on, whose corner has a quad that is not the merge's own and does not stay; the end if there is none.
+fn first_fallen(
     np: usize,
     nq: usize,
     f: Field,
@@ -329,26 +335,43 @@ fn corners_stay(
     quads: &[u32],
     labels: &[u8],
     m: Merge,
-    corners: &[u32],
-) -> bool
+    from: usize,
+    to: usize,
+    w: &[u32],
+) -> usize
     requires { ⌜ Positioned np nq (now points) (now quads) ⌝ }
     requires { ⌜ nq ≤ length (now labels) ⌝ }
-    requires { ⌜ AllBelow (4 * nq) (now corners) ⌝ }
-    ensures { λ r. ⌜ r ≡ every (cornerStays f len (pointAt (now (points .entry))) (now (labels .entry)) (now (quads .entry)) m (now (corners .entry))) (length (now (corners .entry))) ⌝ }
+    requires { ⌜ CornersIn nq from to (now w) ⌝ }
+    ensures { λ r. ⌜ FirstFallen (cornerStays f len (pointAt (now (points .entry))) (now (labels .entry)) (now (quads .entry)) m (now (w .entry))) from to r ⌝ }
 {
-    let mut i = 0;
-    while i < corners.len() {
-        let j = lists::at(corners, i) / 4;
+    let mut i = from;
+    while i < to {
+        let j = lists::at(w, i) / 4;
         if face_stays(np, nq, f, len, points, quads, labels, m, j) {
             i += 1;
         } else {
-            return false;
+            return i;
         }
     }
-    true
+    i
 }
 
-// Whether every quad at point v is the merge's own or stays.
+// A place from s to e: where it lies there, else s.
+fn within(s: usize, e: usize, place: usize) -> usize
+    requires { ⌜ s ≤ e ⌝ }
+    ensures { λ r. ⌜ s ≤ r ⌝ }
+    ensures { λ r. ⌜ r ≤ e ⌝ }
+{
+    if place < s {
+        return s;
+    }
+    if place < e {
+        return place;
+    }
+    s
+}
+
+// Whether every quad at point v is the merge's own or stays; the walk begins at a place, where the one before it ended, and goes once round the corners of v.
 pub fn quads_stay(
     np: usize,
     nq: usize,
@@ -361,26 +384,32 @@ pub fn quads_stay(
     order: usize,
     v: usize,
     m: Merge,
+    place: usize,
     w: &[u32],
-) -> bool
+) -> Stay
     requires { ⌜ Standing np nq was starts order (now w) ⌝ }
     requires { ⌜ 3 * np ≤ length (now points) ⌝ }
     requires { ⌜ nq ≤ length (now labels) ⌝ }
     requires { ⌜ v < np ⌝ }
-    ensures { λ r. ⌜ r ≡ every (staysAt f len (pointAt (now (points .entry))) (now (labels .entry)) (part was (4 * nq) (now (w .entry))) m v) nq ⌝ }
+    ensures { λ r. ⌜ r .stays ≡ every (staysAt f len (pointAt (now (points .entry))) (now (labels .entry)) (part was (4 * nq) (now (w .entry))) m v) nq ⌝ }
+    ensures { λ r. ⌜ r .at ≤ order + getD (now (w .entry)) (starts + v + 1) 0 ⌝ }
 {
-    let s = lists::at(w, starts + v);
-    let e = lists::at(w, starts + v + 1);
+    let first = lists::at(w, starts + v);
+    let next = lists::at(w, starts + v + 1);
+    let s = order + first;
+    let e = order + next;
+    let from = within(s, e, place);
     let quads = &w[was..was + 4 * nq];
-    corners_stay(
-        np,
-        nq,
-        f,
-        len,
-        points,
-        quads,
-        labels,
-        m,
-        &w[order + s..order + e],
-    )
+    let i = first_fallen(np, nq, f, len, points, quads, labels, m, from, e, w);
+    if i < e {
+        return Stay {
+            stays: false,
+            at: i,
+        };
+    }
+    let j = first_fallen(np, nq, f, len, points, quads, labels, m, s, from, w);
+    Stay {
+        stays: j == from,
+        at: j,
+    }
 }

@@ -19,7 +19,7 @@ use Rattle.merging.specs.Tests.{unmarked, freeAround}
 use Rattle.merging.specs.Layout.{wasAt, orderAt, usedAt, removedAt, touchedAt, flatStart, usedIn, touchedIn, Steady, Grounds, Touched, Spanned}
 use Rattle.merging.specs.Marks.{markedBy, markedIn, reaches, markedTo, joins, markedNear, renamedQuads, Marking, markedBoth, Barred, Joined}
 use Rattle.merging.proofs.Marks.{pointing-start, more-points, quad-marks, near-marks, more-marks}
-use Rattle.merging.proofs.Grounds.{corners-listed, used-length, in-front, start-kept, grounds-kept}
+use Rattle.merging.proofs.Grounds.{corners-listed, used-length, start-kept, grounds-kept}
 use Rattle.merging.proofs.Touches.{mark-put, free-put, free-again, free-fresh}
 
 -- ---- the marks
@@ -40,10 +40,10 @@ used-read v G h = let r = G .room in read-at v (omega arith) h
 
 -- the marks of points are no regions of the start
 pub only-touched : (np nq : ℕ) {v w : List ℕ} → Kept (Out (touchedAt np nq) np) v w → Kept (Steady np nq) v w
-only-touched np nq K = kept-less K (λ i o. o .1 .1)
+only-touched np nq K = kept-less K (λ i o a b. omega arith)
 
 pub only-points : (np nq : ℕ) {v w : List ℕ} → Kept (Out2 (usedAt np nq) np (touchedAt np nq) np) v w → Kept (Steady np nq) v w
-only-points np nq K = kept-less K (λ i o. (o .0, o .1 .1))
+only-points np nq K = kept-less K (λ i o. ((λ a b. omega arith), (λ a b. omega arith)))
 
 -- the regions as they are keep the touched points
 pub touched-as : {np nq : ℕ} {v w : List ℕ} → Touched np nq v → flatStart np nq w ≡ flatStart np nq v → usedIn np nq w ≡ usedIn np nq v → touchedIn np nq w ≡ touchedIn np nq v → Touched np nq w
@@ -149,7 +149,7 @@ pub bar-turn : {np nq q : ℕ} {v w : List ℕ} {j : ℕ} (c : ℕ) → Grounds 
 bar-turn {np} {nq} {q} {v} {w} {j} c G q< B h e =
     let f = G .standing .in-was in
     let xs = part (wasAt np nq + 4 * q) 4 v in
-    let P : Part (wasAt np nq + 4 * q) 4 xs w = part-kept (part-of (wasAt np nq + 4 * q) 4 v (omega arith)) (only-points np nq (B .barred .kept)) (λ i a b. in-front np nq i (omega arith)) in
+    let P : Part (wasAt np nq + 4 * q) 4 xs w = part-kept (part-of (wasAt np nq + 4 * q) 4 v (omega arith)) (only-points np nq (B .barred .kept)) (λ i a b. omega arith) in
     let ce : c ≡ getD xs j 0 = e ∙ part-get 0 j P h in
     let c< : c < np = omega (arith, quad-listed q j G q< h, G .standing .sheet .points (4 * q + j) (omega arith)) in
     record {
@@ -213,7 +213,7 @@ round-turn {at} {keeps} {np} {nq} {x} {from} {m} {v} {w} {t} c free G B h e =
     let se = B .end in
     let Q = flatStart np nq v in
     let cs = pointCorners Q nq x in
-    let P′ : Part from m cs w = part-kept (B .list) (B .kept) (λ i a b. free i (in-front np nq i (omega arith))) in
+    let P′ : Part from m cs w = part-kept (B .list) (B .kept) (λ i a b. free i (omega arith)) in
     let ce : c ≡ getD cs t 0 = e ∙ part-get 0 t P′ h in
     let l : getD cs t 0 < 4 * nq = corners-listed x G .known t (rw (part-len (B .list)) h) in
     let same = start-kept G (kept-less (B .kept) free) in
@@ -246,7 +246,7 @@ touching-start {np} {nq} G S = let r = G .room in rounding-start (touchedAt np n
 
 pub touching-turn : {np nq x from m : ℕ} {v w : List ℕ} {t : ℕ} (c : ℕ) → Grounds np nq v → TouchingAround np nq x from m v w t → t < m → c ≡ getD w (from + t) 0
     → RoundTurn (touchedAt np nq) (Out (touchedAt np nq) np) np nq x from m v w t c
-touching-turn c G B h e = round-turn c (λ i o. o .1 .1) G B h e
+touching-turn c G B h e = round-turn c (λ i o a b. omega arith) G B h e
 
 -- the loop that bars
 abbrev pub BarringAround : ℕ → ℕ → ℕ → ℕ → ℕ → List ℕ → List ℕ → ℕ → Type 0
@@ -257,7 +257,7 @@ around-start {np} {nq} G T S = let r = G .room in (rounding-start (usedAt np nq)
 
 pub around-turn : {np nq x from m : ℕ} {v w : List ℕ} {t : ℕ} (c : ℕ) → Grounds np nq v → BarringAround np nq x from m v w t → t < m → c ≡ getD w (from + t) 0
     → RoundTurn (usedAt np nq) (Out2 (usedAt np nq) np (touchedAt np nq) np) np nq x from m v w t c
-around-turn c G B h e = round-turn c (λ i o. (o .0, o .1 .1)) G (B .0) h e
+around-turn c G B h e = round-turn c (λ i o. ((λ a b. omega arith), (λ a b. omega arith))) G (B .0) h e
 
 pub around-end : {np nq x from m : ℕ} {v w : List ℕ} {t : ℕ} → BarringAround np nq x from m v w t → m ≤ t → Barred np nq (tabulate (markedNear (flatStart np nq v) (usedIn np nq v) nq x) np) v w
 around-end B h = let E = rounding-end (B .0) h in record { used = E .0; touched = B .1; kept = E .1 }
@@ -273,7 +273,7 @@ joined-of {np} {nq} {f} {a} {c} {u} {v} {w} Q R G h e A C =
     let l = L .len in
     let U : Part (usedAt np nq) np (markedBoth (flatStart np nq u) (usedIn np nq u) np nq a c) w = rw (start-kept G (only-points np nq (A .kept)), A .used .is) at (C .used) in
     let D = part-kept (part-of (removedAt np nq) nq u (omega arith)) L (λ i p q. ((λ x y. omega arith), (λ x y. omega arith))) in
-    let K : Kept (Steady np nq) w (set w (removedAt np nq + f) 1) = kept-set (removedAt np nq + f) 1 (kept-refl _ w) (λ o. o .1 .0 (omega arith) (omega arith)) in
+    let K : Kept (Steady np nq) w (set w (removedAt np nq + f) 1) = kept-set (removedAt np nq + f) 1 (kept-refl _ w) (λ o. omega arith) in
     record {
       quads = e;
       used = part-set-out (removedAt np nq + f) 1 U (λ p q. omega arith) .is;

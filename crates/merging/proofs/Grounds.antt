@@ -186,14 +186,10 @@ worth-is np nq a b c d w j vb vd s p q r e = rw (p, q, r, e) refl
 
 -- ---- what keeps the regions of the start
 
--- an index in front of the marks
-pub in-front : (np nq i : ℕ) → i < usedAt np nq → Steady np nq i
-in-front np nq i h = ((λ a b. omega arith), ((λ a b. omega arith), (λ a b. omega arith)))
-
 pub start-kept : {np nq : ℕ} {v w : List ℕ} → Grounds np nq v → Kept (Steady np nq) v w → flatStart np nq w ≡ flatStart np nq v
 start-kept {np} {nq} {v} {w} G K =
     let r = G .room in
-    part-kept (part-of (wasAt np nq) (4 * nq) v (G .standing .in-was)) K (λ i p q. in-front np nq i (omega arith)) .is
+    part-kept (part-of (wasAt np nq) (4 * nq) v (G .standing .in-was)) K (λ i p q. omega arith) .is
 
 pub grounds-kept : {np nq : ℕ} {v w : List ℕ} → Grounds np nq v → Kept (Steady np nq) v w → Grounds np nq w
 grounds-kept {np} {nq} {v} {w} G K =
@@ -203,9 +199,9 @@ grounds-kept {np} {nq} {v} {w} G K =
       few = G .few;
       some = s;
       room = omega (arith, K .len);
-      standing = standing-kept (G .standing) K (λ i p q. in-front np nq i (omega arith)) (λ i p q. in-front np nq i (omega arith)) (λ i p q. in-front np nq i (omega arith));
-      mapped = mapped-kept (G .mapped) K (λ i p q. in-front np nq i (omega arith)) (λ i p q. in-front np nq i (omega arith)) (λ i p q. in-front np nq i (omega arith));
-      valences = rw (start-kept G K) (part-kept (G .valences) K (λ i p q. in-front np nq i (omega arith)));
+      standing = standing-kept (G .standing) K (λ i p q. omega arith) (λ i p q. omega arith) (λ i p q. omega arith);
+      mapped = mapped-kept (G .mapped) K (λ i p q. omega arith) (λ i p q. omega arith) (λ i p q. omega arith);
+      valences = rw (start-kept G K) (part-kept (G .valences) K (λ i p q. omega arith));
     }
 
 -- ---- the corners of a point in a slice of quads

@@ -1,5 +1,5 @@
 -- Regions of the work slice in a pass, in units of points and quads together: the masks, the quads at the pass's start, their corners by edge and by point, how many quads
--- each point has, the barred points, the quads that are out, the touched points.
+-- each point has, the barred points, the quads that are out, the touched points, and where the last walk round each point ended.
 use Prim.Native.Nat.{ℕ, _+_, _-_, _*_, _≤_, _<_}
 use mathlib.Core.Path.{_≡_}
 use mathlib.Core.Bool.{Bool, _&&_}
@@ -7,7 +7,7 @@ use mathlib.Core.List.{List, []}
 use lib.Dec.{leb}
 use lib.ListN.{length, getD}
 use Rattle.lists.specs.Sort.{tabulate}
-use Rattle.lists.specs.Regions.{part, Part, Out3}
+use Rattle.lists.specs.Regions.{part, Part}
 use Rattle.sheet.specs.Quads.{Quad, valence}
 use Rattle.sheet.specs.Flat.{quadsOf}
 use Rattle.sheet.specs.Edges.{pointCorners}
@@ -53,6 +53,10 @@ removedAt np nq = 23 * (np + nq)
 abbrev pub touchedAt : ℕ → ℕ → ℕ
 touchedAt np nq = 25 * (np + nq)
 
+-- where the last walk round each point ended, and one more for no point
+abbrev pub endedAt : ℕ → ℕ → ℕ
+endedAt np nq = 26 * (np + nq)
+
 -- the quads at the start, flat and as quads
 abbrev pub flatStart : ℕ → ℕ → List ℕ → List ℕ
 flatStart np nq w = part (wasAt np nq) (4 * nq) w
@@ -70,9 +74,9 @@ removedIn np nq w = part (removedAt np nq) nq w
 abbrev pub touchedIn : ℕ → ℕ → List ℕ → List ℕ
 touchedIn np nq w = part (touchedAt np nq) np w
 
--- an index outside the marks
+-- an index in front of all that a pass changes
 abbrev pub Steady : ℕ → ℕ → ℕ → Type 0
-Steady np nq = Out3 (usedAt np nq) np (removedAt np nq) nq (touchedAt np nq) np
+Steady np nq i = i < usedAt np nq
 
 -- what the start of a pass leaves in the work slice beside the masks, and a pass does not change
 pub record Grounds (np nq : ℕ) (w : List ℕ) : Type 0 where

@@ -19,7 +19,8 @@ ghost use Rattle.merging.specs.Marks.{markedBy, markedIn, markedNear, re
 
 // Regions of the work slice in a pass, in units of points and quads together, behind the masks: the quads at the pass's start, work of the sorts,
 // where the corners by edge begin and the corners, the same by point, how many quads each point has, the barred points, the quads that are out,
-// and the touched points: those at which a quad has a barred corner. The unit before them is the renumbering's.
+// the touched points, those at which a quad has a barred corner, and where the last walk round each point ended. The unit before the touched points
+// is the renumbering's.
 pub const WAS: usize = 1;
 
 pub const FIRST: usize = 5;
@@ -39,6 +40,8 @@ pub const USED: usize = 22;
 pub const REMOVED: usize = 23;
 
 pub const TOUCHED: usize = 25;
+
+pub const ENDED: usize = 26;
 
 // A part of the work slice, from one place to another.
 pub struct Span {

@@ -19,7 +19,7 @@ use Rattle.incidence.specs.Corners.{edgeOrder, cornersAt, firstAt}
 use Rattle.lookup.specs.Maps.{firstEdge}
 use Rattle.lookup.proofs.Maps.{mapped, standing, quads-take}
 use Rattle.merging.specs.Layout.{wasAt, edgeStartsAt, edgesAt, startsAt, orderAt, valencesAt, usedAt, removedAt, touchedAt, startOf}
-use Rattle.merging.proofs.Grounds.{in-front, grounds-kept}
+use Rattle.merging.proofs.Grounds.{grounds-kept}
 use Rattle.merging.proofs.Bars.{touched-fresh}
 use Rattle.starting.specs.Starts.{Mappable, Mapped, Cleared, Startable, Started}
 
@@ -114,7 +114,7 @@ cleared {np} {nq} u a b c r e f g =
       used = part-kept (part-kept (U .part) (R .kept) (λ i p q. λ a b. omega arith)) (T .kept) (λ i p q. λ a b. omega arith);
       removed = part-kept (R .part) (T .kept) (λ i p q. λ a b. omega arith);
       touched = T .part;
-      kept = kept-then (kept-then {R = Out2 (usedAt np nq) np (removedAt np nq) nq} (U .kept) (R .kept) (λ i o. o)) (T .kept) (λ i o. ((o .0, o .1 .0), o .1 .1));
+      kept = kept-then (kept-then {R = Out2 (usedAt np nq) np (removedAt np nq) nq} (U .kept) (R .kept) (λ i o. o)) (T .kept) (λ i o. (((λ a b. omega arith), (λ a b. omega arith)), (λ a b. omega arith)));
     }
 
 -- ---- the whole start: u, v, x, w are the slice as it came, with masks, with maps, without marks
@@ -127,9 +127,9 @@ pub started : {np nq : ℕ} {u v x w : List ℕ} (Q labels : List ℕ) → Start
 started {np} {nq} {u} {v} {x} {w} Q labels S P K M C =
     let r = M .grounds .some in
     let G = grounds-kept (M .grounds) (C .kept) in
-    let W : Part (wasAt np nq) (4 * nq) (take (4 * nq) Q) w = part-kept (M .quads) (C .kept) (λ i p q. in-front np nq i (omega arith)) in
+    let W : Part (wasAt np nq) (4 * nq) (take (4 * nq) Q) w = part-kept (M .quads) (C .kept) (λ i p q. omega arith) in
     let same : startOf np nq w ≡ quadsOf nq Q = ap (quadsOf nq) (W .is) ∙ quads-take nq Q in
-    let N : Part 0 np (masksOf np (quadsOf nq Q) (take nq labels)) w = part-kept (part-kept P (M .kept) (λ i p q. omega arith)) (C .kept) (λ i p q. in-front np nq i (omega arith)) in
+    let N : Part 0 np (masksOf np (quadsOf nq Q) (take nq labels)) w = part-kept (part-kept P (M .kept) (λ i p q. omega arith)) (C .kept) (λ i p q. omega arith) in
     record {
       grounds = G;
       quads = W;

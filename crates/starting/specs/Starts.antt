@@ -28,7 +28,7 @@ pub record Mapped (np nq : ℕ) (Q w w′ : List ℕ) : Type 0 where
   pub quads : Part (wasAt np nq) (4 * nq) (take (4 * nq) Q) w′
   pub kept : Kept (InFront np nq) w w′
 
--- the marks are clear in w′, and all else is that of w
+-- the marks are clear in w′, and what stands in front of them is that of w
 pub record Cleared (np nq : ℕ) (w w′ : List ℕ) : Type 0 where
   pub used : Part (usedAt np nq) np (replicate np 0) w′
   pub removed : Part (removedAt np nq) nq (replicate nq 0) w′

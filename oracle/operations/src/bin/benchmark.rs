@@ -38,12 +38,12 @@ const BANDS: [(&str, BandNumbers); 2] = [
 type Hostile = (&'static str, fn(usize) -> QuadMesh, usize);
 
 /// Hostile sheets: one point, or two, has all the quads or half of them. The rule of `coarsen` asks for each diagonal at a point whether every quad
-/// there keeps its shape, which in the guarded wheel only the last one does not: that takes a time like the square of the quads, in both.
+/// there keeps its shape, which in the guarded wheel only the last one does not.
 const HOSTILE: [Hostile; 4] = [
     ("fan", sheets::fan, 100_000),
     ("poles", poles, 100_000),
     ("wheel", |quads| sheets::wheel(quads / 2), 100_000),
-    ("guarded wheel", |quads| sheets::guarded_wheel(quads / 2), 4_000),
+    ("guarded wheel", |quads| sheets::guarded_wheel(quads / 2), 100_000),
 ];
 
 /// Two poles that all quads share, half of them of another label.
