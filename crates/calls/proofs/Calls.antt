@@ -6,16 +6,16 @@ use mathlib.Core.List.{List, [], _∷_}
 use native.Mathlib.Omega.{arith}
 use lib.ListN.{length}
 use lib.Ieee.{Float}
-use borrow.Author.Tests.{ltb-true}
+use borrow.Author.Tests.{ltb-true, not-false}
 use Rattle.lists.specs.Every.{every}
 use Rattle.band.specs.declared.Band.{Band}
 use Rattle.sheet.specs.declared.Counts.{Counts}
 use Rattle.sheet.specs.declared.Verdict.{Verdict}
 use Rattle.sheet.specs.declared.Verdict.the-variants.{Accepted, Refused}
-use Rattle.sheet.specs.Numbers.{short, edge}
+use Rattle.sheet.specs.Numbers.{large, short, edge}
 use Rattle.sheet.specs.Quads.{Quad, num, touches, hasLabel, maskOf}
 use Rattle.sheet.specs.Flat.{quadsOf, flatQuads}
-use Rattle.sheet.specs.Sheet.{Sheet, isLarge, isShort, sheetVerdict}
+use Rattle.sheet.specs.Sheet.{Sheet, isLarge, isShort, lentVerdict, sheetVerdict}
 use Rattle.sheet.proofs.Flat.{length-quads}
 use Rattle.sheet.proofs.Masks.{bit-pack}
 use Rattle.sheet.proofs.Tests.{or-left, lent-is}
@@ -44,7 +44,7 @@ use Rattle.closed.proofs.Demand3.{good-of, sound-of, one-call, coarse-accepted}
 use Rattle.coarsen.specs.declared.Coarsened.{Coarsened}
 use Rattle.coarsen.specs.Rule as coarsen
 use Rattle.coarsen.specs.Rule.{coarseSheet, coarsenRule, coarsens}
-use Rattle.calls.specs.Calls.{Lent, held, Call, regularizeCall, improveCall, coarsenCall, subdivideCall, Contract, lent, withQuads, mergedCounts, resultOr, left, countIn, swapsIn, Run, after, swapsOf, Touches, Apart, NoneLeft, Demand3}
+use Rattle.calls.specs.Calls.{Lent, held, holds, Call, regularizeCall, improveCall, coarsenCall, subdivideCall, Contract, lent, withQuads, mergedCounts, resultOr, left, countIn, swapsIn, Lends, next, Run, after, swapsOf, Touches, Apart, Untouched, NoneLeft, Demand3}
 use Rattle.calls.proofs.Slices.{quads-padded, length-padded, held-padded}
 use Rattle.calls.proofs.Finer.{made-kept}
 use Rattle.calls.proofs.Caps.{uncapped}
@@ -124,6 +124,32 @@ module _ (b : Band) (x : Lent) (w f p q l : ℕ) (a : Good (held x)) where
       go Accepted Accepted false e true Accepted false h = refused-call astray
       go Accepted Accepted false e true Accepted true h = made-call (projectedSheet b t) (made-kept b (held x) a (or-left (isLarge c) (isShort c p q l) e) h)
 
+-- ---- slices too short for their counts
+
+-- 12 or 13
+abbrev refusal : Lent → ℕ
+refusal x = cond (isLarge (x .counts)) large short
+
+short-refused : (x : Lent) (w f : ℕ) → holds x ≡ false → lengthsVerdict x w f ≡ Refused (refusal x)
+unfolding lentVerdict
+short-refused x w f e = rw (not-false (isShort (x .counts) (length (x .points)) (length (x .quads)) (length (x .labels))) e) (go (isLarge (x .counts)))
+  where
+    go : (over : Bool) → cond over (Refused large) (Refused short) ≡ Refused (cond over large short)
+    go true = refl
+    go false = refl
+
+-- the call leaves them as they came, and makes no swap
+pub untouched : (c : Call) → Contract c → holds (lent c) ≡ false → (left c ≡ lent c) × (swapsIn c ≡ 0)
+unfolding cleanRule coarsenRule subdivideRule
+untouched (regularizeCall b k x w f r Q) C e = (rw (C .quads, short-refused x w f e), rw (C .answer, short-refused x w f e))
+untouched (improveCall b k x w f r Q) C e = (rw (C .quads, short-refused x w f e), refl)
+untouched (coarsenCall b k x w f r P Q L) C e = (rw (C .answer, C .points, C .quads, C .labelled, short-refused x w f e), refl)
+untouched (subdivideCall b x w f p q l r P Q L) C e = (rw (C .answer, short-refused x w f e), refl)
+
+all-untouched : (s : Sheet) (cs : List Call) → Run s cs → Untouched cs
+all-untouched s [] run = tt
+all-untouched s (c ∷ cs) (e, C, run) = (untouched c C, all-untouched (next s c) cs run)
+
 -- ---- every call
 
 one : (c : Call) → Good (held (lent c)) → Contract c → Keeps (held (lent c)) (held (left c)) (swapsIn c)
@@ -136,11 +162,19 @@ one (improveCall b k x w f r Q) a C =
 one (coarsenCall b k x w f r P Q L) a C = coarsen-call b k x a (lengthsVerdict x w f) (coarsen.passesVerdict b k (held x)) r P Q L C
 one (subdivideCall b x w f p q l r P Q L) a C = subdivide-call b x w f p q l a r P Q L C
 
+-- the same from the sheet before a call to the sheet after it
+one-next : (s : Sheet) (c : Call) → Good s → Lends s (lent c) → Contract c → Keeps s (next s c) (swapsIn c)
+one-next s c a e C = go (holds (lent c)) refl
+  where
+    go : (h : Bool) → holds (lent c) ≡ h → Keeps s (cond h (held (left c)) s) (swapsIn c)
+    go true h = rw (e h) at (one c (rw (e h) a) C)
+    go false h = rw (untouched c C h .1) (keeps-same s a)
+
 every-call : (s : Sheet) (cs : List Call) → Good s → Run s cs → Keeps s (after s cs) (swapsOf cs)
 every-call s [] a run = keeps-same s a
 every-call s (c ∷ cs) a (e, C, run) =
-    let k : Keeps s (held (left c)) (swapsIn c) = rw e at (one c (rw e a) C) in
-    keeps-trans s (held (left c)) (after (held (left c)) cs) (swapsIn c) (swapsOf cs) k (every-call (held (left c)) cs (k .good) run)
+    let k = one-next s c a e C in
+    keeps-trans s (next s c) (after (next s c) cs) (swapsIn c) (swapsOf cs) k (every-call (next s c) cs (k .good) run)
 
 -- ---- masks
 
@@ -207,5 +241,6 @@ demand3 s cs a run = go (every-call s cs (good-of s a) run)
       apart = apart-of (after s cs) (k .good .fine .no-clash);
       euler = k .euler;
       falls = k .falls;
+      short = all-untouched s cs run;
       last = λ b j x w f n Q e h C. none-left b j x w f n Q (rw e (k .good)) C h;
     }

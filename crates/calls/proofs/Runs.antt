@@ -1,11 +1,15 @@
--- Lists of calls are there to speak of: whatever each call brings, its rule has an answer that meets the contract. Assumes nothing.
-use Prim.Native.Nat.{ℕ}
-use mathlib.Core.Path.{_≡_, refl, subst}
+-- Lists of calls are there to speak of: whatever each call brings, slices too short included, its rule has an answer that meets the contract. Assumes nothing.
+use Prim.Native.Nat.{ℕ, _*_, _<_}
+use mathlib.Core.Bool.{Bool, true, false, cond, true≢false}
+use mathlib.Core.Path.{_≡_, refl, sym, subst, _∙_}
 use mathlib.Core.List.{List, [], _∷_}
+use native.Mathlib.Omega.{arith}
+use borrow.Author.Tests.{lt-ltb}
 use Rattle.numeric.specs.Num.{zeroF}
 use Rattle.band.specs.declared.Band.{Band}
+use Rattle.sheet.specs.declared.Counts.{Counts}
 use Rattle.sheet.specs.Flat.{flatQuads}
-use Rattle.sheet.specs.Sheet.{Sheet, flatPoints}
+use Rattle.sheet.specs.Sheet.{Sheet, flatPoints, isShort}
 use Rattle.results.specs.Results as results
 use Rattle.results.specs.Results.{countsOf, padded}
 use Rattle.subdivide.specs.Subdivide.{subdivideRule}
@@ -13,9 +17,9 @@ use Rattle.regularize.specs.Rule as regularize
 use Rattle.closed.specs.Clean.{Sound}
 use Rattle.closed.proofs.Stars.{cubeSheet, cube-sound}
 use Rattle.coarsen.specs.Rule as coarsen
-use Rattle.calls.specs.Calls.{Lent, held, Call, regularizeCall, improveCall, coarsenCall, subdivideCall, Contract, lent, left, Run, Demand3}
+use Rattle.calls.specs.Calls.{Lent, held, holds, Call, regularizeCall, improveCall, coarsenCall, subdivideCall, Contract, lent, left, next, Run, Demand3}
 use Rattle.calls.proofs.Slices.{held-padded}
-use Rattle.calls.proofs.Calls.{demand3}
+use Rattle.calls.proofs.Calls.{untouched, demand3}
 
 -- what a caller brings to a call beside the sheet
 pub data Ask : Type 0 where
@@ -56,24 +60,49 @@ answered-meets x (improveAsk b k w f) = record { answer = refl; quads = refl }
 answered-meets x (coarsenAsk b k w f) = record { answer = refl; points = refl; quads = refl; labelled = refl }
 answered-meets x (subdivideAsk b w f p q l) = record { answer = refl; points = refl; quads = refl; labelled = refl }
 
--- one after the other
-abbrev pub callsFrom : Lent → List Ask → List Call
-callsFrom x [] = []
-callsFrom x (a ∷ l) = answered x a ∷ callsFrom (left (answered x a)) l
+-- a turn of the caller: a call on the slices where the sheet stands, or on slices too short for their counts
+pub data Turn : Type 0 where
+  inFull : (a : Ask) → Turn
+  tooShort : (y : Lent) → holds y ≡ false → (a : Ask) → Turn
 
-pub runs : (x : Lent) (l : List Ask) → Run (held x) (callsFrom x l)
+-- one after the other
+abbrev pub callsFrom : Lent → List Turn → List Call
+callsFrom x [] = []
+callsFrom x (inFull a ∷ l) = answered x a ∷ callsFrom (left (answered x a)) l
+callsFrom x (tooShort y e a ∷ l) = answered y a ∷ callsFrom x l
+
+-- from the sheet that its slices hold, too short or not, a call leads to the sheet that it left
+next-left : (x : Lent) (c : Call) → lent c ≡ x → Contract c → next (held x) c ≡ held (left c)
+next-left x c e C = go (holds (lent c)) refl
+  where
+    go : (h : Bool) → holds (lent c) ≡ h → cond h (held (left c)) (held x) ≡ held (left c)
+    go true h = refl
+    go false h = rw (untouched c C h .0, e)
+
+pub runs : (x : Lent) (l : List Turn) → Run (held x) (callsFrom x l)
 runs x [] = tt
-runs x (a ∷ l) = (rw (answered-lent x a), answered-meets x a, runs (left (answered x a)) l)
+runs x (inFull a ∷ l) =
+    let e = answered-lent x a in
+    let C = answered-meets x a in
+    (λ h. rw e, C, rw (next-left x (answered x a) e C) (runs (left (answered x a)) l))
+runs x (tooShort y e a ∷ l) =
+    let h : holds (lent (answered y a)) ≡ false = rw (answered-lent y a) e in
+    (λ t. absurd (true≢false (sym t ∙ h)), answered-meets y a, rw h (runs x l))
 
 -- demand 3 of all of them
-pub demand3-from : (x : Lent) (l : List Ask) → Sound (held x) → Demand3 (held x) (callsFrom x l)
+pub demand3-from : (x : Lent) (l : List Turn) → Sound (held x) → Demand3 (held x) (callsFrom x l)
 demand3-from x l a = demand3 (held x) (callsFrom x l) a (runs x l)
 
 -- a sheet in slices of p, q and l elements, and the unit cube in them as a start
 abbrev pub inSlices : Sheet → ℕ → ℕ → ℕ → Lent
 inSlices s p q l = record { counts = countsOf s; points = padded zeroF p (flatPoints (s .points)); quads = padded 0 q (flatQuads (s .quads)); labels = padded 0 l (s .labels) }
 
-pub cube-demand3 : (p q l : ℕ) (asks : List Ask) → Demand3 cubeSheet (callsFrom (inSlices cubeSheet p q l) asks)
-cube-demand3 p q l asks =
+pub cube-demand3 : (p q l : ℕ) (turns : List Turn) → Demand3 cubeSheet (callsFrom (inSlices cubeSheet p q l) turns)
+cube-demand3 p q l turns =
     let x = inSlices cubeSheet p q l in
-    demand3 cubeSheet (callsFrom x asks) cube-sound (subst (λ (s : Sheet). Run s (callsFrom x asks)) (held-padded cubeSheet p q l) (runs x asks))
+    demand3 cubeSheet (callsFrom x turns) cube-sound (subst (λ (s : Sheet). Run s (callsFrom x turns)) (held-padded cubeSheet p q l) (runs x turns))
+
+-- slices of no element are too short for counts with a point
+pub none-short : (c : Counts) → 0 < c .points → holds (record { counts = c; points = []; quads = []; labels = [] }) ≡ false
+unfolding isShort
+none-short c h = rw (lt-ltb 0 (3 * c .points) (omega arith))

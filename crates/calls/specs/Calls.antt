@@ -1,6 +1,7 @@
 -- Demand 3 as one claim about a list of calls of `regularize`, `improve_layout`, `coarsen` and `subdivide`: a call is what it was lent, what it answered and what it left, by its contract.
 -- Document 01, "The finer sheet and the rows".
 use Prim.Native.Nat.{ℕ, _+_, _*_, _/_, _%_, _^_, _≤_, _<_}
+use mathlib.Core.Bool.{Bool, true, false, cond, not}
 use mathlib.Core.Path.{_≡_}
 use mathlib.Core.List.{List, [], _∷_}
 use lib.ListN.{length}
@@ -8,7 +9,7 @@ use lib.Ieee.{Float}
 use Rattle.band.specs.declared.Band.{Band}
 use Rattle.sheet.specs.declared.Counts.{Counts}
 use Rattle.sheet.specs.Quads.{maskOf}
-use Rattle.sheet.specs.Sheet.{Sheet, sheetOf}
+use Rattle.sheet.specs.Sheet.{Sheet, sheetOf, isShort}
 use Rattle.results.specs.declared.Made.{Made}
 use Rattle.results.specs.declared.Made.the-variants as made
 use Rattle.results.specs.Results as results
@@ -35,6 +36,10 @@ pub record Lent : Type 0 where
 -- the sheet that they hold
 abbrev pub held : Lent → Sheet
 held x = sheetOf (x .counts) (x .points) (x .quads) (x .labels)
+
+-- the slices hold as much as the counts say: where they do not, 13 refuses, or 12 before it
+abbrev pub holds : Lent → Bool
+holds x = not (isShort (x .counts) (length (x .points)) (length (x .quads)) (length (x .labels)))
 
 -- A call that was made: its band b ("each call may bring its own field and band") and passes, the sheet x that it was lent, work slices of w and f elements,
 -- its answer r, and at its end the slices that it may write; those of `subdivide` are result slices of p, q and l elements.
@@ -92,15 +97,23 @@ swapsIn (subdivideCall b x w f p q l r P Q L) = 0
 
 -- ---- a list of calls
 
--- Calls one after the other from the sheet s on. Each is lent the sheet that the one before left, in slices of any length: "nobody else writes the sheet between calls".
+-- A call is lent the sheet s in slices of any length that hold it, with anything behind it, or slices too short for their counts, of which nothing else is asked.
+abbrev pub Lends : Sheet → Lent → Type 0
+Lends s x = holds x ≡ true → held x ≡ s
+
+-- the sheet after a call: the one that it left, or the one before it where its slices were too short, which it left as they came (`short` below)
+abbrev pub next : Sheet → Call → Sheet
+next s c = cond (holds (lent c)) (held (left c)) s
+
+-- calls one after the other from the sheet s on, each lent the sheet after the one before: "nobody else writes the sheet between calls"
 abbrev pub Run : Sheet → List Call → Type 0
 Run s [] = Unit {0}
-Run s (c ∷ cs) = (held (lent c) ≡ s) × Contract c × Run (held (left c)) cs
+Run s (c ∷ cs) = Lends s (lent c) × Contract c × Run (next s c) cs
 
 -- the sheet after them
 abbrev pub after : Sheet → List Call → Sheet
 after s [] = s
-after s (c ∷ cs) = after (held (left c)) cs
+after s (c ∷ cs) = after (next s c) cs
 
 -- the total of regularize's counts
 abbrev pub swapsOf : List Call → ℕ
@@ -116,6 +129,11 @@ Touches s v l = maskOf (s .quads) (s .labels) v / 2 ^ l % 2 ≡ 1
 -- no point touches both levels, labels 0 and 1, or two opposite faces, 2 and 3, 4 and 5, or 6 and 7
 unfoldable pub Apart : Sheet → Type 0
 Apart s = (v j : ℕ) → j < 4 → Touches s v (2 * j) → Touches s v (2 * j + 1) → ⊥
+
+-- each call that was lent slices too short for their counts left them as they came, and made no swap: "A sheet altered in its own slices stays unchanged", "a refused call adds 0"
+abbrev pub Untouched : List Call → Type 0
+Untouched [] = Unit {0}
+Untouched (c ∷ cs) = (holds (lent c) ≡ false → (left c ≡ lent c) × (swapsIn c ≡ 0)) × Untouched cs
 
 -- "No swap is left if, on the sheet left with nothing barred, no edge meets regularize's rule with what that call brought: the same call once more counts 0 and changes nothing."
 -- x is what the call left.
@@ -133,6 +151,8 @@ pub record Demand3 (s : Sheet) (cs : List Call) : Type 0 where
   pub euler : SameEuler s (after s cs)
   -- the sum of (quads at a point minus 4) squared never rises, and falls by 2 for each swap of `regularize`
   pub falls : squaredOf (after s cs) + 2 * swapsOf cs ≤ squaredOf s
+  -- a call that was lent slices too short for their counts leaves them as they came
+  pub short : Untouched cs
   -- one more call, an accepted `regularize` with more passes than half that sum, leaves no swap
   pub last : (b : Band) (k : ℕ) (x : Lent) (w f n : ℕ) (Q : List ℕ) → held x ≡ after s cs → squaredOf (held x) < 2 * k
       → Contract (regularizeCall b k x w f (cleaned.Done n) Q) → NoneLeft b k (withQuads x Q) w f
