@@ -20,8 +20,9 @@ use Rattle.sheet.proofs.Flat.{length-quads}
 use Rattle.sheet.proofs.Masks.{bit-pack}
 use Rattle.sheet.proofs.Tests.{or-left, lent-is}
 use Rattle.results.specs.declared.Made.{Made}
+use Rattle.results.specs.Outcomes.{Outcome, refuses, gives, afterTest}
 use Rattle.results.specs.Results as results
-use Rattle.results.specs.Results.{Outcome, refuses, makes, padded, countsOf, afterLent}
+use Rattle.results.specs.Results.{padded, countsOf}
 use Rattle.results.proofs.Results.{length-flat-quads}
 use Rattle.refine.specs.Finer.{finerSheet}
 use Rattle.smoothed.specs.Smoothed.{paired, smoothSheet}
@@ -34,7 +35,7 @@ use Rattle.fits.proofs.MergeFits.{merge-finite}
 use Rattle.regularize.specs.declared.Cleaned.{Cleaned}
 use Rattle.regularize.specs.declared.Cleaned.the-variants as cleaned
 use Rattle.regularize.specs.Rule as regularize
-use Rattle.regularize.specs.Rule.{swapSheet, cleanRule, cleans}
+use Rattle.regularize.specs.Rule.{swapSheet, cleanRule}
 use Rattle.closed.specs.Clean as closed
 use Rattle.closed.specs.Clean.{Sound, squaredOf}
 use Rattle.closed.specs.Demand3 as commands
@@ -43,7 +44,7 @@ use Rattle.closed.proofs.Demand.{Good, Keeps, keeps-same, keeps-trans, swaps-ke
 use Rattle.closed.proofs.Demand3.{good-of, sound-of, one-call, coarse-accepted}
 use Rattle.coarsen.specs.declared.Coarsened.{Coarsened}
 use Rattle.coarsen.specs.Rule as coarsen
-use Rattle.coarsen.specs.Rule.{coarseSheet, coarsenRule, coarsens}
+use Rattle.coarsen.specs.Rule.{coarseSheet, coarsenRule}
 use Rattle.calls.specs.Calls.{Lent, held, holds, Call, regularizeCall, improveCall, coarsenCall, subdivideCall, Contract, lent, withQuads, mergedCounts, resultOr, left, countIn, swapsIn, Lends, next, Run, after, swapsOf, Touches, Apart, Untouched, NoneLeft, Demand3}
 use Rattle.calls.proofs.Slices.{quads-padded, length-padded, held-padded}
 use Rattle.calls.proofs.Finer.{made-kept}
@@ -65,7 +66,7 @@ module _ (m : ℕ) (b : Band) (k : ℕ) (x : Lent) (a : Good (held x)) where
   swapped-is = rw (quads-padded (found .left) (x .counts .quads) (length (x .quads)) as-many)
 
   swap-call : (count : Cleaned → ℕ) → ((n : ℕ) → count (cleaned.Refused n) ≡ 0) → Keeps (held x) (closed.withQuads (held x) (found .left)) (count (cleaned.Done (capped (found .count))))
-      → (u v : Verdict) (r : Cleaned) (Q : List ℕ) → regularize.Leaves (regularize.afterTests u (regularize.afterTests v (cleans found))) (x .quads) r Q → Keeps (held x) (held (withQuads x Q)) (count r)
+      → (u v : Verdict) (r : Cleaned) (Q : List ℕ) → regularize.Leaves (afterTest u (afterTest v (gives found))) (x .quads) r Q → Keeps (held x) (held (withQuads x Q)) (count r)
   swap-call count none done (Refused n) v r Q L = rw (L .answer, L .quads, none n) (keeps-same (held x) a)
   swap-call count none done Accepted (Refused n) r Q L = rw (L .answer, L .quads, none n) (keeps-same (held x) a)
   swap-call count none done Accepted Accepted r Q L = rw (L .answer, L .quads, swapped-is) done
@@ -74,7 +75,7 @@ module _ (m : ℕ) (b : Band) (k : ℕ) (x : Lent) (a : Good (held x)) where
 
 module _ (b : Band) (k : ℕ) (x : Lent) (a : Good (held x)) where
   coarsen-call : (u v : Verdict) (r : Coarsened) (P : List Float) (Q L : List ℕ)
-      → coarsen.Leaves (coarsen.afterTests u (coarsen.afterTests v (coarsens (coarseSheet b k (held x))))) (x .points) (x .quads) (x .labels) r P Q L
+      → coarsen.Leaves (afterTest u (afterTest v (gives (coarseSheet b k (held x))))) (x .points) (x .quads) (x .labels) r P Q L
       → Keeps (held x) (held (record { counts = mergedCounts r (x .counts); points = P; quads = Q; labels = L })) 0
   coarsen-call (Refused n) v r P Q L l = rw (l .answer, l .points, l .quads, l .labelled) (keeps-same (held x) a)
   coarsen-call Accepted (Refused n) r P Q L l = rw (l .answer, l .points, l .quads, l .labelled) (keeps-same (held x) a)
@@ -94,13 +95,13 @@ later-passes b k s e v =
 
 module _ (b : Band) (x : Lent) (w f p q l : ℕ) (a : Good (held x)) where
   -- what the call leaves, by the outcome of its rule
-  abbrev Kept : Outcome → Type 0
+  abbrev Kept : Outcome Sheet → Type 0
   Kept o = (r : Made) (P : List Float) (Q L : List ℕ) → results.Leaves o p q l r P Q L → Keeps (held x) (held (resultOr r x P Q L)) 0
 
   refused-call : (n : ℕ) → Kept (refuses n)
   refused-call n r P Q L K = rw (K .answer) (keeps-same (held x) a)
 
-  made-call : (t : Sheet) → Keeps (held x) t 0 → Kept (makes t)
+  made-call : (t : Sheet) → Keeps (held x) t 0 → Kept (gives t)
   made-call t k r P Q L K = rw (K .answer, K .points, K .quads, K .labelled, held-padded t p q l) k
 
   subdivide-call : Kept (subdivideRule b (x .counts) (x .points) (x .quads) (x .labels) w f p q l)
@@ -115,7 +116,7 @@ module _ (b : Band) (x : Lent) (w f p q l : ℕ) (a : Good (held x)) where
       t = smoothSheet (held x)
 
       go : (u v : Verdict) (over : Bool) → (isLarge c || isShort c p q l) ≡ over → (pairs : Bool) (z : Verdict) (lands : Bool) → every (landsAt b t) (length (t .points)) ≡ lands
-          → Kept (afterLent u (afterLent v (cond over (refuses short) (cond pairs (afterLent z (cond lands (makes (projectedSheet b t)) (refuses astray))) (refuses edge)))))
+          → Kept (afterTest u (afterTest v (cond over (refuses short) (cond pairs (afterTest z (cond lands (gives (projectedSheet b t)) (refuses astray))) (refuses edge)))))
       go (Refused n) v over e pairs z lands h = refused-call n
       go Accepted (Refused n) over e pairs z lands h = refused-call n
       go Accepted Accepted true e pairs z lands h = refused-call short
@@ -226,7 +227,7 @@ module _ (b : Band) (k : ℕ) (x : Lent) (w f n : ℕ) (Q : List ℕ) (a : Good 
             let v : lengthsVerdict (withQuads x Q) w f ≡ Accepted = rw quads-length (passed .0) in
             let u : sheetVerdict b (held (withQuads x Q)) ≡ Accepted = rw remain-is passes-again in
             let o : swapSheet 1 b k (held (withQuads x Q)) ≡ record { left = remain; count = 0 } = rw remain-is (regularize-again (held x) fits k a h k) in
-            let D : regularize.Leaves (cleans (record { left = remain; count = 0 })) Q r R = rw (v, u, o) at L in
+            let D : regularize.Leaves (gives (record { left = remain; count = 0 })) Q r R = rw (v, u, o) at L in
             (D .answer, D .quads ∙ rw quads-length (sym quads-are));
       }
 

@@ -8,11 +8,14 @@ use borrow.Author.Tests.{lt-ltb}
 use Rattle.numeric.specs.Num.{zeroF}
 use Rattle.band.specs.declared.Band.{Band}
 use Rattle.sheet.specs.declared.Counts.{Counts}
+use Rattle.sheet.specs.Quads.{Quad}
 use Rattle.sheet.specs.Flat.{flatQuads}
 use Rattle.sheet.specs.Sheet.{Sheet, flatPoints, isShort}
+use Rattle.results.specs.Outcomes.{Outcome}
 use Rattle.results.specs.Results as results
 use Rattle.results.specs.Results.{countsOf, padded}
 use Rattle.subdivide.specs.Subdivide.{subdivideRule}
+use Rattle.swaps.specs.Runs.{Answer}
 use Rattle.regularize.specs.Rule as regularize
 use Rattle.closed.specs.Clean.{Sound}
 use Rattle.closed.proofs.Stars.{cubeSheet, cube-sound}
@@ -29,13 +32,13 @@ pub data Ask : Type 0 where
   subdivideAsk : (b : Band) (w f p q l : ℕ) → Ask
 
 -- the outcomes of its call on the slices x
-abbrev swapped : ℕ → Band → ℕ → Lent → ℕ → ℕ → regularize.Outcome
+abbrev swapped : ℕ → Band → ℕ → Lent → ℕ → ℕ → Outcome (Answer (List Quad))
 swapped m b k x w f = regularize.cleanRule m b k (x .counts) (x .points) (x .quads) (x .labels) w f
 
-abbrev merged : Band → ℕ → Lent → ℕ → ℕ → coarsen.Outcome
+abbrev merged : Band → ℕ → Lent → ℕ → ℕ → Outcome (Answer Sheet)
 merged b k x w f = coarsen.coarsenRule b k (x .counts) (x .points) (x .quads) (x .labels) w f
 
-abbrev made : Band → Lent → ℕ → ℕ → ℕ → ℕ → ℕ → results.Outcome
+abbrev made : Band → Lent → ℕ → ℕ → ℕ → ℕ → ℕ → Outcome Sheet
 made b x w f p q l = subdivideRule b (x .counts) (x .points) (x .quads) (x .labels) w f p q l
 
 -- the call with its answer

@@ -16,9 +16,10 @@ use Rattle.sheet.specs.Sheet.{Sheet, limit, isLarge, isBare, lentVerdict, quads
 use Rattle.sheet.specs.Tests.{goodCorners, goodMasks}
 use Rattle.sheet.proofs.Flat.{length-quads}
 use Rattle.sheet.proofs.Tests.{lent-is, length-points}
+use Rattle.results.specs.Outcomes.{gives, afterTest}
 use Rattle.fits.specs.SwapFits.{swapFits}
 use Rattle.regularize.specs.declared.Cleaned.the-variants as cleaned
-use Rattle.regularize.specs.Rule.{Leaves, afterTests, swapSheet, cleanRule, cleans}
+use Rattle.regularize.specs.Rule.{Leaves, swapSheet, cleanRule}
 use Rattle.closed.specs.Clean as closed
 use Rattle.calls.specs.Calls.{Lent, held, Contract, regularizeCall}
 use Rattle.calls.proofs.Caps.{uncapped}
@@ -57,7 +58,7 @@ module _ (b : Band) (k : ℕ) (x : Lent) (w f n : ℕ) (Q : List ℕ) (C : Contr
   unfolding cleanRule
   done-tested = go _ refl _ refl C
     where
-      go : (u : Verdict) → lengthsVerdict x w f ≡ u → (v : Verdict) → sheetVerdict b (held x) ≡ v → Leaves (afterTests u (afterTests v (cleans (swapSheet 1 b k (held x))))) (x .quads) (cleaned.Done n) Q
+      go : (u : Verdict) → lengthsVerdict x w f ≡ u → (v : Verdict) → sheetVerdict b (held x) ≡ v → Leaves (afterTest u (afterTest v (gives (swapSheet 1 b k (held x))))) (x .quads) (cleaned.Done n) Q
           → (lengthsVerdict x w f ≡ Accepted) × (sheetVerdict b (held x) ≡ Accepted)
       go (Refused i) eu v ev L = absurd (let z : _≡_ {A = ℕ} 0 1 = cc (L .answer) in omega arith)
       go Accepted eu (Refused i) ev L = absurd (let z : _≡_ {A = ℕ} 0 1 = cc (L .answer) in omega arith)
@@ -86,6 +87,6 @@ module _ (b : Band) (k : ℕ) (x : Lent) (w f n : ℕ) (Q : List ℕ) (C : Contr
   pub done-count : n ≡ swapSheet 1 b k (held x) .count
   unfolding cleanRule
   done-count =
-      let A : Leaves (cleans (swapSheet 1 b k (held x))) (x .quads) (cleaned.Done n) Q = rw (done-tested .0, done-tested .1) at C in
+      let A : Leaves (gives (swapSheet 1 b k (held x))) (x .quads) (cleaned.Done n) Q = rw (done-tested .0, done-tested .1) at C in
       let e : cleaned.Done n ≡ cleaned.Done (swapSheet 1 b k (held x) .count) = A .answer ∙ rw (uncapped (held x) (swapFits b (held x .points) (held x .labels)) k done-accepted) in
       cc

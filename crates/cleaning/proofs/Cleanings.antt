@@ -10,12 +10,15 @@ use Rattle.band.specs.declared.Band.{Band}
 use Rattle.sheet.specs.Numbers.{short}
 use Rattle.sheet.specs.declared.Counts.{Counts}
 use Rattle.sheet.specs.declared.Verdict.the-variants as verdict
+use Rattle.sheet.specs.Quads.{Quad}
+use Rattle.results.specs.Outcomes.{Outcome, roomFor}
 use Rattle.exports.specs.Given.{bandOf, bandVerdict}
+use Rattle.swaps.specs.Runs.{Answer}
 use Rattle.regularize.specs.declared.Cleaned.{Cleaned}
 use Rattle.regularize.specs.declared.Cleaned.the-variants.{Refused}
-use Rattle.regularize.specs.Rule.{Outcome, cleanRule, answerOf, quadsLeft, Leaves}
+use Rattle.regularize.specs.Rule.{cleanRule, answerOf, quadsLeft, Leaves}
 use Rattle.exports.specs.Answers.{answered}
-use Rattle.cleaning.specs.Cleanings.{cleanedNumber, cleanedCount, cleanedCounts, cleanBy, cleanRoom, countLeft}
+use Rattle.cleaning.specs.Cleanings.{cleanedNumber, cleanedCount, cleanedCounts, cleanBy, countLeft}
 
 -- the band that is given: refused, or with its band
 module _ (P : List Float) (Q labels : List ℕ) (c : Counts) (kind : ℕ) (numbers bounds : List Float) (lower upper : Float) (k w f : ℕ) where
@@ -34,16 +37,16 @@ module _ (P : List Float) (Q labels : List ℕ) (c : Counts) (kind : ℕ) (numbe
   clean-gain neutral b t e eb L = rw (e, t, ← eb) L
 
 -- what is left of the number, the quads and the answer slice
-pub record Answers (o : Outcome) (c : Counts) (Q l : List ℕ) (n : ℕ) (R m : List ℕ) : Type 0 where
-  pub number : n ≡ cleanedNumber (answerOf (cleanRoom (length l) o))
-  pub quads : R ≡ quadsLeft (cleanRoom (length l) o) Q
+pub record Answers (o : Outcome (Answer (List Quad))) (c : Counts) (Q l : List ℕ) (n : ℕ) (R m : List ℕ) : Type 0 where
+  pub number : n ≡ cleanedNumber (answerOf (roomFor (length l) o))
+  pub quads : R ≡ quadsLeft (roomFor (length l) o) Q
   pub answer : m ≡ countLeft o c l
 
-pub short-answers : (o : Outcome) (c : Counts) (Q l : List ℕ) → length l < 4 → Answers o c Q l short Q l
+pub short-answers : (o : Outcome (Answer (List Quad))) (c : Counts) (Q l : List ℕ) → length l < 4 → Answers o c Q l short Q l
 unfolding cleanedNumber countLeft
 short-answers o c Q l h = let e = lt-ltb (length l) 4 h in record { number = rw e; quads = rw e; answer = rw e }
 
-pub clean-answers : (o : Outcome) (c : Counts) (Q l : List ℕ) {r : Cleaned} {n k : ℕ} {d : Counts} {R m : List ℕ} → 4 ≤ length l → Leaves o Q r R → n ≡ cleanedNumber r → k ≡ cleanedCount r → d ≡ cleanedCounts r c
+pub clean-answers : (o : Outcome (Answer (List Quad))) (c : Counts) (Q l : List ℕ) {r : Cleaned} {n k : ℕ} {d : Counts} {R m : List ℕ} → 4 ≤ length l → Leaves o Q r R → n ≡ cleanedNumber r → k ≡ cleanedCount r → d ≡ cleanedCounts r c
     → m ≡ answered k d l → Answers o c Q l n R m
 unfolding countLeft
 clean-answers o c Q l h L en ek ed em =

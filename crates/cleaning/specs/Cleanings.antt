@@ -1,17 +1,18 @@
 -- What the exports of the clean-up say in numbers: the number of a refusal, 0 if accepted, the count and the counts of the sheet in the answer slice.
 use Prim.Native.Nat.{ℕ}
-use mathlib.Core.Path.{_≡_}
 use mathlib.Core.Bool.{Bool, cond}
 use mathlib.Core.List.{List}
 use lib.Dec.{ltb}
 use lib.ListN.{length}
 use lib.Ieee.{Float}
 use Rattle.sheet.specs.declared.Counts.{Counts}
-use Rattle.sheet.specs.Numbers.{short}
+use Rattle.sheet.specs.Quads.{Quad}
+use Rattle.results.specs.Outcomes.{Outcome, afterTest}
 use Rattle.exports.specs.Given.{bandOf, bandVerdict}
+use Rattle.swaps.specs.Runs.{Answer}
 use Rattle.regularize.specs.declared.Cleaned.{Cleaned}
 use Rattle.regularize.specs.declared.Cleaned.the-variants.{Done, Refused}
-use Rattle.regularize.specs.Rule.{Outcome, refuses, cleanRule, afterTests, answerOf, quadsLeft, Leaves}
+use Rattle.regularize.specs.Rule.{cleanRule, answerOf, Leaves}
 use Rattle.exports.specs.Answers.{answered}
 
 -- the number of an answer: 0 if accepted
@@ -30,18 +31,14 @@ cleanedCounts (Done k) c = c
 cleanedCounts (Refused n) c = record { points = 0; quads = 0; labels = 0 }
 
 -- `regularize`, or `improve_layout` where neutral, with a band as an export is given it: 13 and 1 of the band come first
-unfoldable pub cleanBy : Bool → List Float → List ℕ → List ℕ → Counts → ℕ → List Float → List Float → Float → Float → ℕ → ℕ → ℕ → Outcome
+unfoldable pub cleanBy : Bool → List Float → List ℕ → List ℕ → Counts → ℕ → List Float → List Float → Float → Float → ℕ → ℕ → ℕ → Outcome (Answer (List Quad))
 cleanBy neutral P Q labels c kind numbers bounds lower upper k w f =
-    afterTests (bandVerdict kind (length numbers) (length bounds)) (cleanRule (cond neutral 0 1) (bandOf kind numbers bounds lower upper) k c P Q labels w f)
+    afterTest (bandVerdict kind (length numbers) (length bounds)) (cleanRule (cond neutral 0 1) (bandOf kind numbers bounds lower upper) k c P Q labels w f)
 
 -- what it leaves in the quads that it is lent
-abbrev pub CleanedBy : Outcome → List ℕ → Cleaned → List ℕ → Type 0
+abbrev pub CleanedBy : Outcome (Answer (List Quad)) → List ℕ → Cleaned → List ℕ → Type 0
 CleanedBy = Leaves
 
--- an answer slice of n elements: fewer than 4 are too short, 13
-abbrev pub cleanRoom : ℕ → Outcome → Outcome
-cleanRoom n o = cond (ltb n 4) (refuses short) o
-
 -- the answer slice l after a clean-up of a sheet of these counts: untouched if it is too short
-unfoldable pub countLeft : Outcome → Counts → List ℕ → List ℕ
+unfoldable pub countLeft : Outcome (Answer (List Quad)) → Counts → List ℕ → List ℕ
 countLeft o c l = cond (ltb (length l) 4) l (answered (cleanedCount (answerOf o)) (cleanedCounts (answerOf o) c) l)

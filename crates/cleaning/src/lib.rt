@@ -6,8 +6,9 @@ use sheet::Verdict;
 ghost use mathlib.Core.Path.{_≡_};
 ghost use lib.ListN.{length, replicate};
 ghost use Rattle.numeric.specs.Num.{zeroF};
+ghost use Rattle.results.specs.Outcomes.{roomFor};
 ghost use Rattle.regularize.specs.Rule.{answerOf, quadsLeft};
-ghost use Rattle.cleaning.specs.Cleanings.{cleanedNumber, cleanedCount, cleanedCounts, cleanBy, cleanRoom, countLeft, CleanedBy};
+ghost use Rattle.cleaning.specs.Cleanings.{cleanedNumber, cleanedCount, cleanedCounts, cleanBy, countLeft, CleanedBy};
 
 // The number of a clean-up's answer: 0 if accepted.
 fn cleaned_number(r: Cleaned) -> u32
@@ -92,8 +93,8 @@ pub fn clean_answered(
     floats: &mut [f64],
     answer: &mut [u64],
 ) -> u32
-    ensures { λ r. ⌜ r ≡ cleanedNumber (answerOf (cleanRoom (length (now (answer .entry))) (cleanBy neutral (now (points .entry)) (now (quads .entry)) (now (labels .entry)) c kind (now (numbers .entry)) (now (bounds .entry)) lower upper passes (length (now (work .entry))) (length (now (floats .entry)))))) ⌝ }
-    ensures { λ _. ⌜ now (quads .exit) ≡ quadsLeft (cleanRoom (length (now (answer .entry))) (cleanBy neutral (now (points .entry)) (now (quads .entry)) (now (labels .entry)) c kind (now (numbers .entry)) (now (bounds .entry)) lower upper passes (length (now (work .entry))) (length (now (floats .entry))))) (now (quads .entry)) ⌝ }
+    ensures { λ r. ⌜ r ≡ cleanedNumber (answerOf (roomFor (length (now (answer .entry))) (cleanBy neutral (now (points .entry)) (now (quads .entry)) (now (labels .entry)) c kind (now (numbers .entry)) (now (bounds .entry)) lower upper passes (length (now (work .entry))) (length (now (floats .entry)))))) ⌝ }
+    ensures { λ _. ⌜ now (quads .exit) ≡ quadsLeft (roomFor (length (now (answer .entry))) (cleanBy neutral (now (points .entry)) (now (quads .entry)) (now (labels .entry)) c kind (now (numbers .entry)) (now (bounds .entry)) lower upper passes (length (now (work .entry))) (length (now (floats .entry))))) (now (quads .entry)) ⌝ }
     ensures { λ _. ⌜ now (answer .exit) ≡ countLeft (cleanBy neutral (now (points .entry)) (now (quads .entry)) (now (labels .entry)) c kind (now (numbers .entry)) (now (bounds .entry)) lower upper passes (length (now (work .entry))) (length (now (floats .entry)))) c (now (answer .entry)) ⌝ }
     ensures { λ _. ⌜ now (work .exit) ≡ replicate (length (now (work .entry))) 0 ⌝ }
     ensures { λ _. ⌜ now (floats .exit) ≡ replicate (length (now (floats .entry))) zeroF ⌝ }

@@ -19,13 +19,15 @@ use Rattle.sheet.specs.Tests.{goodCorners, goodMasks}
 use Rattle.sheet.specs.Sheet.{Sheet, sheetOf, limit, isLarge, Few, isShort, isShortWork, lentVerdict, isBare, quadsVerdict, sheetVerdict}
 use Rattle.sheet.proofs.Flat.{length-quads}
 use Rattle.sheet.proofs.Tests.{lent-is, length-points}
+use Rattle.results.specs.Outcomes.{Outcome, gives, afterTest}
 use Rattle.results.specs.Results.{countsOf}
 use Rattle.swaps.specs.Runs.{Answer, run}
 use Rattle.fits.specs.MergeFits.{mergeFits, mergePosition}
 use Rattle.fits.proofs.MergeFits.{merge-finite}
 use Rattle.closed.proofs.Fine.{Fine, fine-of, accepted-of}
 use Rattle.closed.proofs.Demand.{coarse-fine, coarse-fewer}
-use Rattle.coarsen.specs.Rule.{Outcome, coarsens, coarseSheet, passesVerdict, afterTests, coarsenRule}
+use Rattle.coarse.specs.Pass.{bandPass}
+use Rattle.coarsen.specs.Rule.{coarseSheet, passesVerdict, coarsenRule}
 use Rattle.coarsen.specs.Tested.{passCount, passLeaves, testedRun}
 
 -- ---- 1, 5, 6 and 7, one by one
@@ -112,7 +114,8 @@ no-pass-refuses b k c P Q labels w f e g =
 
 module _ (b : Band) where
   -- of an accepted sheet they find nothing
-  tested-run : (k : ℕ) (s : Sheet) (m : ℕ) → Fine s → sheetVerdict b s ≡ Accepted → testedRun b k s m ≡ coarsens (run (passCount b) (passLeaves b) k s m)
+  tested-run : (k : ℕ) (s : Sheet) (m : ℕ) → Fine s → sheetVerdict b s ≡ Accepted → testedRun b k s m ≡ gives (run (passCount b) (passLeaves b) k s m)
+  unfolding bandPass
   tested-run zero s m f e = refl
   tested-run (suc k) s m f e = rw e (go (eqb (passCount b s) 0) (coarse-fine (mergeFits b) (mergePosition b) (merge-finite b) 1 s f) (passes-accepted b 1 s f e) (tested-run k (passLeaves b s) (m + passCount b s)))
     where
@@ -121,26 +124,26 @@ module _ (b : Band) where
 
       go : (x : Bool) → Fine (after x) → sheetVerdict b (after x) ≡ Accepted
           → (Fine (passLeaves b s) → sheetVerdict b (passLeaves b s) ≡ Accepted
-          → testedRun b k (passLeaves b s) (m + passCount b s) ≡ coarsens (run (passCount b) (passLeaves b) k (passLeaves b s) (m + passCount b s)))
-          → _≡_ {A = Outcome} (elim x as (λ y. Outcome) [ true ↦ coarsens (record { left = s; count = m }) | false ↦ testedRun b k (passLeaves b s) (m + passCount b s) ])
-          (coarsens (elim x as (λ y. Answer Sheet) [ true ↦ record { left = s; count = m } | false ↦ run (passCount b) (passLeaves b) k (passLeaves b s) (m + passCount b s) ]))
+          → testedRun b k (passLeaves b s) (m + passCount b s) ≡ gives (run (passCount b) (passLeaves b) k (passLeaves b s) (m + passCount b s)))
+          → _≡_ {A = Outcome (Answer Sheet)} (elim x as (λ y. Outcome (Answer Sheet)) [ true ↦ gives (record { left = s; count = m }) | false ↦ testedRun b k (passLeaves b s) (m + passCount b s) ])
+          (gives (elim x as (λ y. Answer Sheet) [ true ↦ record { left = s; count = m } | false ↦ run (passCount b) (passLeaves b) k (passLeaves b s) (m + passCount b s) ]))
       go true g h ih = refl
       go false g h ih = ih g h
 
   -- so the passes of 000, with tests before each, are those of the rule, with tests before the first
   pub tests-once : (k : ℕ) (c : Counts) (P : List Float) (Q labels : List ℕ) (w f : ℕ)
-      → coarsenRule b k c P Q labels w f ≡ afterTests (lentVerdict c (length P) (length Q) (length labels) w f) (testedRun b k (sheetOf c P Q labels) 0)
-  unfolding coarsenRule
+      → coarsenRule b k c P Q labels w f ≡ afterTest (lentVerdict c (length P) (length Q) (length labels) w f) (testedRun b k (sheetOf c P Q labels) 0)
+  unfolding coarsenRule bandPass
   tests-once k c P Q labels w f = lent (lentVerdict c (length P) (length Q) (length labels) w f) refl
     where
       s : Sheet
       s = sheetOf c P Q labels
 
-      sheet : Few (countsOf s) → (k : ℕ) (v : Verdict) → sheetVerdict b s ≡ v → afterTests (passesVerdict b k s) (coarsens (coarseSheet b k s)) ≡ testedRun b k s 0
+      sheet : Few (countsOf s) → (k : ℕ) (v : Verdict) → sheetVerdict b s ≡ v → afterTest (passesVerdict b k s) (gives (coarseSheet b k s)) ≡ testedRun b k s 0
       sheet F zero v e = refl
       sheet F (suc k) Accepted e = rw (ne-eqb (suc k) 0 (λ z. omega arith), e) (sym (rw e at (tested-run (suc k) s 0 (fine-by b s F e) e)))
       sheet F (suc k) (Refused n) e = rw (ne-eqb (suc k) 0 (λ z. omega arith), e) refl
 
-      lent : (v : Verdict) → lentVerdict c (length P) (length Q) (length labels) w f ≡ v → afterTests v (afterTests (passesVerdict b k s) (coarsens (coarseSheet b k s))) ≡ afterTests v (testedRun b k s 0)
+      lent : (v : Verdict) → lentVerdict c (length P) (length Q) (length labels) w f ≡ v → afterTest v (afterTest (passesVerdict b k s) (gives (coarseSheet b k s))) ≡ afterTest v (testedRun b k s 0)
       lent Accepted e = let L = lent-is c (length P) (length Q) (length labels) w f e .0 in sheet (rw (counts-of c P Q labels (L .labels)) (L .few)) k (sheetVerdict b s) refl
       lent (Refused n) e = refl

@@ -25,9 +25,8 @@ use Rattle.results.proofs.Fronts.{points-front, quads-front}
 use Rattle.swaps.specs.Runs.{Answer, run}
 use Rattle.swaps.proofs.Runs.{idle}
 use Rattle.merges.specs.Merges.{Slot}
-use Rattle.merges.specs.Coarse.{MergeState, mergePass, compact}
+use Rattle.merges.specs.Coarse.{MergeState, compact}
 use Rattle.merging.specs.Layout.{removedAt, removedIn}
-use Rattle.fits.specs.MergeFits.{mergeFits, mergePosition}
 use Rattle.compact.specs.Compact.{compacted, Begins, Compacting}
 use Rattle.merges.specs.Slots.{slotsOf}
 use Rattle.closed.proofs.Fine.{Fine, accepted-of}
@@ -87,15 +86,15 @@ module _ {b : Band} {c : Counts} {P : List Float} {Q labels w : List ℕ} {f : �
 
   -- after a pass with r merges
   module _ {r : ℕ} {P′ : List Float} {Q′ w′ : List ℕ} (D : Passed b (c .points) (c .quads) (sheetIn (c .points) (c .quads) P Q labels) r P′ Q′ w′) where
-    pass-of : bandPass b (sheetIn (c .points) (c .quads) P Q labels) ≡ mergePass (mergeFits b) (mergePosition b) held
-    unfolding bandPass
-    pass-of = ap (mergePass (mergeFits b) (mergePosition b)) sheet-in
+    pass-of : bandPass b (sheetIn (c .points) (c .quads) P Q labels) ≡ bandPass b held
+    pass-of = ap (bandPass b) sheet-in
 
     counted : passCount b held ≡ r
     counted = sym (D .count ∙ ap (λ (t : MergeState). t .count) pass-of)
 
     -- none
     run-none : r ≡ 0 → coarseSheet b 1 held ≡ record { left = held; count = 0 }
+    unfolding bandPass
     run-none e = idle (passCount b) (passLeaves b) 1 held 0 (eq-eqb _ 0 (counted ∙ e))
 
     pub once-none : r ≡ 0 → length P′ ≡ length P → length Q′ ≡ length Q → Remains (coarseSheet b 1 held) (record { count = r; sheet = c }) P′ Q′ labels
@@ -107,19 +106,20 @@ module _ {b : Band} {c : Counts} {P : List Float} {Q labels w : List ℕ} {f : �
 
     -- some
     run-some : (r ≡ 0 → ⊥) → coarseSheet b 1 held ≡ record { left = passLeaves b held; count = 0 + passCount b held }
+    unfolding bandPass
     run-some n = step (ne-eqb _ 0 (λ e. n (sym counted ∙ e)))
       where
         step : eqb (passCount b held) 0 ≡ false
             → coarseSheet b 1 held ≡ record { left = passLeaves b held; count = 0 + passCount b held }
         step z = rw (z, run) refl
 
-    slots-are : slotsOf (c .quads) Q′ (removedIn (c .points) (c .quads) w′) ≡ mergePass (mergeFits b) (mergePosition b) held .slots
+    slots-are : slotsOf (c .quads) Q′ (removedIn (c .points) (c .quads) w′) ≡ bandPass b held .slots
     slots-are = D .slots ∙ ap (λ (t : MergeState). t .slots) pass-of
 
     next-is : compacted (c .points) (c .quads) P′ Q′ labels (removedIn (c .points) (c .quads) w′) ≡ passLeaves b held
     next-is =
         ap₂ (λ (S : List Slot) (ps : List Point). compact S (take (c .quads) labels) ps) slots-are (D .points ∙ ap (λ (t : MergeState). t .points) pass-of)
-        ∙ ap (λ (k : ℕ). compact (mergePass (mergeFits b) (mergePosition b) held .slots) (take k labels) (mergePass (mergeFits b) (mergePosition b) held .points)) (sym same-count)
+        ∙ ap (λ (k : ℕ). compact (bandPass b held .slots) (take k labels) (bandPass b held .points)) (sym same-count)
 
     pub compacting : length P′ ≡ length P → length w′ ≡ length w → Compacting (c .points) (c .quads) (length P′) Q′ (length labels) (removedAt (c .points) (c .quads)) (24 * (c .points + c .quads)) w′ f
     compacting lp lw = record {

@@ -20,6 +20,7 @@ use Rattle.fits.specs.MergeFits.{mergeFits, mergePosition}
 use Rattle.fits.proofs.MergeFits.{merge-finite}
 use Rattle.closed.proofs.Fine.{Fine}
 use Rattle.closed.proofs.Demand.{coarse-fine, coarse-fewer}
+use Rattle.coarse.specs.Pass.{bandPass}
 use Rattle.coarsen.specs.declared.Merged.{Merged}
 use Rattle.coarsen.specs.Rule.{coarseSheet}
 use Rattle.coarsen.specs.Passes.{Coarsenable, Remains}
@@ -34,6 +35,7 @@ module _ (b : Band) where
 
   -- one pass, and then l
   run-next : (l : ℕ) (s : Sheet) (m : ℕ) → runFrom (1 + l) s m ≡ runFrom l (coarseSheet b 1 s .left) (m + coarseSheet b 1 s .count)
+  unfolding bandPass
   run-next l s m =
       let e : runFrom 1 s m ≡ record { left = coarseSheet b 1 s .left; count = m + coarseSheet b 1 s .count } = ap (runFrom 1 s) (plus m) ∙ run-from (passCount b) (passLeaves b) 1 s m 0 in
       run-split (passCount b) (passLeaves b) 1 l s m ∙ ap (λ (a : Answer Sheet). runFrom l (a .left) (a .count)) e
@@ -43,6 +45,7 @@ module _ (b : Band) where
 
   -- a pass that merges nothing is the last, and leaves the sheet
   run-last : (s : Sheet) → coarseSheet b 1 s .count ≡ 0 → (eqb (passCount b s) 0 ≡ true) × (coarseSheet b 1 s .left ≡ s)
+  unfolding bandPass
   run-last s = go (eqb (passCount b s) 0) refl
     where
       go : (x : Bool) → eqb (passCount b s) 0 ≡ x
@@ -64,6 +67,7 @@ pub record Running (b : Band) (k : ℕ) (c : Counts) (P₀ : List Float) (Q₀ L
   pub same : runFrom b left (sheetOf d P Q L) total ≡ coarseSheet b k (sheetOf c P₀ Q₀ L₀)
 
 pub running-start : {b : Band} {k : ℕ} {c : Counts} {P : List Float} {Q L w : List ℕ} (z : List Float) → Coarsenable b c P Q L w (length z) → Running b k c P Q L w z c P Q L w z 0 k
+unfolding bandPass
 running-start z A = record { ready = A; points = refl; quads = refl; labelled = refl; work = refl; floats = refl; few = A .sheet .few .quads≤; gone = omega arith; same = refl }
 
 module _ {b : Band} {k : ℕ} {c : Counts} {P₀ : List Float} {Q₀ L₀ w₀ : List ℕ} {z₀ : List Float} {d : Counts} {P : List Float} {Q L w : List ℕ} {z : List Float} {total left : ℕ}

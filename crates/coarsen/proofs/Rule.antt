@@ -15,14 +15,15 @@ use Rattle.sheet.specs.Flat.{flatQuads}
 use Rattle.sheet.specs.Sheet.{Sheet, sheetOf, flatPoints, lentVerdict, sheetVerdict, LentSheet, LentWork}
 use Rattle.sheet.proofs.Tests.{lent-is}
 use Rattle.results.specs.declared.Made.the-variants as made
-use Rattle.results.specs.Results.{cleared, padded, shownCounts, countsOf, makes, Fills, Room}
+use Rattle.results.specs.Outcomes.{Outcome, gives}
+use Rattle.results.specs.Results.{cleared, padded, shownCounts, countsOf, Fills, Room}
 use Rattle.results.proofs.Results.{fills-leaves}
 use Rattle.results.proofs.Fronts.{front-points, front-quads}
 use Rattle.swaps.specs.Runs.{Answer}
 use Rattle.coarsen.specs.declared.Merged.{Merged}
 use Rattle.coarsen.specs.declared.Coarsened.{Coarsened}
 use Rattle.coarsen.specs.declared.Coarsened.the-variants.{Done, Refused}
-use Rattle.coarsen.specs.Rule.{Outcome, coarsens, coarseSheet, coarsenRule, Leaves}
+use Rattle.coarsen.specs.Rule.{coarseSheet, coarsenRule, Leaves}
 use Rattle.coarsen.specs.Passes.{Coarsenable, Remains, Unchanged, Finds, refused, done}
 use Rattle.coarsen.proofs.Accepted.{counts-of}
 
@@ -73,7 +74,7 @@ module _ {a : Answer Sheet} {r : Merged} {P : List Float} {Q labels : List ℕ} 
   counts : r .sheet ≡ countsOf (a .left)
   counts = sym (counts-of (r .sheet) P Q labels (R .room .labels)) ∙ ap countsOf (R .sheet)
 
-  fills : Fills (makes (a .left)) (made.Done (r .sheet)) P Q labels
+  fills : Fills (gives (a .left)) (made.Done (r .sheet)) P Q labels
   fills = record {
     answer = ap made.Done counts;
     points = rw (← R .sheet) (front-points (r .sheet .points) P (R .room .points));
@@ -86,7 +87,7 @@ module _ {a : Answer Sheet} {r : Merged} {P : List Float} {Q labels : List ℕ} 
 
   -- cleared behind the sheet
   pub remains-leaves : (P₀ : List Float) (Q₀ labels₀ : List ℕ) → length P ≡ length P₀ → length Q ≡ length Q₀ → length labels ≡ length labels₀
-      → Leaves (coarsens a) P₀ Q₀ labels₀ (Done r) (cleared zeroF (3 * r .sheet .points) P) (cleared 0 (4 * r .sheet .quads) Q) (cleared 0 (r .sheet .labels) labels)
+      → Leaves (gives a) P₀ Q₀ labels₀ (Done r) (cleared zeroF (3 * r .sheet .points) P) (cleared 0 (4 * r .sheet .quads) Q) (cleared 0 (r .sheet .labels) labels)
   unfolding shownCounts
   remains-leaves P₀ Q₀ labels₀ lp lq ll = let F = fills-leaves fills in record {
     answer = ap Done merged-is;
@@ -95,12 +96,12 @@ module _ {a : Answer Sheet} {r : Merged} {P : List Float} {Q labels : List ℕ} 
     labelled = F .labelled ∙ ap (λ (n : ℕ). padded 0 n (a .left .labels)) ll;
   }
 
-module _ {P : List Float} {Q labels : List ℕ} {o : Outcome} {r : Coarsened} {P′ : List Float} {Q′ labels′ : List ℕ} (F : Finds P Q labels o r P′ Q′ labels′) where
+module _ {P : List Float} {Q labels : List ℕ} {o : Outcome (Answer Sheet)} {r : Coarsened} {P′ : List Float} {Q′ labels′ : List ℕ} (F : Finds P Q labels o r P′ Q′ labels′) where
   -- a refusal leaves the slices as they were lent
   pub finds-refused : {n : ℕ} → r ≡ Refused n → Leaves o P Q labels r P′ Q′ labels′
   finds-refused = go F
     where
-      go : {o : Outcome} {r : Coarsened} {P′ : List Float} {Q′ labels′ : List ℕ} {n : ℕ} → Finds P Q labels o r P′ Q′ labels′ → r ≡ Refused n → Leaves o P Q labels r P′ Q′ labels′
+      go : {o : Outcome (Answer Sheet)} {r : Coarsened} {P′ : List Float} {Q′ labels′ : List ℕ} {n : ℕ} → Finds P Q labels o r P′ Q′ labels′ → r ≡ Refused n → Leaves o P Q labels r P′ Q′ labels′
       go (refused U) e = record { answer = refl; points = U .points; quads = U .quads; labelled = U .labelled }
       go (done R) e = absurd (let z : _≡_ {A = ℕ} 0 1 = cc in omega arith)
 
@@ -108,7 +109,7 @@ module _ {P : List Float} {Q labels : List ℕ} {o : Outcome} {r : Coarsened} {P
   pub finds-room : {m : Merged} → r ≡ Done m → Room (m .sheet) (length P′) (length Q′) (length labels′)
   finds-room = go F
     where
-      go : {o : Outcome} {r : Coarsened} {P′ : List Float} {Q′ labels′ : List ℕ} {m : Merged} → Finds P Q labels o r P′ Q′ labels′ → r ≡ Done m → Room (m .sheet) (length P′) (length Q′) (length labels′)
+      go : {o : Outcome (Answer Sheet)} {r : Coarsened} {P′ : List Float} {Q′ labels′ : List ℕ} {m : Merged} → Finds P Q labels o r P′ Q′ labels′ → r ≡ Done m → Room (m .sheet) (length P′) (length Q′) (length labels′)
       go (refused U) e = absurd (let z : _≡_ {A = ℕ} 0 1 = cc in omega arith)
       go {m = m} (done {r = r} R) e = let s : r ≡ m = cc in rw (← s) (R .room)
 
@@ -116,7 +117,7 @@ module _ {P : List Float} {Q labels : List ℕ} {o : Outcome} {r : Coarsened} {P
       → P″ ≡ cleared zeroF (3 * m .sheet .points) P′ → Q″ ≡ cleared 0 (4 * m .sheet .quads) Q′ → labels″ ≡ cleared 0 (m .sheet .labels) labels′ → Leaves o P Q labels (Done m) P″ Q″ labels″
   finds-done = go F
     where
-      go : {o : Outcome} {r : Coarsened} {P′ : List Float} {Q′ labels′ : List ℕ} {m : Merged} {P″ : List Float} {Q″ labels″ : List ℕ} → Finds P Q labels o r P′ Q′ labels′ → r ≡ Done m
+      go : {o : Outcome (Answer Sheet)} {r : Coarsened} {P′ : List Float} {Q′ labels′ : List ℕ} {m : Merged} {P″ : List Float} {Q″ labels″ : List ℕ} → Finds P Q labels o r P′ Q′ labels′ → r ≡ Done m
           → length P′ ≡ length P → length Q′ ≡ length Q → length labels′ ≡ length labels
           → P″ ≡ cleared zeroF (3 * m .sheet .points) P′ → Q″ ≡ cleared 0 (4 * m .sheet .quads) Q′ → labels″ ≡ cleared 0 (m .sheet .labels) labels′ → Leaves o P Q labels (Done m) P″ Q″ labels″
       go (refused U) e lp lq ll ep eq el = absurd (let z : _≡_ {A = ℕ} 0 1 = cc in omega arith)

@@ -8,12 +8,12 @@ use Rattle.band.specs.declared.Band.{Band}
 use Rattle.sheet.specs.declared.Counts.{Counts}
 use Rattle.sheet.specs.declared.Verdict.the-variants.{Accepted}
 use Rattle.sheet.specs.Sheet.{Sheet, sheetOf, LentSheet, LentWork, sheetVerdict}
+use Rattle.results.specs.Outcomes.{Outcome, refuses, gives}
 use Rattle.results.specs.Results.{Room}
 use Rattle.swaps.specs.Runs.{Answer}
 use Rattle.coarsen.specs.declared.Merged.{Merged}
 use Rattle.coarsen.specs.declared.Coarsened.{Coarsened}
 use Rattle.coarsen.specs.declared.Coarsened.the-variants.{Done, Refused}
-use Rattle.coarsen.specs.Rule.{Outcome, refuses, coarsens}
 
 -- what 12, 13, 1, 5, 6 and 7 leave of the slices; f is the length of the floats
 pub record Coarsenable (b : Band) (c : Counts) (P : List Float) (Q labels w : List ℕ) (f : ℕ) : Type 0 where
@@ -34,6 +34,6 @@ pub record Unchanged (P : List Float) (Q labels : List ℕ) (P′ : List Float) 
   pub labelled : labels′ ≡ labels
 
 -- the answer to an outcome: a refusal with the slices unchanged, or what the passes leave
-pub data Finds (P : List Float) (Q labels : List ℕ) : Outcome → Coarsened → List Float → List ℕ → List ℕ → Type 0 where
+pub data Finds (P : List Float) (Q labels : List ℕ) : Outcome (Answer Sheet) → Coarsened → List Float → List ℕ → List ℕ → Type 0 where
   refused : {n : ℕ} {P′ : List Float} {Q′ labels′ : List ℕ} → Unchanged P Q labels P′ Q′ labels′ → Finds P Q labels (refuses n) (Refused n) P′ Q′ labels′
-  done : {a : Answer Sheet} {r : Merged} {P′ : List Float} {Q′ labels′ : List ℕ} → Remains a r P′ Q′ labels′ → Finds P Q labels (coarsens a) (Done r) P′ Q′ labels′
+  done : {a : Answer Sheet} {r : Merged} {P′ : List Float} {Q′ labels′ : List ℕ} → Remains a r P′ Q′ labels′ → Finds P Q labels (gives a) (Done r) P′ Q′ labels′

@@ -10,20 +10,16 @@ use Rattle.numeric.specs.Num.{zeroF}
 use Rattle.band.specs.declared.Band.{Band}
 use Rattle.sheet.specs.declared.Counts.{Counts}
 use Rattle.sheet.specs.declared.Verdict.{Verdict}
-use Rattle.sheet.specs.declared.Verdict.the-variants.{Accepted, Refused}
+use Rattle.sheet.specs.declared.Verdict.the-variants.{Accepted}
 use Rattle.sheet.specs.Flat.{flatQuads}
 use Rattle.sheet.specs.Sheet.{Sheet, sheetOf, flatPoints, lentVerdict, sheetVerdict}
+use Rattle.results.specs.Outcomes.{Outcome, refuses, gives, afterTest}
 use Rattle.results.specs.Results.{padded, countsOf}
 use Rattle.swaps.specs.Runs.{Answer}
 use Rattle.merges.specs.Coarse.{coarseRun}
 use Rattle.fits.specs.MergeFits.{mergeFits, mergePosition}
 use Rattle.coarsen.specs.declared.Coarsened as answers
 use Rattle.coarsen.specs.declared.Coarsened.{Coarsened}
-
--- what the rule gives: the number of a refusal, or the sheet that is left and the merges made
-pub data Outcome : Type 0 where
-  refuses : ℕ → Outcome
-  coarsens : Answer Sheet → Outcome
 
 -- at most k passes over a sheet
 abbrev pub coarseSheet : Band → ℕ → Sheet → Answer Sheet
@@ -33,37 +29,33 @@ coarseSheet b k s = coarseRun (mergeFits b) (mergePosition b) k s
 abbrev pub passesVerdict : Band → ℕ → Sheet → Verdict
 passesVerdict b k s = cond (eqb k 0) Accepted (sheetVerdict b s)
 
+-- the rule over slices: points P, quads Q, labels, and work slices of w and f elements; it gives the sheet that is left and the merges made
 -- "Order for a lent sheet: 12, 13 (counts or work), 1, 5, 6, 7"
-abbrev pub afterTests : Verdict → Outcome → Outcome
-afterTests Accepted o = o
-afterTests (Refused n) o = refuses n
-
--- the rule over slices: points P, quads Q, labels, and work slices of w and f elements
-unfoldable pub coarsenRule : Band → ℕ → Counts → List Float → List ℕ → List ℕ → ℕ → ℕ → Outcome
+unfoldable pub coarsenRule : Band → ℕ → Counts → List Float → List ℕ → List ℕ → ℕ → ℕ → Outcome (Answer Sheet)
 coarsenRule b k c P Q labels w f =
-    afterTests (lentVerdict c (length P) (length Q) (length labels) w f)
-    (afterTests (passesVerdict b k (sheetOf c P Q labels)) (coarsens (coarseSheet b k (sheetOf c P Q labels))))
+    afterTest (lentVerdict c (length P) (length Q) (length labels) w f)
+    (afterTest (passesVerdict b k (sheetOf c P Q labels)) (gives (coarseSheet b k (sheetOf c P Q labels))))
 
 -- the answer of an outcome: its number, or its count and the counts of the sheet that is left
-abbrev pub answerOf : Outcome → Coarsened
+abbrev pub answerOf : Outcome (Answer Sheet) → Coarsened
 answerOf (refuses n) = answers.the-variants.Refused n
-answerOf (coarsens a) = answers.the-variants.Done (record { count = a .count; sheet = countsOf (a .left) })
+answerOf (gives a) = answers.the-variants.Done (record { count = a .count; sheet = countsOf (a .left) })
 
 -- what an outcome leaves in slices that held P, Q and L: "A sheet altered in its own slices stays unchanged" on a refusal; "so are unused tails after success"
-abbrev pub pointsLeft : Outcome → List Float → List Float
+abbrev pub pointsLeft : Outcome (Answer Sheet) → List Float → List Float
 pointsLeft (refuses n) P = P
-pointsLeft (coarsens a) P = padded zeroF (length P) (flatPoints (a .left .points))
+pointsLeft (gives a) P = padded zeroF (length P) (flatPoints (a .left .points))
 
-abbrev pub quadsLeft : Outcome → List ℕ → List ℕ
+abbrev pub quadsLeft : Outcome (Answer Sheet) → List ℕ → List ℕ
 quadsLeft (refuses n) Q = Q
-quadsLeft (coarsens a) Q = padded 0 (length Q) (flatQuads (a .left .quads))
+quadsLeft (gives a) Q = padded 0 (length Q) (flatQuads (a .left .quads))
 
-abbrev pub labelsLeft : Outcome → List ℕ → List ℕ
+abbrev pub labelsLeft : Outcome (Answer Sheet) → List ℕ → List ℕ
 labelsLeft (refuses n) L = L
-labelsLeft (coarsens a) L = padded 0 (length L) (a .left .labels)
+labelsLeft (gives a) L = padded 0 (length L) (a .left .labels)
 
 -- the answer r of the operation, and the slices P′, Q′ and L′ at its end, P, Q and L being those that it was lent
-pub record Leaves (o : Outcome) (P : List Float) (Q L : List ℕ) (r : Coarsened) (P′ : List Float) (Q′ L′ : List ℕ) : Type 0 where
+pub record Leaves (o : Outcome (Answer Sheet)) (P : List Float) (Q L : List ℕ) (r : Coarsened) (P′ : List Float) (Q′ L′ : List ℕ) : Type 0 where
   pub answer : r ≡ answerOf o
   pub points : P′ ≡ pointsLeft o P
   pub quads : Q′ ≡ quadsLeft o Q

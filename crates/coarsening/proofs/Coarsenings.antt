@@ -9,11 +9,14 @@ use Rattle.band.specs.declared.Band.{Band}
 use Rattle.sheet.specs.Numbers.{short}
 use Rattle.sheet.specs.declared.Counts.{Counts}
 use Rattle.sheet.specs.declared.Verdict.the-variants as verdict
+use Rattle.sheet.specs.Sheet.{Sheet}
+use Rattle.results.specs.Outcomes.{Outcome, refuses}
 use Rattle.exports.specs.Given.{bandOf, bandVerdict}
 use Rattle.exports.specs.Answers.{answered}
+use Rattle.swaps.specs.Runs.{Answer}
 use Rattle.coarsen.specs.declared.Coarsened.{Coarsened}
 use Rattle.coarsen.specs.declared.Coarsened.the-variants.{Refused}
-use Rattle.coarsen.specs.Rule.{Outcome, refuses, coarsenRule, answerOf, Leaves}
+use Rattle.coarsen.specs.Rule.{coarsenRule, Leaves}
 use Rattle.coarsening.specs.Coarsenings.{coarsenedNumber, coarsenedCount, coarsenedCounts, coarsenBy, mergesLeft, Coarsens}
 
 -- what a refusal leaves: the slices as they came
@@ -32,12 +35,12 @@ module _ (P : List Float) (Q L : List ℕ) (c : Counts) (kind : ℕ) (numbers bo
   coarsen-with b e eb h = rw (e, ← eb) h
 
 -- an answer slice that is too short
-pub short-coarsens : (o : Outcome) (P : List Float) (Q L l : List ℕ) → length l < 4 → Coarsens o P Q L l short P Q L l
+pub short-coarsens : (o : Outcome (Answer Sheet)) (P : List Float) (Q L l : List ℕ) → length l < 4 → Coarsens o P Q L l short P Q L l
 unfolding coarsenedNumber mergesLeft
 short-coarsens o P Q L l h = let e = lt-ltb (length l) 4 h in record { number = rw e; leaves = rw e (refused-leaves short P Q L); answer = rw e }
 
 -- one that is not
-pub coarsens : (o : Outcome) (P : List Float) (Q L l : List ℕ) {r : Coarsened} {n k : ℕ} {d : Counts} {P′ : List Float} {Q′ L′ l′ : List ℕ} → 4 ≤ length l → Leaves o P Q L r P′ Q′ L′ → n ≡ coarsenedNumber r
+pub coarsens : (o : Outcome (Answer Sheet)) (P : List Float) (Q L l : List ℕ) {r : Coarsened} {n k : ℕ} {d : Counts} {P′ : List Float} {Q′ L′ l′ : List ℕ} → 4 ≤ length l → Leaves o P Q L r P′ Q′ L′ → n ≡ coarsenedNumber r
     → k ≡ coarsenedCount r → d ≡ coarsenedCounts r → l′ ≡ answered k d l → Coarsens o P Q L l n P′ Q′ L′ l′
 unfolding mergesLeft
 coarsens o P Q L l h a en ek ed el =

@@ -7,12 +7,14 @@ use lib.Dec.{ltb}
 use lib.ListN.{length}
 use lib.Ieee.{Float}
 use Rattle.sheet.specs.declared.Counts.{Counts}
-use Rattle.sheet.specs.Numbers.{short}
+use Rattle.sheet.specs.Sheet.{Sheet}
+use Rattle.results.specs.Outcomes.{Outcome, afterTest, roomFor}
 use Rattle.exports.specs.Given.{bandOf, bandVerdict}
 use Rattle.exports.specs.Answers.{answered}
+use Rattle.swaps.specs.Runs.{Answer}
 use Rattle.coarsen.specs.declared.Coarsened.{Coarsened}
 use Rattle.coarsen.specs.declared.Coarsened.the-variants.{Done, Refused}
-use Rattle.coarsen.specs.Rule.{Outcome, refuses, coarsenRule, afterTests, answerOf, Leaves}
+use Rattle.coarsen.specs.Rule.{coarsenRule, answerOf, Leaves}
 
 -- the number of an answer: 0 if accepted
 unfoldable pub coarsenedNumber : Coarsened → ℕ
@@ -30,20 +32,16 @@ coarsenedCounts (Done m) = m .sheet
 coarsenedCounts (Refused n) = record { points = 0; quads = 0; labels = 0 }
 
 -- `coarsen` with a band as an export is given it: 13 and 1 of the band come first
-unfoldable pub coarsenBy : List Float → List ℕ → List ℕ → Counts → ℕ → List Float → List Float → Float → Float → ℕ → ℕ → ℕ → Outcome
+unfoldable pub coarsenBy : List Float → List ℕ → List ℕ → Counts → ℕ → List Float → List Float → Float → Float → ℕ → ℕ → ℕ → Outcome (Answer Sheet)
 coarsenBy P Q labels c kind numbers bounds lower upper k w f =
-    afterTests (bandVerdict kind (length numbers) (length bounds)) (coarsenRule (bandOf kind numbers bounds lower upper) k c P Q labels w f)
-
--- an answer slice of n elements: fewer than 4 are too short, 13
-abbrev pub coarsenRoom : ℕ → Outcome → Outcome
-coarsenRoom n o = cond (ltb n 4) (refuses short) o
+    afterTest (bandVerdict kind (length numbers) (length bounds)) (coarsenRule (bandOf kind numbers bounds lower upper) k c P Q labels w f)
 
 -- the answer slice l at the end: untouched if it is too short
-unfoldable pub mergesLeft : Outcome → List ℕ → List ℕ
+unfoldable pub mergesLeft : Outcome (Answer Sheet) → List ℕ → List ℕ
 mergesLeft o l = cond (ltb (length l) 4) l (answered (coarsenedCount (answerOf o)) (coarsenedCounts (answerOf o)) l)
 
 -- the number n of the export, and the slices P′, Q′, L′ and the answer l′ at its end, P, Q, L and l being those that it was lent
-pub record Coarsens (o : Outcome) (P : List Float) (Q L l : List ℕ) (n : ℕ) (P′ : List Float) (Q′ L′ l′ : List ℕ) : Type 0 where
-  pub number : n ≡ coarsenedNumber (answerOf (coarsenRoom (length l) o))
-  pub leaves : Leaves (coarsenRoom (length l) o) P Q L (answerOf (coarsenRoom (length l) o)) P′ Q′ L′
+pub record Coarsens (o : Outcome (Answer Sheet)) (P : List Float) (Q L l : List ℕ) (n : ℕ) (P′ : List Float) (Q′ L′ l′ : List ℕ) : Type 0 where
+  pub number : n ≡ coarsenedNumber (answerOf (roomFor (length l) o))
+  pub leaves : Leaves (roomFor (length l) o) P Q L (answerOf (roomFor (length l) o)) P′ Q′ L′
   pub answer : l′ ≡ mergesLeft o l

@@ -26,7 +26,8 @@ use Rattle.sheet.proofs.Flat.{length-quads}
 use Rattle.sheet.proofs.Tests.{or-left, or-right, holds-of, length-points, bare-is, labels-match, holds-quads}
 use Rattle.results.specs.declared.Made.{Made}
 use Rattle.results.specs.declared.Made.the-variants.{Done}
-use Rattle.results.specs.Results.{Outcome, refuses, makes, countsOf, answerOf, Front, Fills}
+use Rattle.results.specs.Outcomes.{Outcome, refuses, gives}
+use Rattle.results.specs.Results.{countsOf, answerOf, Front, Fills}
 use Rattle.results.proofs.Results.{refused-fills}
 use Rattle.results.proofs.Fronts.{points-front, quads-front}
 use Rattle.sampling.specs.declared.Grid.{Grid}
@@ -90,7 +91,7 @@ module _ (s : Sheet) (c : Counts) (A : List Float) (B D : List ℕ) (e : c ≡ c
       let z : take (c .labels) D ≡ s .labels = ap (λ (t : Sheet). t .labels) read-is in
       rw (y, z, ap (λ (k : Counts). k .points) e) h
 
-  by : (b m : Bool) → let o = cond b (refuses 5) (cond m (makes s) (refuses 7)) in Fills o (answerOf o) A B D
+  by : (b m : Bool) → let o = cond b (refuses 5) (cond m (gives s) (refuses 7)) in Fills o (answerOf o) A B D
   by true m = refused-fills 5 A B D
   by false true = record { answer = refl; points = F .0; quads = F .1 .0; labelled = F .1 .1 }
   by false false = refused-fills 7 A B D
@@ -189,7 +190,7 @@ sample-ready cells w F R =
     (omega arith, (rw z (length-take-le _ F (R .floats)), R .work))
 
 module _ (b : Band) (cells w f p q l : ℕ) (A : List Float) (B D : List ℕ) where
-  abbrev Rule : Outcome
+  abbrev Rule : Outcome Sheet
   Rule = extractRule b cells w f p q l
 
   pub rule-box : validOf b ≡ false → Fills Rule (answerOf (refuses 1)) A B D

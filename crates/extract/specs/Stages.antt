@@ -5,14 +5,14 @@ use lib.ListN.{length}
 use Rattle.sheet.specs.Tests.{goodMasks}
 use Rattle.sheet.specs.Numbers.{bare, clash}
 use Rattle.sheet.specs.Sheet.{Sheet, isBare}
-use Rattle.results.specs.Results.{Outcome, refuses, makes}
+use Rattle.results.specs.Outcomes.{Outcome, refuses, gives}
 use Rattle.sampling.specs.declared.Grid.{Grid}
 use Rattle.drawing.specs.Drawing.{samplesNumber, finiteSamples, drawnSheet, drawnOr}
 
 -- 5, 7
-unfoldable pub testedOr : Sheet → Outcome
-testedOr s = cond (isBare s) (refuses bare) (cond (goodMasks (length (s .points)) (s .quads) (s .labels)) (makes s) (refuses clash))
+unfoldable pub testedOr : Sheet → Outcome Sheet
+testedOr s = cond (isBare s) (refuses bare) (cond (goodMasks (length (s .points)) (s .quads) (s .labels)) (gives s) (refuses clash))
 
 -- 4, 13 (result), 5, 7
-unfoldable pub sampledOr : Grid → ℕ → ℕ → ℕ → ℕ → Outcome
+unfoldable pub sampledOr : Grid → ℕ → ℕ → ℕ → ℕ → Outcome Sheet
 sampledOr g n p q l = cond (not (finiteSamples g (n + 1))) (refuses samplesNumber) (drawnOr (drawnSheet g n) p q l)

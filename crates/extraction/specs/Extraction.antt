@@ -3,11 +3,12 @@ use Prim.Native.Nat.{ℕ}
 use mathlib.Core.List.{List}
 use lib.Ieee.{Float}
 use lib.ListN.{length}
+use Rattle.sheet.specs.Sheet.{Sheet}
+use Rattle.results.specs.Outcomes.{Outcome, afterTest}
 use Rattle.exports.specs.Given.{bandOf, bandVerdict}
-use Rattle.results.specs.Results.{Outcome, afterLent}
 use Rattle.drawing.specs.Drawing.{extractRule}
 
 -- 13 and 1 of the band that is given come first
-unfoldable pub extractBy : ℕ → List Float → List Float → Float → Float → ℕ → ℕ → ℕ → ℕ → ℕ → ℕ → Outcome
+unfoldable pub extractBy : ℕ → List Float → List Float → Float → Float → ℕ → ℕ → ℕ → ℕ → ℕ → ℕ → Outcome Sheet
 extractBy kind numbers bounds lower upper cells w f p q l =
-    afterLent (bandVerdict kind (length numbers) (length bounds)) (extractRule (bandOf kind numbers bounds lower upper) cells w f p q l)
+    afterTest (bandVerdict kind (length numbers) (length bounds)) (extractRule (bandOf kind numbers bounds lower upper) cells w f p q l)

@@ -6,8 +6,9 @@ use sheet::Verdict;
 ghost use mathlib.Core.Path.{_≡_};
 ghost use lib.ListN.{length, replicate};
 ghost use Rattle.numeric.specs.Num.{zeroF};
+ghost use Rattle.results.specs.Outcomes.{roomFor};
 ghost use Rattle.results.specs.Results.{Leaves};
-ghost use Rattle.making.specs.Exports.{roomFor, Exports, answerLeft};
+ghost use Rattle.making.specs.Exports.{Exports, answerLeft};
 ghost use Rattle.extraction.specs.Extraction.{extractBy};
 
 // `extract_candidate` with the band that is given.

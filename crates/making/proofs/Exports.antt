@@ -8,13 +8,15 @@ use borrow.Author.Tests.{lt-ltb, le-ltb}
 use Rattle.numeric.specs.Num.{zeroF}
 use Rattle.sheet.specs.Numbers.{short}
 use Rattle.sheet.specs.declared.Counts.{Counts}
+use Rattle.sheet.specs.Sheet.{Sheet}
 use Rattle.results.specs.declared.Made.{Made}
 use Rattle.exports.specs.Answers.{answered}
-use Rattle.results.specs.Results.{cleared, shownCounts, Outcome, refuses, answerOf, Leaves}
+use Rattle.results.specs.Outcomes.{Outcome, roomFor}
+use Rattle.results.specs.Results.{cleared, shownCounts, answerOf, Leaves}
 use Rattle.making.proofs.Making.{cleared-leaves}
-use Rattle.making.specs.Exports.{roomFor, madeNumber, Exports, answerLeft}
+use Rattle.making.specs.Exports.{madeNumber, Exports, answerLeft}
 
-module _ (o : Outcome) where
+module _ (o : Outcome Sheet) where
   -- 13, and cleared slices, where the answer slice has n elements and n is too small
   pub short-exports : (n : ℕ) (P : List Float) (Q labels : List ℕ) {P′ : List Float} {Q′ labels′ : List ℕ} → n < 4
       → P′ ≡ cleared zeroF (3 * 0) P → Q′ ≡ cleared 0 (4 * 0) Q → labels′ ≡ cleared 0 0 labels

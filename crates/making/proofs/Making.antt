@@ -13,7 +13,8 @@ use Rattle.band.specs.declared.Band.{Band}
 use Rattle.exports.specs.Given.{bandOf, bandVerdict}
 use Rattle.subdivide.specs.Subdivide.{subdivideRule}
 use Rattle.rows.specs.Rows.{rowsRule}
-use Rattle.results.specs.Results.{cleared, shownCounts, Outcome, refuses, Leaves}
+use Rattle.results.specs.Outcomes.{refuses}
+use Rattle.results.specs.Results.{cleared, shownCounts, Leaves}
 use Rattle.results.proofs.Results.{refused-fills, fills-leaves}
 use Rattle.making.specs.Making.{subdivideBy, rowsBy}
 

@@ -6,16 +6,12 @@ use mathlib.Core.List.{List}
 use lib.Dec.{ltb}
 use lib.Ieee.{Float}
 use lib.ListN.{length}
-use Rattle.sheet.specs.Numbers.{short}
-use Rattle.sheet.specs.declared.Counts.{Counts}
+use Rattle.sheet.specs.Sheet.{Sheet}
 use Rattle.results.specs.declared.Made.{Made}
 use Rattle.results.specs.declared.Made.the-variants.{Done, Refused}
 use Rattle.exports.specs.Answers.{answered}
-use Rattle.results.specs.Results.{Outcome, refuses, answerOf, shownCounts, Leaves}
-
--- an answer slice of n elements: fewer than 4 are too short, 13
-abbrev pub roomFor : ℕ → Outcome → Outcome
-roomFor n o = cond (ltb n 4) (refuses short) o
+use Rattle.results.specs.Outcomes.{Outcome}
+use Rattle.results.specs.Results.{answerOf, shownCounts, Leaves}
 
 -- the number that an export returns: 0 if accepted
 unfoldable pub madeNumber : Made → ℕ
@@ -23,10 +19,10 @@ madeNumber (Done c) = 0
 madeNumber (Refused n) = n
 
 -- the number and the result slices, of p, q and l elements, of an export that makes a sheet
-pub record Exports (o : Outcome) (p q l r : ℕ) (P : List Float) (Q labels : List ℕ) : Type 0 where
+pub record Exports (o : Outcome Sheet) (p q l r : ℕ) (P : List Float) (Q labels : List ℕ) : Type 0 where
   pub number : r ≡ madeNumber (answerOf o)
   pub leaves : Leaves o p q l (answerOf o) P Q labels
 
 -- the answer slice l after an export that makes a sheet: untouched if it is too short
-unfoldable pub answerLeft : Outcome → List ℕ → List ℕ
+unfoldable pub answerLeft : Outcome Sheet → List ℕ → List ℕ
 answerLeft o l = cond (ltb (length l) 4) l (answered 0 (shownCounts (answerOf o)) l)

@@ -4,17 +4,18 @@ use mathlib.Core.List.{List}
 use lib.Ieee.{Float}
 use lib.ListN.{length}
 use Rattle.sheet.specs.declared.Counts.{Counts}
+use Rattle.sheet.specs.Sheet.{Sheet}
 use Rattle.exports.specs.Given.{bandOf, bandVerdict}
 use Rattle.subdivide.specs.Subdivide.{subdivideRule}
 use Rattle.rows.specs.Rows.{rowsRule}
-use Rattle.results.specs.Results.{Outcome, afterLent}
+use Rattle.results.specs.Outcomes.{Outcome, afterTest}
 
 -- `subdivide` with a band as an export is given it: 13 and 1 of the band come first
-unfoldable pub subdivideBy : List Float → List ℕ → List ℕ → Counts → ℕ → List Float → List Float → Float → Float → ℕ → ℕ → ℕ → ℕ → ℕ → Outcome
+unfoldable pub subdivideBy : List Float → List ℕ → List ℕ → Counts → ℕ → List Float → List Float → Float → Float → ℕ → ℕ → ℕ → ℕ → ℕ → Outcome Sheet
 subdivideBy P Q labels c kind numbers bounds lower upper w f p q l =
-    afterLent (bandVerdict kind (length numbers) (length bounds)) (subdivideRule (bandOf kind numbers bounds lower upper) c P Q labels w f p q l)
+    afterTest (bandVerdict kind (length numbers) (length bounds)) (subdivideRule (bandOf kind numbers bounds lower upper) c P Q labels w f p q l)
 
 -- `boundary_rows` with a band as an export is given it: 13 and 1 of the band come first
-unfoldable pub rowsBy : List Float → List ℕ → List ℕ → Counts → ℕ → List Float → List Float → Float → Float → ℕ → ℕ → ℕ → ℕ → ℕ → Outcome
+unfoldable pub rowsBy : List Float → List ℕ → List ℕ → Counts → ℕ → List Float → List Float → Float → Float → ℕ → ℕ → ℕ → ℕ → ℕ → Outcome Sheet
 rowsBy P Q labels c kind numbers bounds lower upper w f p q l =
-    afterLent (bandVerdict kind (length numbers) (length bounds)) (rowsRule (bandOf kind numbers bounds lower upper) c P Q labels w f p q l)
+    afterTest (bandVerdict kind (length numbers) (length bounds)) (rowsRule (bandOf kind numbers bounds lower upper) c P Q labels w f p q l)

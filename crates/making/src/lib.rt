@@ -6,9 +6,10 @@ use sheet::Verdict;
 ghost use mathlib.Core.Path.{_≡_};
 ghost use lib.ListN.{length, replicate};
 ghost use Rattle.numeric.specs.Num.{zeroF};
+ghost use Rattle.results.specs.Outcomes.{roomFor};
 ghost use Rattle.results.specs.Results.{Leaves};
 ghost use Rattle.refine.specs.Finer.{refineRule};
-ghost use Rattle.making.specs.Exports.{roomFor, madeNumber, Exports, answerLeft};
+ghost use Rattle.making.specs.Exports.{madeNumber, Exports, answerLeft};
 ghost use Rattle.making.specs.Making.{subdivideBy, rowsBy};
 
 // The number of an answer: 0 if accepted.

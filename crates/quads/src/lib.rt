@@ -5,14 +5,15 @@ ghost use mathlib.Core.Path.{_≡_};
 ghost use mathlib.Core.Bool.{true, false};
 ghost use lib.ListN.{length, replicate};
 ghost use Rattle.numeric.specs.Num.{zeroF};
+ghost use Rattle.results.specs.Outcomes.{roomFor};
 ghost use Rattle.refine.specs.Finer.{refineRule};
 ghost use Rattle.regularize.specs.Rule.{answerOf, quadsLeft};
 ghost use Rattle.extraction.specs.Extraction.{extractBy};
 ghost use Rattle.making.specs.Making.{subdivideBy, rowsBy};
-ghost use Rattle.cleaning.specs.Cleanings.{cleanedNumber, cleanBy, cleanRoom, countLeft};
+ghost use Rattle.cleaning.specs.Cleanings.{cleanedNumber, cleanBy, countLeft};
 ghost use Rattle.coarsening.specs.Coarsenings.{coarsenBy, Coarsens};
 ghost use Rattle.assessing.specs.Assessments.{qualityBy, answersBy, countsLeft, measuresLeft};
-ghost use Rattle.making.specs.Exports.{roomFor, madeNumber, Exports, answerLeft};
+ghost use Rattle.making.specs.Exports.{Exports, answerLeft};
 
 // `extract_candidate`: the counts of the drawn sheet go to answer[1..4], answer[0] is 0.
 #[no_mangle]
@@ -257,8 +258,8 @@ pub extern "C" fn quads_regularize(
     floats: &mut [f64],
     answer: &mut [u64],
 ) -> u32
-    ensures { λ r. ⌜ r ≡ cleanedNumber (answerOf (cleanRoom (length (now (answer .entry))) (cleanBy false (now (points .entry)) (now (quads .entry)) (now (labels .entry)) (record { points = np; quads = nq; labels = nl }) kind (now (numbers .entry)) (now (bounds .entry)) lower upper passes (length (now (work .entry))) (length (now (floats .entry)))))) ⌝ }
-    ensures { λ _. ⌜ now (quads .exit) ≡ quadsLeft (cleanRoom (length (now (answer .entry))) (cleanBy false (now (points .entry)) (now (quads .entry)) (now (labels .entry)) (record { points = np; quads = nq; labels = nl }) kind (now (numbers .entry)) (now (bounds .entry)) lower upper passes (length (now (work .entry))) (length (now (floats .entry))))) (now (quads .entry)) ⌝ }
+    ensures { λ r. ⌜ r ≡ cleanedNumber (answerOf (roomFor (length (now (answer .entry))) (cleanBy false (now (points .entry)) (now (quads .entry)) (now (labels .entry)) (record { points = np; quads = nq; labels = nl }) kind (now (numbers .entry)) (now (bounds .entry)) lower upper passes (length (now (work .entry))) (length (now (floats .entry)))))) ⌝ }
+    ensures { λ _. ⌜ now (quads .exit) ≡ quadsLeft (roomFor (length (now (answer .entry))) (cleanBy false (now (points .entry)) (now (quads .entry)) (now (labels .entry)) (record { points = np; quads = nq; labels = nl }) kind (now (numbers .entry)) (now (bounds .entry)) lower upper passes (length (now (work .entry))) (length (now (floats .entry))))) (now (quads .entry)) ⌝ }
     ensures { λ _. ⌜ now (answer .exit) ≡ countLeft (cleanBy false (now (points .entry)) (now (quads .entry)) (now (labels .entry)) (record { points = np; quads = nq; labels = nl }) kind (now (numbers .entry)) (now (bounds .entry)) lower upper passes (length (now (work .entry))) (length (now (floats .entry)))) (record { points = np; quads = nq; labels = nl }) (now (answer .entry)) ⌝ }
     ensures { λ _. ⌜ now (work .exit) ≡ replicate (length (now (work .entry))) 0 ⌝ }
     ensures { λ _. ⌜ now (floats .exit) ≡ replicate (length (now (floats .entry))) zeroF ⌝ }
@@ -305,8 +306,8 @@ pub extern "C" fn quads_improve_layout(
     floats: &mut [f64],
     answer: &mut [u64],
 ) -> u32
-    ensures { λ r. ⌜ r ≡ cleanedNumber (answerOf (cleanRoom (length (now (answer .entry))) (cleanBy true (now (points .entry)) (now (quads .entry)) (now (labels .entry)) (record { points = np; quads = nq; labels = nl }) kind (now (numbers .entry)) (now (bounds .entry)) lower upper passes (length (now (work .entry))) (length (now (floats .entry)))))) ⌝ }
-    ensures { λ _. ⌜ now (quads .exit) ≡ quadsLeft (cleanRoom (length (now (answer .entry))) (cleanBy true (now (points .entry)) (now (quads .entry)) (now (labels .entry)) (record { points = np; quads = nq; labels = nl }) kind (now (numbers .entry)) (now (bounds .entry)) lower upper passes (length (now (work .entry))) (length (now (floats .entry))))) (now (quads .entry)) ⌝ }
+    ensures { λ r. ⌜ r ≡ cleanedNumber (answerOf (roomFor (length (now (answer .entry))) (cleanBy true (now (points .entry)) (now (quads .entry)) (now (labels .entry)) (record { points = np; quads = nq; labels = nl }) kind (now (numbers .entry)) (now (bounds .entry)) lower upper passes (length (now (work .entry))) (length (now (floats .entry)))))) ⌝ }
+    ensures { λ _. ⌜ now (quads .exit) ≡ quadsLeft (roomFor (length (now (answer .entry))) (cleanBy true (now (points .entry)) (now (quads .entry)) (now (labels .entry)) (record { points = np; quads = nq; labels = nl }) kind (now (numbers .entry)) (now (bounds .entry)) lower upper passes (length (now (work .entry))) (length (now (floats .entry))))) (now (quads .entry)) ⌝ }
     ensures { λ _. ⌜ now (answer .exit) ≡ countLeft (cleanBy true (now (points .entry)) (now (quads .entry)) (now (labels .entry)) (record { points = np; quads = nq; labels = nl }) kind (now (numbers .entry)) (now (bounds .entry)) lower upper passes (length (now (work .entry))) (length (now (floats .entry)))) (record { points = np; quads = nq; labels = nl }) (now (answer .entry)) ⌝ }
     ensures { λ _. ⌜ now (work .exit) ≡ replicate (length (now (work .entry))) 0 ⌝ }
     ensures { λ _. ⌜ now (floats .exit) ≡ replicate (length (now (floats .entry))) zeroF ⌝ }

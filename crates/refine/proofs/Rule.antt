@@ -21,11 +21,12 @@ use Rattle.sheet.specs.declared.Verdict.the-variants.{Accepted, Refused}
 use Rattle.sheet.specs.Quads.{all}
 use Rattle.sheet.specs.Flat.{quadAt, quadsOf, flatQuads}
 use Rattle.sheet.specs.Tests.{inRange}
-use Rattle.sheet.specs.Sheet.{sheetOf, pointsOf, flatPoints, isLarge, isShort, lentVerdict, LentSheet}
+use Rattle.sheet.specs.Sheet.{Sheet, sheetOf, pointsOf, flatPoints, isLarge, isShort, lentVerdict, LentSheet}
 use Rattle.sheet.proofs.Flat.{length-quads}
 use Rattle.sheet.proofs.Tests.{or-left, or-right, all-tab, lent-is, length-points}
 use Rattle.results.specs.declared.Made.{Made}
-use Rattle.results.specs.Results.{Outcome, refuses, makes, answerOf, countsOf, Front, Fills}
+use Rattle.results.specs.Outcomes.{Outcome, refuses, gives}
+use Rattle.results.specs.Results.{answerOf, countsOf, Front, Fills}
 use Rattle.results.proofs.Results.{refused-fills}
 use Rattle.incidence.specs.Corners.{Cornered, edgeOrder}
 use Rattle.refine.specs.Finer.{finerSheet, madeOrShort, refined, refineRule}
@@ -172,7 +173,7 @@ module _ (c : Counts) (P : List Float) (Q labels : List ℕ) (w : ℕ) (R : Refi
       let x = finer-points c P Q labels (R .cornered) (R .same) (R .lent .labels) in
       let y = finer-quads c P Q labels (R .cornered) (R .same) (R .lent .labels) in
       let z = finer-labels c P Q labels (R .cornered) (R .same) (R .lent .labels) in
-      let o : madeOrShort (finerSheet (sheetOf c P Q labels)) p q l ≡ makes (finerSheet (sheetOf c P Q labels)) = rw (counts-are, h, s) in
+      let o : madeOrShort (finerSheet (sheetOf c P Q labels)) p q l ≡ gives (finerSheet (sheetOf c P Q labels)) = rw (counts-are, h, s) in
       rw o (record { answer = ap made.Done (sym counts-are); points = rw x (E .0); quads = rw y (E .1 .0); labelled = rw z (E .1 .1) })
 
 -- ---- the tests before
@@ -203,7 +204,7 @@ range-is n nq Q = bool-iff _ _
     one q (suc (suc (suc (suc j)))) h e = absurd (omega arith)
 
 module _ (c : Counts) (P : List Float) (Q labels : List ℕ) (w f p q l : ℕ) where
-  abbrev Rule : Outcome
+  abbrev Rule : Outcome Sheet
   Rule = refineRule c P Q labels w f p q l
 
   pub rule-lent : (n : ℕ) (A : List Float) (B D : List ℕ) → lentVerdict c (length P) (length Q) (length labels) w f ≡ Refused n → Fills Rule (answerOf (refuses n)) A B D

@@ -13,7 +13,8 @@ use Rattle.sheet.specs.FirstUse.{firsts, place}
 use Rattle.sheet.specs.Tests.{inRange}
 use Rattle.sheet.specs.Numbers.{bare, corner, short}
 use Rattle.sheet.specs.Sheet.{Sheet, sheetOf, isLarge, isShort, lentVerdict}
-use Rattle.results.specs.Results.{Outcome, refuses, makes, afterLent, countsOf}
+use Rattle.results.specs.Outcomes.{Outcome, refuses, gives, afterTest}
+use Rattle.results.specs.Results.{countsOf}
 
 -- ---- the quads and labels
 
@@ -119,16 +120,16 @@ finerSheet s = record {
 }
 
 -- 13, short: "more points or quads than the result slices or the limit hold"
-abbrev pub madeOrShort : Sheet → ℕ → ℕ → ℕ → Outcome
-madeOrShort t p q l = cond (isLarge (countsOf t) || isShort (countsOf t) p q l) (refuses short) (makes t)
+abbrev pub madeOrShort : Sheet → ℕ → ℕ → ℕ → Outcome Sheet
+madeOrShort t p q l = cond (isLarge (countsOf t) || isShort (countsOf t) p q l) (refuses short) (gives t)
 
 -- "refine: label count only" is 5, "refine: range only" is 6
-unfoldable pub refined : Sheet → ℕ → ℕ → ℕ → Outcome
+unfoldable pub refined : Sheet → ℕ → ℕ → ℕ → Outcome Sheet
 refined s p q l =
     cond (eqb (length (s .labels)) (length (s .quads)))
     (cond (all (inRange (length (s .points))) (s .quads)) (madeOrShort (finerSheet s) p q l) (refuses corner))
     (refuses bare)
 
 -- `refine` of the sheet in lent slices, with work of w and f elements, into result slices of p, q and l elements: 12, 13, 5, 6, 13
-unfoldable pub refineRule : Counts → List Float → List ℕ → List ℕ → ℕ → ℕ → ℕ → ℕ → ℕ → Outcome
-refineRule c P Q labels w f p q l = afterLent (lentVerdict c (length P) (length Q) (length labels) w f) (refined (sheetOf c P Q labels) p q l)
+unfoldable pub refineRule : Counts → List Float → List ℕ → List ℕ → ℕ → ℕ → ℕ → ℕ → ℕ → Outcome Sheet
+refineRule c P Q labels w f p q l = afterTest (lentVerdict c (length P) (length Q) (length labels) w f) (refined (sheetOf c P Q labels) p q l)

@@ -6,22 +6,17 @@ use lib.ListN.{length}
 use lib.Ieee.{Float}
 use Rattle.band.specs.declared.Band.{Band}
 use Rattle.sheet.specs.declared.Counts.{Counts}
-use Rattle.sheet.specs.declared.Verdict.{Verdict}
-use Rattle.sheet.specs.declared.Verdict.the-variants.{Accepted, Refused}
+use Rattle.sheet.specs.declared.Verdict.the-variants.{Accepted}
 use Rattle.sheet.specs.Quads.{Quad}
 use Rattle.sheet.specs.Flat.{flatQuads}
 use Rattle.sheet.specs.Sheet.{Sheet, sheetOf, LentSheet, lentVerdict, sheetVerdict}
+use Rattle.results.specs.Outcomes.{Outcome, refuses, gives, afterTest}
 use Rattle.results.specs.Results.{padded}
 use Rattle.swaps.specs.Runs.{Answer, capped}
 use Rattle.swaps.specs.Swaps.{swapRun}
 use Rattle.fits.specs.SwapFits.{swapFits}
 use Rattle.regularize.specs.declared.Cleaned as answers
 use Rattle.regularize.specs.declared.Cleaned.{Cleaned}
-
--- what a rule gives: the number of a refusal, or the quads that are left and the swaps made
-pub data Outcome : Type 0 where
-  refuses : ℕ → Outcome
-  cleans : Answer (List Quad) → Outcome
 
 -- at most k passes over a sheet, half the gain of each swap at least m
 abbrev pub swapSheet : ℕ → Band → ℕ → Sheet → Answer (List Quad)
@@ -39,36 +34,32 @@ pub record Cleans (a : Answer (List Quad)) (Q : List ℕ) (r : ℕ) (R : List �
   pub count : r ≡ capped (a .count)
   pub quads : R ≡ padded 0 (length Q) (flatQuads (a .left))
 
+-- the rule over slices: points P, quads Q, labels, and work slices of w and f elements; it gives the quads that are left and the swaps made
 -- "Order for a lent sheet: 12, 13 (counts or work), 1, 5, 6, 7"; "Zero passes still validate."
-abbrev pub afterTests : Verdict → Outcome → Outcome
-afterTests Accepted o = o
-afterTests (Refused n) o = refuses n
-
--- the rule over slices: points P, quads Q, labels, and work slices of w and f elements
-unfoldable pub cleanRule : ℕ → Band → ℕ → Counts → List Float → List ℕ → List ℕ → ℕ → ℕ → Outcome
+unfoldable pub cleanRule : ℕ → Band → ℕ → Counts → List Float → List ℕ → List ℕ → ℕ → ℕ → Outcome (Answer (List Quad))
 cleanRule m b k c P Q labels w f =
-    afterTests (lentVerdict c (length P) (length Q) (length labels) w f)
-    (afterTests (sheetVerdict b (sheetOf c P Q labels)) (cleans (swapSheet m b k (sheetOf c P Q labels))))
+    afterTest (lentVerdict c (length P) (length Q) (length labels) w f)
+    (afterTest (sheetVerdict b (sheetOf c P Q labels)) (gives (swapSheet m b k (sheetOf c P Q labels))))
 
 -- "regularize needs more than 0"
-abbrev pub regularizeRule : Band → ℕ → Counts → List Float → List ℕ → List ℕ → ℕ → ℕ → Outcome
+abbrev pub regularizeRule : Band → ℕ → Counts → List Float → List ℕ → List ℕ → ℕ → ℕ → Outcome (Answer (List Quad))
 regularizeRule = cleanRule 1
 
 -- "improve_layout also takes 0"
-abbrev pub improveRule : Band → ℕ → Counts → List Float → List ℕ → List ℕ → ℕ → ℕ → Outcome
+abbrev pub improveRule : Band → ℕ → Counts → List Float → List ℕ → List ℕ → ℕ → ℕ → Outcome (Answer (List Quad))
 improveRule = cleanRule 0
 
 -- the answer of an outcome: its number, or its count
-abbrev pub answerOf : Outcome → Cleaned
+abbrev pub answerOf : Outcome (Answer (List Quad)) → Cleaned
 answerOf (refuses n) = answers.the-variants.Refused n
-answerOf (cleans a) = answers.the-variants.Done (capped (a .count))
+answerOf (gives a) = answers.the-variants.Done (capped (a .count))
 
 -- the quads that an outcome leaves in a slice that held Q: "A sheet altered in its own slices stays unchanged" on a refusal; "so are unused tails after success"
-abbrev pub quadsLeft : Outcome → List ℕ → List ℕ
+abbrev pub quadsLeft : Outcome (Answer (List Quad)) → List ℕ → List ℕ
 quadsLeft (refuses n) Q = Q
-quadsLeft (cleans a) Q = padded 0 (length Q) (flatQuads (a .left))
+quadsLeft (gives a) Q = padded 0 (length Q) (flatQuads (a .left))
 
 -- the answer r of an operation, and the quads R at its end, Q being those that it was lent
-pub record Leaves (o : Outcome) (Q : List ℕ) (r : Cleaned) (R : List ℕ) : Type 0 where
+pub record Leaves (o : Outcome (Answer (List Quad))) (Q : List ℕ) (r : Cleaned) (R : List ℕ) : Type 0 where
   pub answer : r ≡ answerOf o
   pub quads : R ≡ quadsLeft o Q

@@ -6,12 +6,11 @@ use lib.ListN.{length, take, replicate}
 use lib.Ieee.{Float}
 use Rattle.numeric.specs.Num.{zeroF}
 use Rattle.sheet.specs.declared.Counts.{Counts}
-use Rattle.sheet.specs.declared.Verdict.{Verdict}
 use Rattle.sheet.specs.Flat.{flatQuads}
 use Rattle.sheet.specs.Sheet.{Sheet, flatPoints}
 use Rattle.results.specs.declared.Made.{Made}
 use Rattle.results.specs.declared.Made.the-variants.{Done, Refused}
-use Rattle.sheet.specs.declared.Verdict.the-variants as verdict
+use Rattle.results.specs.Outcomes.{Outcome, refuses, gives}
 
 -- the first n elements, and zeros behind them
 unfoldable pub cleared : {A : Type 0} → A → ℕ → List A → List A
@@ -28,35 +27,26 @@ pub record Room (c : Counts) (p q l : ℕ) : Type 0 where
   pub quads : 4 * c .quads ≤ q
   pub labels : c .labels ≤ l
 
--- ---- what the rule of an operation gives: the number of a refusal, or the sheet that is made
-
-pub data Outcome : Type 0 where
-  refuses : ℕ → Outcome
-  makes : Sheet → Outcome
-
--- what follows on a test: its refusal, or else the outcome
-abbrev pub afterLent : Verdict → Outcome → Outcome
-afterLent verdict.Accepted o = o
-afterLent (verdict.Refused n) o = refuses n
+-- ---- an outcome that is a sheet
 
 abbrev pub countsOf : Sheet → Counts
 countsOf s = record { points = length (s .points); quads = length (s .quads); labels = length (s .labels) }
 
-abbrev pub answerOf : Outcome → Made
+abbrev pub answerOf : Outcome Sheet → Made
 answerOf (refuses n) = Refused n
-answerOf (makes s) = Done (countsOf s)
+answerOf (gives s) = Done (countsOf s)
 
 -- the sheet that an outcome shows: none where it is a refusal
-abbrev pub shown : Outcome → Sheet
+abbrev pub shown : Outcome Sheet → Sheet
 shown (refuses n) = record { points = []; quads = []; labels = [] }
-shown (makes s) = s
+shown (gives s) = s
 
 -- n elements that begin with those of l, and are zeros behind them
 unfoldable pub padded : {A : Type 0} → A → ℕ → List A → List A
 padded zero n l = l ++ replicate (n - length l) zero
 
 -- the answer of an operation, and its result slices of p, q and l elements at its end: "result slices become zero" on a refusal, "so are unused tails after success"
-pub record Leaves (o : Outcome) (p q l : ℕ) (r : Made) (P : List Float) (Q labels : List ℕ) : Type 0 where
+pub record Leaves (o : Outcome Sheet) (p q l : ℕ) (r : Made) (P : List Float) (Q labels : List ℕ) : Type 0 where
   pub answer : r ≡ answerOf o
   pub points : P ≡ padded zeroF p (flatPoints (shown o .points))
   pub quads : Q ≡ padded 0 q (flatQuads (shown o .quads))
@@ -69,7 +59,7 @@ pub record Front {A : Type 0} (l s : List A) : Type 0 where
   pub fits : length l ≤ length s
   pub is : take (length l) s ≡ l
 
-pub record Fills (o : Outcome) (r : Made) (P : List Float) (Q labels : List ℕ) : Type 0 where
+pub record Fills (o : Outcome Sheet) (r : Made) (P : List Float) (Q labels : List ℕ) : Type 0 where
   pub answer : r ≡ answerOf o
   pub points : Front (flatPoints (shown o .points)) P
   pub quads : Front (flatQuads (shown o .quads)) Q

@@ -27,7 +27,8 @@ use Rattle.sheet.specs.Sheet.{Sheet, pointsOf, flatPoints, sheetOf, masksOf, Le
 use Rattle.sheet.proofs.Tests.{or-left, or-right, holds-of, lent-is, length-points, bare-is, labels-match, found-nothing, some-quad, proper-of, corners-tested}
 use Rattle.results.specs.declared.Made.{Made}
 use Rattle.results.specs.declared.Made.the-variants as made
-use Rattle.results.specs.Results.{Front, Fills, Outcome, refuses, makes, countsOf, answerOf, afterLent}
+use Rattle.results.specs.Outcomes.{Outcome, refuses, gives, afterTest}
+use Rattle.results.specs.Results.{Front, Fills, countsOf, answerOf}
 use Rattle.incidence.proofs.Corners.{cornered}
 use Rattle.refine.proofs.Edges.{sorted}
 use Rattle.results.proofs.Results.{refused-fills}
@@ -111,7 +112,7 @@ module _ {np nq : ℕ} {P : List Float} {Q labels M w : List ℕ} (G : Gathered 
     sheet-is : sheetOf c A B D ≡ t
     sheet-is = rw (ec, points-front (t .points) A (length (t .points)) FA refl, quads-front (t .quads) B (length (t .quads)) FB refl, front-take (t .labels) D (length (t .labels)) FD refl)
 
-    made-fills : (v : Verdict) (r : Made) → sheetVerdict b t ≡ v → r ≡ madeBy c v → Fills (afterLent v (makes t)) r A B D
+    made-fills : (v : Verdict) (r : Made) → sheetVerdict b t ≡ v → r ≡ madeBy c v → Fills (afterTest v (gives t)) r A B D
     made-fills Accepted r e er = record { answer = er ∙ ap made.Done ec; points = FA; quads = FB; labelled = FD }
     made-fills (Refused n) r e er = rw er (refused-fills n A B D)
 
@@ -264,7 +265,7 @@ module _ (b : Band) (c : Counts) (P : List Float) (Q labels u : List ℕ) (T : T
 -- ---- the tests before
 
 module _ (b : Band) (c : Counts) (P : List Float) (Q labels : List ℕ) (w f p q l : ℕ) where
-  abbrev Rule : Outcome
+  abbrev Rule : Outcome Sheet
   Rule = rowsRule b c P Q labels w f p q l
 
   pub rule-lent : (n : ℕ) (A : List Float) (B D : List ℕ) → lentVerdict c (length P) (length Q) (length labels) w f ≡ Refused n → Fills Rule (answerOf (refuses n)) A B D

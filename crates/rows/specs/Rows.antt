@@ -18,7 +18,8 @@ use Rattle.sheet.specs.Quads.{Quad, quad, all, hasLabel}
 use Rattle.sheet.specs.Edges.{Pair, joinTo, joinOf, edgesOf}
 use Rattle.sheet.specs.Numbers.{edge, short}
 use Rattle.sheet.specs.Sheet.{Sheet, sheetOf, isLarge, isShort, lentVerdict, sheetVerdict}
-use Rattle.results.specs.Results.{Outcome, refuses, makes, countsOf, afterLent}
+use Rattle.results.specs.Outcomes.{Outcome, refuses, gives, afterTest}
+use Rattle.results.specs.Results.{countsOf}
 use Rattle.smoothing.specs.Smooth.{mean, sumOf}
 use Rattle.smoothing.specs.Rounded.{pointwise}
 use Rattle.smoothed.specs.Smoothed.{those, pointQuads, paired, labelCount, pointOf, centreAt}
@@ -165,21 +166,21 @@ rowsSheet b s = record {
 }
 
 -- "boundary_rows 10, 8, 7": the sheet with rows is tested as the lent one was, as in 000; of these tests only 7 can fail
-unfoldable pub rowsMade : Band → Sheet → Outcome
+unfoldable pub rowsMade : Band → Sheet → Outcome Sheet
 rowsMade b s =
     let t = rowsSheet b s in
     cond (all (λ k. isOnto (copyOf b s k)) (copies s))
-    (cond (paired (length (s .points)) (s .quads)) (afterLent (sheetVerdict b t) (makes t)) (refuses edge))
+    (cond (paired (length (s .points)) (s .quads)) (afterTest (sheetVerdict b t) (gives t)) (refuses edge))
     (refuses row)
 
 -- "Result 13 comes next, for more points or quads than the result slices or the limit hold."
-unfoldable pub rowed : Band → Sheet → ℕ → ℕ → ℕ → Outcome
+unfoldable pub rowed : Band → Sheet → ℕ → ℕ → ℕ → Outcome Sheet
 rowed b s p q l =
     let c = countsOf (rowsSheet b s) in
     cond (isLarge c || isShort c p q l) (refuses short) (rowsMade b s)
 
 -- `boundary_rows` of the sheet in lent slices, with work of w and f elements, into result slices of p, q and l elements: 12, 13, 1, 5, 6, 7, 13, 10, 8, 7
-unfoldable pub rowsRule : Band → Counts → List Float → List ℕ → List ℕ → ℕ → ℕ → ℕ → ℕ → ℕ → Outcome
+unfoldable pub rowsRule : Band → Counts → List Float → List ℕ → List ℕ → ℕ → ℕ → ℕ → ℕ → ℕ → Outcome Sheet
 rowsRule b c P Q labels w f p q l =
     let s = sheetOf c P Q labels in
-    afterLent (lentVerdict c (length P) (length Q) (length labels) w f) (afterLent (sheetVerdict b s) (rowed b s p q l))
+    afterTest (lentVerdict c (length P) (length Q) (length labels) w f) (afterTest (sheetVerdict b s) (rowed b s p q l))

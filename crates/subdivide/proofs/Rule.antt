@@ -26,7 +26,8 @@ use Rattle.sheet.proofs.Flat.{length-quads}
 use Rattle.sheet.proofs.Masks.{pack-lt}
 use Rattle.sheet.proofs.Tests.{or-left, or-right, holds-of, lent-is, length-points, bare-is, labels-match, found-nothing, some-quad, proper-of}
 use Rattle.results.specs.declared.Made.{Made}
-use Rattle.results.specs.Results.{Outcome, refuses, answerOf, countsOf, Front, Fills, afterLent}
+use Rattle.results.specs.Outcomes.{Outcome, refuses, afterTest}
+use Rattle.results.specs.Results.{answerOf, countsOf, Front, Fills}
 use Rattle.results.proofs.Results.{refused-fills}
 use Rattle.incidence.proofs.Corners.{cornered}
 use Rattle.refine.specs.Finer.{asked, finerSheet}
@@ -45,8 +46,8 @@ use Rattle.results.specs.declared.Made.the-variants as made
 -- ---- the tests and the projection of the smoothed sheet
 
 module _ (b : Band) (c : Counts) (P : List Float) (Q labels : List ℕ) (L : LentSheet c (length P) (length Q) (length labels)) where
-  abbrev landed : Outcome
-  landed = afterLent (sheetVerdict b (sheetOf c P Q labels)) (projected b (sheetOf c P Q labels))
+  abbrev landed : Outcome Sheet
+  landed = afterTest (sheetVerdict b (sheetOf c P Q labels)) (projected b (sheetOf c P Q labels))
 
   abbrev masks : List ℕ
   masks = masksOf (c .points) (quadsOf (c .quads) Q) (take (c .labels) labels)
@@ -166,14 +167,14 @@ module _ (b : Band) (c : Counts) (P : List Float) (Q labels v : List ℕ) (T : T
     pub tested-done : {A A′ : List Float} {B D : List ℕ} (r : Made) → paired (c .points) (quadsOf (c .quads) Q) ≡ true
         → Front (flatPoints (smoothSheet (flatSheet (c .points) (c .quads) P Q labels) .points)) A
         × (Front (flatQuads (smoothSheet (flatSheet (c .points) (c .quads) P Q labels) .quads)) B × Front (smoothSheet (flatSheet (c .points) (c .quads) P Q labels) .labels) D)
-        → Fills (afterLent (sheetVerdict b (sheetOf (countsAfter c n) A B D)) (projected b (sheetOf (countsAfter c n) A B D))) r A′ B D → Fills (subdivided b lentSheet p q l) r A′ B D
+        → Fills (afterTest (sheetVerdict b (sheetOf (countsAfter c n) A B D)) (projected b (sheetOf (countsAfter c n) A B D))) r A′ B D → Fills (subdivided b lentSheet p q l) r A′ B D
     unfolding subdivided
     tested-done {A} {A′} {B} {D} r e F G = rw (counts-are, o, length-points (c .points) P, e) (rw (same-sheet F) at G)
 
 -- ---- the tests before
 
 module _ (b : Band) (c : Counts) (P : List Float) (Q labels : List ℕ) (w f p q l : ℕ) where
-  abbrev Rule : Outcome
+  abbrev Rule : Outcome Sheet
   Rule = subdivideRule b c P Q labels w f p q l
 
   pub rule-lent : (n : ℕ) (A : List Float) (B D : List ℕ) → lentVerdict c (length P) (length Q) (length labels) w f ≡ Refused n → Fills Rule (answerOf (refuses n)) A B D

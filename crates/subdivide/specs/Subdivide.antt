@@ -13,7 +13,8 @@ use Rattle.sheet.specs.declared.Counts.{Counts}
 use Rattle.sheet.specs.Quads.{maskOf}
 use Rattle.sheet.specs.Numbers.{edge, short}
 use Rattle.sheet.specs.Sheet.{Sheet, sheetOf, isLarge, isShort, lentVerdict, sheetVerdict}
-use Rattle.results.specs.Results.{Outcome, refuses, makes, countsOf, afterLent}
+use Rattle.results.specs.Outcomes.{Outcome, refuses, gives, afterTest}
+use Rattle.results.specs.Results.{countsOf}
 use Rattle.refine.specs.Finer.{finerSheet}
 use Rattle.smoothed.specs.Smoothed.{paired, pointOf, smoothSheet}
 
@@ -41,19 +42,19 @@ projectedSheet b t = record {
 -- ---- the rule
 
 -- 9, astray: "a point's projection fails"
-unfoldable pub projected : Band → Sheet → Outcome
-projected b t = cond (every (landsAt b t) (length (t .points))) (makes (projectedSheet b t)) (refuses astray)
+unfoldable pub projected : Band → Sheet → Outcome Sheet
+projected b t = cond (every (landsAt b t) (length (t .points))) (gives (projectedSheet b t)) (refuses astray)
 
 -- "Result 13 comes next, for more points or quads than the result slices or the limit hold." "Then subdivide 8, 5, 9": the smoothed sheet is
 -- tested as the lent one was, as in 000; of these tests only 5 can fail.
-unfoldable pub subdivided : Band → Sheet → ℕ → ℕ → ℕ → Outcome
+unfoldable pub subdivided : Band → Sheet → ℕ → ℕ → ℕ → Outcome Sheet
 subdivided b s p q l =
     let c = countsOf (finerSheet s) in
     cond (isLarge c || isShort c p q l) (refuses short)
-    (cond (paired (length (s .points)) (s .quads)) (afterLent (sheetVerdict b (smoothSheet s)) (projected b (smoothSheet s))) (refuses edge))
+    (cond (paired (length (s .points)) (s .quads)) (afterTest (sheetVerdict b (smoothSheet s)) (projected b (smoothSheet s))) (refuses edge))
 
 -- `subdivide` of the sheet in lent slices, with work of w and f elements, into result slices of p, q and l elements: 12, 13, 1, 5, 6, 7, 13, 8, 5, 9
-unfoldable pub subdivideRule : Band → Counts → List Float → List ℕ → List ℕ → ℕ → ℕ → ℕ → ℕ → ℕ → Outcome
+unfoldable pub subdivideRule : Band → Counts → List Float → List ℕ → List ℕ → ℕ → ℕ → ℕ → ℕ → ℕ → Outcome Sheet
 subdivideRule b c P Q labels w f p q l =
     let s = sheetOf c P Q labels in
-    afterLent (lentVerdict c (length P) (length Q) (length labels) w f) (afterLent (sheetVerdict b s) (subdivided b s p q l))
+    afterTest (lentVerdict c (length P) (length Q) (length labels) w f) (afterTest (sheetVerdict b s) (subdivided b s p q l))

@@ -14,7 +14,8 @@ ghost use lib.ListN.{length, replicate};
 ghost use Rattle.numeric.specs.Num.{zeroF};
 ghost use Rattle.lists.specs.Every.{every};
 ghost use Rattle.sheet.specs.Sheet.{flatPoints, sheetOf, sheetVerdict, LentSheet};
-ghost use Rattle.results.specs.Results.{Leaves, Fills, Front, afterLent};
+ghost use Rattle.results.specs.Outcomes.{afterTest};
+ghost use Rattle.results.specs.Results.{Leaves, Fills, Front};
 ghost use Rattle.subdivide.specs.Subdivide.{projected, subdivided, subdivideRule};
 ghost use Rattle.subdivide.specs.Steps.{Masked, landsOf, landedTo, Tested};
 
@@ -53,7 +54,7 @@ fn project_points(b: Band, n: usize, masks: &[u32], points: &mut [f64]) -> bool
 fn land(b: Band, c: Counts, points: &mut [f64], quads: &[u32], labels: &[u8], w: &mut [u32]) -> Made
     requires { ⌜ LentSheet c (length (now points)) (length (now quads)) (length (now labels)) ⌝ }
     requires { ⌜ c .points ≤ length (now w) ⌝ }
-    ensures { λ r. ⌜ Fills (afterLent (sheetVerdict b (sheetOf c (now (points .entry)) (now (quads .entry)) (now (labels .entry)))) (projected b (sheetOf c (now (points .entry)) (now (quads .entry)) (now (labels .entry))))) r (now (points .exit)) (now (quads .entry)) (now (labels .entry)) ⌝ }
+    ensures { λ r. ⌜ Fills (afterTest (sheetVerdict b (sheetOf c (now (points .entry)) (now (quads .entry)) (now (labels .entry)))) (projected b (sheetOf c (now (points .entry)) (now (quads .entry)) (now (labels .entry))))) r (now (points .exit)) (now (quads .entry)) (now (labels .entry)) ⌝ }
 {
     let n = c.points;
     let v = sheet::constraints(b, c, points, quads, labels, &mut w[..n]);
