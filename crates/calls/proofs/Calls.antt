@@ -18,7 +18,7 @@ use Rattle.sheet.specs.Flat.{quadsOf, flatQuads}
 use Rattle.sheet.specs.Sheet.{Sheet, isLarge, isShort, lentVerdict, sheetVerdict}
 use Rattle.sheet.proofs.Flat.{length-quads}
 use Rattle.sheet.proofs.Masks.{bit-pack}
-use Rattle.sheet.proofs.Tests.{or-left, lent-is}
+use Rattle.sheet.proofs.Tests.{or-left, lent-is, tested}
 use Rattle.results.specs.declared.Made.{Made}
 use Rattle.results.specs.Outcomes.{Outcome, refuses, gives, afterTest}
 use Rattle.results.specs.Results as results
@@ -49,7 +49,7 @@ use Rattle.calls.specs.Calls.{Lent, held, holds, Call, regularizeCall, i
 use Rattle.calls.proofs.Slices.{quads-padded, length-padded, held-padded}
 use Rattle.calls.proofs.Finer.{made-kept}
 use Rattle.calls.proofs.Caps.{uncapped}
-use Rattle.calls.proofs.Tested.{lengthsVerdict, tested, passes, done-tested}
+use Rattle.calls.proofs.Tested.{lengthsVerdict, passes, done-tested}
 
 -- ---- `regularize` and `improve_layout`
 

@@ -21,10 +21,10 @@ use Rattle.refine.proofs.Requests.{asked-made}
 use Rattle.smoothed.specs.Smoothed.{oldPoint, newPlace, pointOf, smoothSheet}
 use Rattle.subdivide.specs.Subdivide.{landing, landsAt, projectedSheet}
 use Rattle.projection.specs.Project.{ontoOf}
+use Rattle.projection.proofs.Finite.{onto-finite}
 use Rattle.closed.specs.Clean.{refined}
 use Rattle.closed.proofs.Numbers.{finer-length}
 use Rattle.closed.proofs.Demand.{Good, Keeps, finer-kept}
-use Rattle.calls.proofs.Finite.{onto-finite}
 
 module _ (b : Band) (s : Sheet) where
   abbrev n : ℕ
@@ -37,7 +37,7 @@ module _ (b : Band) (s : Sheet) where
   abbrev placed : ℕ → Point
   placed v = ontoOf (landing b (smoothSheet s) v)
 
-  smooth-count : length (smoothSheet s .points) ≡ finerCount n S
+  pub smooth-count : length (smoothSheet s .points) ≡ finerCount n S
   unfolding smoothSheet finerCount
   smooth-count = length-append (tabulate (oldPoint s) n) (map (newPlace s) (asked n S)) ∙ rw (length-tab (oldPoint s) n, length-map (asked n S) (newPlace s))
 
@@ -62,4 +62,4 @@ module _ (b : Band) (s : Sheet) where
   unfolding finerSheet
   made-kept a e f =
       let F = few-of (countsOf (finerSheet s)) e in
-      rw made-is (finer-kept s placed (omega (arith, finer-count, F .points≤)) (omega (arith, finer-length n S (a .fine .in-range) (a .fine .differ) (a .rings), F .quads≤)) (made-finite f) a)
+      rw made-is (finer-kept s placed (omega (arith, finer-count, F .points≤)) (omega (arith, finer-length n S (a .fine .in-range) (a .fine .differ), F .quads≤)) (made-finite f) a)

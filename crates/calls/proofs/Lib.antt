@@ -1,8 +1,8 @@
--- `Slices` is about sheets in padded slices, `Finite` and `Finer` are about the sheet of `subdivide`, `Caps` and `Tested` about the answer of `regularize`;
+-- `Slices` is about sheets in padded slices, `Finer` and `Smooth` are about the sheet of `subdivide`, `Caps` and `Tested` about the answer of `regularize`;
 -- `Calls` is the theorem, and `Runs` shows that lists of calls exist.
 pub mod Slices
-pub mod Finite
 pub mod Finer
+pub mod Smooth
 pub mod Caps
 pub mod Tested
 pub mod Calls

@@ -1,6 +1,6 @@
 -- An accepted call of `regularize` was lent an accepted sheet, and its answer is the number of its swaps. Assumes nothing.
 use Prim.Native.Nat.{ℕ}
-use mathlib.Core.Bool.{Bool, true, false, cond}
+use mathlib.Core.Bool.{true}
 use mathlib.Core.Path.{_≡_, refl, _∙_}
 use mathlib.Core.List.{List}
 use native.Mathlib.Omega.{arith}
@@ -11,11 +11,9 @@ use Rattle.band.specs.declared.Band.{Band}
 use Rattle.band.specs.Bands.{validOf}
 use Rattle.sheet.specs.declared.Verdict.{Verdict}
 use Rattle.sheet.specs.declared.Verdict.the-variants.{Accepted, Refused}
-use Rattle.sheet.specs.Numbers.{box, bare, corner, clash}
-use Rattle.sheet.specs.Sheet.{Sheet, limit, isLarge, isBare, lentVerdict, quadsVerdict, sheetVerdict}
-use Rattle.sheet.specs.Tests.{goodCorners, goodMasks}
+use Rattle.sheet.specs.Sheet.{Sheet, limit, isLarge, lentVerdict, sheetVerdict}
 use Rattle.sheet.proofs.Flat.{length-quads}
-use Rattle.sheet.proofs.Tests.{lent-is, length-points}
+use Rattle.sheet.proofs.Tests.{lent-is, length-points, tested, tests-accept}
 use Rattle.results.specs.Outcomes.{gives, afterTest}
 use Rattle.fits.specs.SwapFits.{swapFits}
 use Rattle.regularize.specs.declared.Cleaned.the-variants as cleaned
@@ -28,29 +26,9 @@ use Rattle.calls.proofs.Caps.{uncapped}
 abbrev pub lengthsVerdict : Lent → ℕ → ℕ → Verdict
 lengthsVerdict x w f = lentVerdict (x .counts) (length (x .points)) (length (x .quads)) (length (x .labels)) w f
 
--- 1, 5, 6 and 7 find nothing
-pub record Tested (b : Band) (s : Sheet) : Type 0 where
-  pub valid : validOf b ≡ true
-  pub not-bare : isBare s ≡ false
-  pub corners : goodCorners (length (s .points)) (s .quads) (s .labels) ≡ true
-  pub masks : goodMasks (length (s .points)) (s .quads) (s .labels) ≡ true
-
-pub tested : (b : Band) (s : Sheet) → sheetVerdict b s ≡ Accepted → Tested b s
-unfolding sheetVerdict quadsVerdict
-tested b s = go (validOf b) refl (isBare s) refl (goodCorners (length (s .points)) (s .quads) (s .labels)) refl (goodMasks (length (s .points)) (s .quads) (s .labels)) refl
-  where
-    go : (v : Bool) → validOf b ≡ v → (e : Bool) → isBare s ≡ e → (g : Bool) → goodCorners (length (s .points)) (s .quads) (s .labels) ≡ g → (m : Bool) → goodMasks (length (s .points)) (s .quads) (s .labels) ≡ m
-        → cond v (cond e (Refused bare) (cond g (cond m Accepted (Refused clash)) (Refused corner))) (Refused box) ≡ Accepted → Tested b s
-    go true pv false pe true pg true pm h = record { valid = pv; not-bare = pe; corners = pg; masks = pm }
-    go true pv false pe true pg false pm h = absurd (let z : _≡_ {A = ℕ} 0 1 = cc in omega arith)
-    go true pv false pe false pg m pm h = absurd (let z : _≡_ {A = ℕ} 0 1 = cc in omega arith)
-    go true pv true pe g pg m pm h = absurd (let z : _≡_ {A = ℕ} 0 1 = cc in omega arith)
-    go false pv e pe g pg m pm h = absurd (let z : _≡_ {A = ℕ} 0 1 = cc in omega arith)
-
--- and the other way round
+-- what 5, 6 and 7 accept passes the tests with a valid band
 pub passes : (b : Band) (s : Sheet) → validOf b ≡ true → closed.Accepted s → sheetVerdict b s ≡ Accepted
-unfolding sheetVerdict quadsVerdict
-passes b s v a = rw (v, a .not-bare, a .corners, a .masks)
+passes b s v a = tests-accept b s (record { valid = v; not-bare = a .not-bare; corners = a .corners; masks = a .masks })
 
 module _ (b : Band) (k : ℕ) (x : Lent) (w f n : ℕ) (Q : List ℕ) (C : Contract (regularizeCall b k x w f (cleaned.Done n) Q)) where
   -- the call passed its tests

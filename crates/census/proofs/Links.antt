@@ -10,13 +10,13 @@ use lib.ListN.{length}
 use borrow.Author.Tests.{ltb-true, eqb-true, eqb-false, not-true, eq-eqb, ne-eqb, lt-ltb}
 use Rattle.lists.specs.Every.{every, some, countTo}
 use Rattle.lists.proofs.Laws.{eq-or-ne, lt-or-le}
-use Rattle.lists.proofs.Every.{and-left, and-right, or-split, every-at, some-at, some-find, count-yes, count-mono, count-on, count-zero}
+use Rattle.lists.proofs.Every.{and-left, and-right, or-split, every-at, every-each, some-at, some-find, count-yes, count-mono, count-on, count-zero}
 use Rattle.sheet.specs.Quads.{Quad, is, sum, all, at, valence, side}
 use Rattle.sheet.specs.Closed.{ind, arc, cyc, Ring, atPoint, Closed, Rings}
 use Rattle.sheet.specs.Tests.{proper}
 use Rattle.census.specs.Census.{degree, joined, reached, reaches, connected, noneOrTwo, goodLink, badLinks, tight}
 use Rattle.census.proofs.Corners.{weighty, at-positive, is-same, is-other, is-positive, pos-split}
-use Rattle.census.proofs.Tight.{every-of, tight-closed, closed-tight}
+use Rattle.census.proofs.Tight.{tight-closed, closed-tight}
 use Rattle.census.proofs.Sides.{length-sum}
 use Rattle.census.proofs.Arcs.{ind-positive, ind-same, ind-first, ind-second, arc-more, arc-from, arc-to, arc-le, arc-plus, Ends, pairSum, cornersOf, corners-sum, pair-le, pair-plus, Taken, take-from, side-end}
 
@@ -308,7 +308,7 @@ module _ (n : ℕ) (S : List Quad) (good : all (proper n) S ≡ true) (v : ℕ) 
     unfolding goodLink connected
     good-round =
         let l : valence S v ≡ suc (length us) = same (λ p m. 1) ∙ arc-from (λ p. 1) u us u ∙ omega (arith, length-sum us) in
-        rw (ne-eqb (valence S v) 0 (λ e. omega arith), every-of (λ x. every (reaches n S v x) n) n (λ x _. every-of (reaches n S v x) n (λ y _. all-reach x y)), every-of (noneOrTwo S v) n (λ x _. none-or-two x))
+        rw (ne-eqb (valence S v) 0 (λ e. omega arith), every-each (λ x. every (reaches n S v x) n) n (λ x _. every-each (reaches n S v x) n (λ y _. all-reach x y)), every-each (noneOrTwo S v) n (λ x _. none-or-two x))
 
   -- a ring is a good link
   pub ring-link : Ring (atPoint S v) → goodLink n S v ≡ true

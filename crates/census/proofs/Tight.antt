@@ -1,51 +1,29 @@
 -- A sheet is tight exactly if it is closed, and exactly if no edge is counted in the three counts of edges. Assumes nothing.
-use Prim.Native.Nat.{ℕ, zero, suc, _+_, _≤_, _<_}
+use Prim.Native.Nat.{ℕ, _+_, _≤_, _<_}
 use mathlib.Core.Path.{_≡_, refl, sym, ap, ap₂, _∙_}
 use mathlib.Core.Bool.{Bool, true, false, not, _&&_}
-use mathlib.Core.Logic.{_⊎_, ⊎-elim}
-use mathlib.Core.List.{List, [], _∷_, _++_}
+use mathlib.Core.Logic.{⊎-elim}
+use mathlib.Core.List.{List, [], _∷_}
 use native.Mathlib.Omega.{arith}
 use lib.Dec.{eqb, leb, ltb}
 use borrow.Author.Tests.{ltb-true, leb-true, eqb-true, eq-eqb, ne-eqb, lt-ltb, le-leb}
 use Rattle.lists.specs.Sort.{consIf}
 use Rattle.lists.specs.Every.{every}
 use Rattle.lists.proofs.Laws.{eq-or-ne, lt-or-le}
-use Rattle.lists.proofs.Every.{and-left, and-right, every-at, every-ext, bool-iff}
+use Rattle.lists.proofs.Every.{and-left, and-right, every-at, every-ext, every-each, bool-iff}
 use Rattle.sheet.specs.Quads.{Quad, num, all, side, isEdge}
-use Rattle.sheet.specs.Edges.{Pair, pair, joinTo, edgeIf, edgesFrom, edgesOf}
+use Rattle.sheet.specs.Edges.{Pair, pair, edgeIf, edgesFrom, edgesOf}
 use Rattle.sheet.specs.Closed.{Closed}
 use Rattle.sheet.specs.Tests.{proper}
+use Rattle.sheet.proofs.All.{all-join, all-if}
 use Rattle.census.specs.Census.{count, up, down, isBoundary, isNonmanifold, isTurned, isTight, boundaryEdges, nonmanifoldEdges, orientationErrors, edgeCounts, tight, tightBy}
 use Rattle.census.proofs.Corners.{pos-split, side-below}
 
 -- ---- tests of all edges
 
-all-append : {A : Type 0} (p : A → Bool) (l m : List A) → all p (l ++ m) ≡ (all p l && all p m)
-all-append p [] m = refl
-all-append p (x ∷ l) m = rw (all-append p l m) (assoc (p x) (all p l) (all p m))
-  where
-    assoc : (a b c : Bool) → (a && (b && c)) ≡ ((a && b) && c)
-    assoc true b c = refl
-    assoc false b c = refl
-
-all-join : {A : Type 0} (p : A → Bool) (f : ℕ → List A) (n : ℕ) → all p (joinTo f n) ≡ every (λ i. all p (f i)) n
-unfolding joinTo every
-all-join p f zero = refl
-all-join p f (suc n) = all-append p (joinTo f n) (f n) ∙ rw (all-join p f n)
-
 all-edges : (p : Pair → Bool) (n : ℕ) (S : List Quad) → all p (edgesOf n S) ≡ every (λ a. every (λ b. all p (edgeIf S a b)) n) n
 unfolding edgesOf
 all-edges p n S = all-join p (edgesFrom n S) n ∙ every-ext _ _ n (λ a _. all-join p (edgeIf S a) n)
-
--- what every one passes
-pub every-of : (p : ℕ → Bool) (n : ℕ) → ((i : ℕ) → i < n → p i ≡ true) → every p n ≡ true
-unfolding every
-every-of p zero h = refl
-every-of p (suc n) h = rw (every-of p n (λ i l. h i (omega arith)), h n (omega arith))
-
-all-if : {A : Type 0} (p : A → Bool) (x : A) (b : Bool) → (b ≡ true → p x ≡ true) → all p (consIf b x []) ≡ true
-all-if p x true h = rw (h refl)
-all-if p x false h = refl
 
 if-all : {A : Type 0} (p : A → Bool) (x : A) (b : Bool) → b ≡ true → all p (consIf b x []) ≡ true → p x ≡ true
 if-all p x true e h = and-left _ _ h
@@ -60,7 +38,7 @@ pair-high a b h = omega arith
 module _ (n : ℕ) (S : List Quad) (p : Pair → Bool) where
   -- a test that all edges pass
   pub edges-pass : ((a b : ℕ) → a ≤ b → a < n → b < n → 0 < side S a b + side S b a → p (pair a b) ≡ true) → all p (edgesOf n S) ≡ true
-  edges-pass h = all-edges p n S ∙ every-of _ n (λ a k. every-of _ n (λ b l. all-if p (pair a b) (leb a b && isEdge S a b) (λ e.
+  edges-pass h = all-edges p n S ∙ every-each _ n (λ a k. every-each _ n (λ b l. all-if p (pair a b) (leb a b && isEdge S a b) (λ e.
       h a b (leb-true a b (and-left (leb a b) (isEdge S a b) e)) k l (ltb-true 0 _ (and-right (leb a b) (isEdge S a b) e)))))
 
   -- what each edge passes where all do

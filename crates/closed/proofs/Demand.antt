@@ -39,7 +39,7 @@ use Rattle.closed.specs.Clean.{SameEuler, squaredOf, withQuads, refined}
 use Rattle.closed.proofs.Finer.{all-at}
 use Rattle.closed.proofs.Numbers.{finer-rings, finer-below, finer-used, finer-squared, finer-more, finer-proper, finer-length, finer-clash}
 use Rattle.closed.proofs.Edges.{edges-closed}
-use Rattle.closed.proofs.Fine.{Fine}
+use Rattle.closed.proofs.Fine.{Fine, Passing, passing}
 use Rattle.swaps.proofs.SwapPass
 
 -- an accepted sheet with rings, which is closed
@@ -347,10 +347,24 @@ unfolding Low
 four-low [] h = tt
 four-low (l ∷ labels) (p, h) = (p, (p, (p, (p, four-low labels h))))
 
+-- quads and labels that 6 and 7 accept, closed or not, are accepted when each quad is split into four
+pub finer-passing : (n : ℕ) (S : List Quad) (labels : List ℕ) → Passing n S labels → Passing (finerCount n S) (finer n S) (fourLabels labels)
+finer-passing n S labels a =
+    let b = a .in-range in
+    let p = a .differ in
+    record {
+      labelled = omega (arith, four-length labels, a .labelled, finer-length n S b p);
+      labels-low = four-low labels (a .labels-low);
+      in-range = finer-below n S b p;
+      differ = finer-proper n S b p;
+      in-use = finer-used n S b p (a .in-use);
+      no-clash = finer-clash n S b p labels (a .labelled) (a .no-clash);
+    }
+
 pub finer-kept : (s : Sheet) (placed : ℕ → Point) → finerCount (length (s .points)) (s .quads) ≤ limit → 4 * length (s .quads) ≤ limit → all finiteP (refined s placed .points) ≡ true → Good s → Keeps s (refined s placed) 0
 finer-kept s placed lp lq fin a = record {
   good = now;
-  euler = euler s (refined s placed) a now (omega (arith, tabled, finer-more n S b p r, finer-length n S b p r));
+  euler = euler s (refined s placed) a now (omega (arith, tabled, finer-more n S b p r, finer-length n S b p));
   falls = omega (arith, ap (λ k. squared k (finer n S)) tabled, finer-squared n S b p r);
 }
   where
@@ -369,6 +383,9 @@ finer-kept s placed lp lq fin a = record {
     r : Rings S
     r = a .rings
 
+    four : Passing (finerCount n S) (finer n S) (fourLabels (s .labels))
+    four = finer-passing n S (s .labels) (passing s (a .fine))
+
     tabled : length (refined s placed .points) ≡ finerCount n S
     tabled = length-tab placed (finerCount n S)
 
@@ -376,15 +393,15 @@ finer-kept s placed lp lq fin a = record {
     now = record {
       fine = record {
         few-points = omega (arith, tabled, lp);
-        few-quads = omega (arith, finer-length n S b p r, lq);
-        some-quads = omega (arith, finer-length n S b p r, a .fine .some-quads);
-        labelled = omega (arith, four-length (s .labels), a .fine .labelled, finer-length n S b p r);
+        few-quads = omega (arith, finer-length n S b p, lq);
+        some-quads = omega (arith, finer-length n S b p, a .fine .some-quads);
+        labelled = four .labelled;
         all-finite = fin;
-        labels-low = four-low (s .labels) (a .fine .labels-low);
-        in-range = subst (λ k. Below k (finer n S)) (sym tabled) (finer-below n S b p r);
-        differ = finer-proper n S b p r;
-        in-use = λ v l. finer-used n S b p r (a .fine .in-use) v (omega (arith, l, tabled));
-        no-clash = finer-clash n S b p r (s .labels) (a .fine .labelled) (a .fine .no-clash);
+        labels-low = four .labels-low;
+        in-range = subst (λ k. Below k (finer n S)) (sym tabled) (four .in-range);
+        differ = four .differ;
+        in-use = λ v l. four .in-use v (omega (arith, l, tabled));
+        no-clash = four .no-clash;
       };
       rings = finer-rings n S b p r;
     }

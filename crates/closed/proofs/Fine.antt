@@ -8,14 +8,14 @@ use native.Mathlib.Omega.{arith}
 use native.Mathlib.Decide.{decLt}
 use lib.Dec.{eqb, leb, ltb}
 use lib.ListN.{length}
-use borrow.Author.Tests.{eqb-true, eqb-false, eq-eqb, ne-eqb, ltb-true, lt-ltb, le-ltb, le-leb}
+use borrow.Author.Tests.{eq-eqb, ne-eqb, ltb-true, lt-ltb, le-ltb, le-leb}
 use Rattle.lists.proofs.Every.{and-left, and-right, every-at, every-on, every-zero}
 use Rattle.points.specs.Points.{finiteP}
 use Rattle.sheet.specs.Quads.{Quad, quad, num, all, at, uses, valence, touches, packTo, pack, hasLabel, maskOf}
 use Rattle.sheet.specs.Tests.{inRange, distinct, proper, lowLabel, goodCorners, goodMask, goodPoint, goodMasks}
-use Rattle.sheet.specs.Sheet.{Sheet, limit, isLarge, isBare}
+use Rattle.sheet.specs.Sheet.{Sheet, limit, isLarge}
 use Rattle.sheet.proofs.Masks.{below8, bit-pack, clash-0, clash-1, clash-2, clash-3}
-use Rattle.sheet.proofs.Tests.{few-of}
+use Rattle.sheet.proofs.Tests.{few-of, lows-of, proper-of, whole-of, bare-finite}
 use Rattle.results.specs.Results.{countsOf}
 use Rattle.swaps.specs.Claims.{Below, Differ, All, NoClash, Low}
 use Rattle.swaps.proofs.Weigh.{at-same, at-diff}
@@ -46,10 +46,6 @@ both a b p q = rw (p, q) refl
 
 not-is : (b : Bool) → b ≡ false → not b ≡ true
 not-is b e = rw e refl
-
-neither : (a b : Bool) → (a || b) ≡ false → (a ≡ false) × (b ≡ false)
-neither true b e = absurd (true≢false e)
-neither false b e = (refl, e)
 
 none-of : (a b : Bool) → a ≡ false → b ≡ false → (a || b) ≡ false
 none-of a b p q = rw (p, q) refl
@@ -230,57 +226,76 @@ masks-good n S labels e low used nc = every-on (goodPoint S labels) 0 n (every-z
       pair-3 = no-pair _ _ (nc v 3);
     }
 
+-- ---- quads and labels: 6 and 7
+
+-- what 6 and 7 ask of quads and as many labels over n points
+pub record Passing (n : ℕ) (S : List Quad) (labels : List ℕ) : Type 0 where
+  pub labelled : length labels ≡ length S
+  pub labels-low : Low labels
+  pub in-range : Below n S
+  pub differ : All Differ S
+  pub in-use : (v : ℕ) → v < n → 0 < valence S v
+  pub no-clash : NoClash S labels
+
+module _ (n : ℕ) (S : List Quad) (labels : List ℕ) where
+  pub passing-of : length labels ≡ length S → goodCorners n S labels ≡ true → goodMasks n S labels ≡ true → Passing n S labels
+  unfolding goodMasks
+  passing-of e c m =
+      let low = low-of labels (lows-of n S labels c) in
+      let corners = proper-of n S labels c in
+      let below = in-range-of n S corners in
+      record {
+        labelled = e;
+        labels-low = low;
+        in-range = below;
+        differ = all-differ n S corners;
+        in-use = λ v l. in-use-of S labels v (every-at (goodPoint S labels) n v m l);
+        no-clash = no-clash-of n S labels low below m;
+      }
+
+  pub passing-good : Passing n S labels → (goodCorners n S labels ≡ true) × (goodMasks n S labels ≡ true)
+  unfolding goodCorners
+  passing-good p = (
+    both _ _ (of-low labels (p .labels-low)) (proper-all n S (p .in-range) (p .differ)),
+    masks-good n S labels (p .labelled) (p .labels-low) (p .in-use) (p .no-clash),
+  )
+
 -- ---- the sheet
 
 pub fine-of : (s : Sheet) → Accepted s → Fine s
-unfolding isBare goodCorners goodMasks
 fine-of s a =
     let few = few-of (countsOf s) (a .not-large) in
-    let n = length (s .points) in
-    let bare = neither (eqb n 0 || eqb (length (s .quads)) 0 || not (eqb (length (s .labels)) (length (s .quads)))) (not (all finiteP (s .points))) (a .not-bare) in
-    let unlabelled = neither (eqb n 0 || eqb (length (s .quads)) 0) (not (eqb (length (s .labels)) (length (s .quads)))) (bare .0) in
-    let empty = neither (eqb n 0) (eqb (length (s .quads)) 0) (unlabelled .0) in
-    let low = low-of (s .labels) (and-left (all lowLabel (s .labels)) (all (proper n) (s .quads)) (a .corners)) in
-    let corners = and-right (all lowLabel (s .labels)) (all (proper n) (s .quads)) (a .corners) in
-    let below = in-range-of n (s .quads) corners in
+    let whole = whole-of s (a .not-bare) in
+    let p = passing-of (length (s .points)) (s .quads) (s .labels) (whole .labelled) (a .corners) (a .masks) in
     record {
       few-points = few .points≤;
       few-quads = few .quads≤;
-      some-quads = positive (length (s .quads)) (eqb-false (length (s .quads)) 0 (empty .1));
-      labelled = eqb-true (length (s .labels)) (length (s .quads)) (is-true (eqb (length (s .labels)) (length (s .quads))) (unlabelled .1));
-      all-finite = is-true (all finiteP (s .points)) (bare .1);
-      labels-low = low;
-      in-range = below;
-      differ = all-differ n (s .quads) corners;
-      in-use = λ v l. in-use-of (s .quads) (s .labels) v (every-at (goodPoint (s .quads) (s .labels)) n v (a .masks) l);
-      no-clash = no-clash-of n (s .quads) (s .labels) low below (a .masks);
+      some-quads = whole .some-quads;
+      labelled = whole .labelled;
+      all-finite = whole .finite;
+      labels-low = p .labels-low;
+      in-range = p .in-range;
+      differ = p .differ;
+      in-use = p .in-use;
+      no-clash = p .no-clash;
     }
-  where
-    is-true : (b : Bool) → not b ≡ false → b ≡ true
-    is-true true e = refl
-    is-true false e = sym e
 
-    positive : (k : ℕ) → (k ≡ 0 → ⊥) → 0 < k
-    positive k h = let z = zero-or k in pos z
-      where
-        pos : (k ≡ 0) ⊎ (0 < k) → 0 < k
-        pos (inl e) = absurd (h e)
-        pos (inr g) = g
+-- its quads and labels
+pub passing : (s : Sheet) → Fine s → Passing (length (s .points)) (s .quads) (s .labels)
+passing s f = record { labelled = f .labelled; labels-low = f .labels-low; in-range = f .in-range; differ = f .differ; in-use = f .in-use; no-clash = f .no-clash }
 
 pub accepted-of : (s : Sheet) → Fine s → Accepted s
-unfolding isLarge isBare goodCorners Below
-accepted-of s f = record {
-  not-large = none-of _ _ (none-of _ _ (le-ltb limit (length (s .points)) (f .few-points)) (le-ltb limit (length (s .quads)) (f .few-quads)))
-      (le-ltb limit (length (s .labels)) (subst (λ k. k ≤ limit) (sym (f .labelled)) (f .few-quads)));
-  not-bare = none-of _ _ (none-of _ _ (none-of _ _ (ne-eqb (length (s .points)) 0 (λ e. omega (arith, e, some-point (s .quads) (f .some-quads) (f .in-range)))) (ne-eqb (length (s .quads)) 0 (λ e. omega (arith, e, f .some-quads))))
-      (is-false _ (eq-eqb (length (s .labels)) (length (s .quads)) (f .labelled)))) (is-false _ (f .all-finite));
-  corners = both _ _ (of-low (s .labels) (f .labels-low)) (proper-all (length (s .points)) (s .quads) (f .in-range) (f .differ));
-  masks = masks-good (length (s .points)) (s .quads) (s .labels) (f .labelled) (f .labels-low) (f .in-use) (f .no-clash);
-}
+unfolding isLarge Below
+accepted-of s f =
+    let p = passing-good (length (s .points)) (s .quads) (s .labels) (passing s f) in
+    record {
+      not-large = none-of _ _ (none-of _ _ (le-ltb limit (length (s .points)) (f .few-points)) (le-ltb limit (length (s .quads)) (f .few-quads)))
+          (le-ltb limit (length (s .labels)) (subst (λ k. k ≤ limit) (sym (f .labelled)) (f .few-quads)));
+      not-bare = bare-finite s (some-point (s .quads) (f .some-quads) (f .in-range)) (f .some-quads) (f .labelled) ∙ ap not (f .all-finite);
+      corners = p .0;
+      masks = p .1;
+    }
   where
-    is-false : (b : Bool) → b ≡ true → not b ≡ false
-    is-false b e = rw e refl
-
     some-point : {n : ℕ} (S : List Quad) → 0 < length S → Below n S → 0 < n
     some-point [] h b = absurd (omega arith)
     some-point (quad w x y z ∷ S) h b = let l = b w (omega (arith, at-same w (λ p n. 1) z x)) in omega arith

@@ -1,7 +1,7 @@
 -- Splitting each quad into four keeps rings; new points have four quads. Assumes nothing.
 use mathlib.Core.Path.{_≡_, refl, ap, ap₂, sym, _∙_, subst}
 use mathlib.Core.Logic.{_⊎_, inl, inr, _≢_}
-use Prim.Native.Nat.{ℕ, zero, suc, _+_, _*_, _-_, _≤_, _<_}
+use Prim.Native.Nat.{ℕ, zero, suc, _+_, _*_, _≤_, _<_}
 use mathlib.Core.List.{List, [], _∷_}
 use mathlib.Core.Bool.{Bool, true, false, cond}
 use native.Mathlib.Omega.{arith}
@@ -454,7 +454,7 @@ facts-of n S b i (quad x y z t ∷ Q) l s w =
     da = omega (arith, s t x, at-same t (λ p n. is x n) z x, is-self x)
 
 module _ (mid : ℕ → ℕ → ℕ) (cen : ℕ → ℕ) (n : ℕ) (mid-high : (u v : ℕ) → n ≤ mid u v) (cen-high : (i : ℕ) → n ≤ cen i) (mid-sym : (u v : ℕ) → mid u v ≡ mid v u)
-    (S : List Quad) (below : Below n S) (pr : All Differ S) (rs : Rings S)
+    (S : List Quad) (below : Below n S) (pr : All Differ S)
     (mid-inj : (u v u′ v′ : ℕ) → 0 < side S u v → 0 < side S u′ v′ → mid u v ≡ mid u′ v′ → ((u ≡ u′) × (v ≡ v′)) ⊎ ((u ≡ v′) × (v ≡ u′)))
     (cen-inj : (i j : ℕ) → i < length S → j < length S → cen i ≡ cen j → i ≡ j)
     (mid-cen : (u v i : ℕ) → 0 < side S u v → i < length S → mid u v ≢ cen i) where
@@ -540,10 +540,6 @@ module _ (mid : ℕ → ℕ → ℕ) (cen : ℕ → ℕ) (n : ℕ) (mid-high : (
   apart-side : (u v : ℕ) → 0 < side S u v → u ≢ v
   apart-side u v h e = omega (arith, h, ap (side S u) (sym e), sum-zero (corners (at u (λ p n. is u n))) noneQuad S (λ j l. no-loop (getD S j noneQuad) (all-at S pr j l) u))
 
-  closed : (u v : ℕ) → 0 < side S u v → (side S u v ≡ 1) × (side S v u ≡ 1)
-  unfolding Closed
-  closed u v h = rings-closed S rs u v (omega arith)
-
   from-low : (u v : ℕ) → 0 < side S u v → u < n
   unfolding Below
   from-low u v h = below u (omega (arith, at-point-le S u (λ p n. is v n) (λ p n. 1) (λ p n. is-le v n)))
@@ -551,24 +547,6 @@ module _ (mid : ℕ → ℕ → ℕ) (cen : ℕ → ℕ) (n : ℕ) (mid-high : (
   to-low : (u v : ℕ) → 0 < side S u v → v < n
   unfolding Below
   to-low u v h = below v (omega (arith, side-at-end S u v, at-point-le S v (λ p n. is u p) (λ p n. 1) (λ p n. is-le u p)))
-
-  pub ring-of-mid : (u v : ℕ) → 0 < side S u v → Ring (atPoint (split mid cen 0 S) (mid u v))
-  ring-of-mid u v h = go (only u v 0 S (sym (side-one u v 0 S) ∙ (closed u v h) .0)) (only v u 0 S (sym (side-one v u 0 S) ∙ (closed u v h) .1))
-    where
-      go : Only u v 0 S → Only v u 0 S → Ring (atPoint (split mid cen 0 S) (mid u v))
-      go o o′ = record {
-        round = u ∷ cen (o .at-place) ∷ v ∷ cen (o′ .at-place) ∷ [];
-        two = omega arith;
-        apart = four-apart u (cen (o .at-place)) v (cen (o′ .at-place)) (λ e. omega (arith, from-low u v h, cen-high (o .at-place))) (apart-side u v h) (λ e. omega (arith, from-low u v h, cen-high (o′ .at-place)))
-            (λ e. omega (arith, to-low u v h, cen-high (o .at-place))) (λ e. two-quads (cen-inj (o .at-place) (o′ .at-place) (o .inside) (o′ .inside) e)) (λ e. omega (arith, to-low u v h, cen-high (o′ .at-place)));
-        same = λ g. omega (arith, at-mid u v h (apart-side u v h) g, first o (λ i. g u (cen i)), first o′ (λ i. g v (cen i)), first o (λ i. g (cen i) v), first o′ (λ i. g (cen i) u));
-      }
-        where
-          first : {u v : ℕ} (o : Only u v 0 S) (h : ℕ → ℕ) → sidesOf u v h 0 S ≡ h (o .at-place)
-          first o h = o .weight h ∙ ap h (omega arith)
-
-          two-quads : o .at-place ≢ o′ .at-place
-          two-quads e = both-ways u v (getD S (o .at-place) noneQuad) (all-at S pr (o .at-place) (o .inside)) (omega (arith, o .there)) (omega (arith, o′ .there, ap (λ k. alongQuad v u 1 (getD S k noneQuad)) e))
 
   centre-ring : (a b c d : ℕ) → Differ (quad a b c d) → 0 < side S a b → 0 < side S b c → 0 < side S c d → 0 < side S d a → Ring (λ g. corners (λ p v x. g (mid v x) (mid p v)) (quad a b c d))
   centre-ring a b c d (ab, ac, ad, bc, bd, cd) sab sbc scd sda = record {
@@ -599,27 +577,6 @@ module _ (mid : ℕ → ℕ → ℕ) (cen : ℕ → ℕ) (n : ℕ) (mid-high : (
           (omega (arith, s a b, at-same a (λ p n. is b n) d b, is-self b)) (omega (arith, s b c, at-same b (λ p n. is c n) a c, is-self c))
           (omega (arith, s c d, at-same c (λ p n. is d n) b d, is-self d)) (omega (arith, s d a, at-same d (λ p n. is a n) c a, is-self a))
 
-  -- old points
-  pub ring-of-old : (v : ℕ) → v < n → 0 < valence S v → Ring (atPoint (split mid cen 0 S) v)
-  unfolding Rings
-  ring-of-old v l h = renamed (atPoint S v) (atPoint (split mid cen 0 S) v) (mid v) one (λ g. at-old mid cen n mid-high cen-high mid-sym v l g 0 S) w
-    where
-      w : Ring (atPoint S v)
-      w = rs v h
-
-      is-side : (y : ℕ) → 0 < sum (is y) (w .round) → 0 < side S v y
-      is-side y k = omega (arith, k, w .same (λ p n. is y n), cyc-to (is y) (w .round))
-
-      one : (x : ℕ) → atPoint S v (λ p n. is x (mid v p)) ≤ 1
-      one x = omega (arith, w .same (λ p n. is x (mid v p)), cyc-from (λ y. is x (mid v y)) (w .round), sum-once (mid v) x (w .round) (w .apart) inj)
-        where
-          inj : (y z : ℕ) → 0 < sum (is y) (w .round) → 0 < sum (is z) (w .round) → mid v y ≡ mid v z → y ≡ z
-          inj y z hy hz e = pickone (mid-inj v y v z (is-side y hy) (is-side z hz) e)
-            where
-              pickone : ((v ≡ v) × (y ≡ z)) ⊎ ((v ≡ z) × (y ≡ v)) → y ≡ z
-              pickone (inl (_, q)) = q
-              pickone (inr (p, q)) = q ∙ p
-
   child-proper : (i p v x : ℕ) → Fact n S i p v x → p ≢ x → Differ (quad v (mid v x) (cen i) (mid p v))
   child-proper i p v x (li, lv, pv, vx) px =
       ((λ e. omega (arith, mid-high v x)), (λ e. omega (arith, cen-high i)), (λ e. omega (arith, mid-high p v)), mid-cen v x i vx li, (λ e. clash (mid-inj v x p v vx pv e)), (λ e. mid-cen p v i pv li (sym e)))
@@ -637,9 +594,9 @@ module _ (mid : ℕ → ℕ → ℕ) (cen : ℕ → ℕ) (n : ℕ) (mid-high : (
       go i (quad a b c d ∷ Q) ((fa, fb, fc, fd), e) ((ab, ac, ad, bc, bd, cd), al) =
           (child-proper i d a b fa (λ q. bd (sym q)), (child-proper i a b c fb ac, (child-proper i b c d fc bd, (child-proper i c d a fd (λ q. ac (sym q)), go (suc i) Q e al))))
 
-  -- Valences: four at every new point.
-  pub valence-mid : (u v : ℕ) → 0 < side S u v → valence (split mid cen 0 S) (mid u v) ≡ 4
-  valence-mid u v h = omega (arith, at-mid u v h (apart-side u v h) (λ p n. 1), (closed u v h) .0, (closed u v h) .1, side-one u v 0 S, side-one v u 0 S)
+  -- Valences: some quads at the point of an edge, four at a centre.
+  some-mid : (u v : ℕ) → 0 < side S u v → 0 < valence (split mid cen 0 S) (mid u v)
+  some-mid u v h = omega (arith, at-mid u v h (apart-side u v h) (λ p n. 1), side-one u v 0 S)
 
   pub valence-centre : (k : ℕ) → k < length S → valence (split mid cen 0 S) (cen k) ≡ 4
   valence-centre k l = at-centre k l (λ p n. 1) ∙ ones (getD S k noneQuad)
@@ -649,6 +606,55 @@ module _ (mid : ℕ → ℕ → ℕ) (cen : ℕ → ℕ) (n : ℕ) (mid-high : (
 
   pub valence-old : (v : ℕ) → v < n → valence (split mid cen 0 S) v ≡ valence S v
   valence-old v l = at-old mid cen n mid-high cen-high mid-sym v l (λ p n. 1) 0 S
+
+  -- Where the quads at each point are a ring.
+  module _ (rs : Rings S) where
+    closed : (u v : ℕ) → 0 < side S u v → (side S u v ≡ 1) × (side S v u ≡ 1)
+    unfolding Closed
+    closed u v h = rings-closed S rs u v (omega arith)
+
+    pub ring-of-mid : (u v : ℕ) → 0 < side S u v → Ring (atPoint (split mid cen 0 S) (mid u v))
+    ring-of-mid u v h = go (only u v 0 S (sym (side-one u v 0 S) ∙ (closed u v h) .0)) (only v u 0 S (sym (side-one v u 0 S) ∙ (closed u v h) .1))
+      where
+        go : Only u v 0 S → Only v u 0 S → Ring (atPoint (split mid cen 0 S) (mid u v))
+        go o o′ = record {
+          round = u ∷ cen (o .at-place) ∷ v ∷ cen (o′ .at-place) ∷ [];
+          two = omega arith;
+          apart = four-apart u (cen (o .at-place)) v (cen (o′ .at-place)) (λ e. omega (arith, from-low u v h, cen-high (o .at-place))) (apart-side u v h) (λ e. omega (arith, from-low u v h, cen-high (o′ .at-place)))
+              (λ e. omega (arith, to-low u v h, cen-high (o .at-place))) (λ e. two-quads (cen-inj (o .at-place) (o′ .at-place) (o .inside) (o′ .inside) e)) (λ e. omega (arith, to-low u v h, cen-high (o′ .at-place)));
+          same = λ g. omega (arith, at-mid u v h (apart-side u v h) g, first o (λ i. g u (cen i)), first o′ (λ i. g v (cen i)), first o (λ i. g (cen i) v), first o′ (λ i. g (cen i) u));
+        }
+          where
+            first : {u v : ℕ} (o : Only u v 0 S) (h : ℕ → ℕ) → sidesOf u v h 0 S ≡ h (o .at-place)
+            first o h = o .weight h ∙ ap h (omega arith)
+
+            two-quads : o .at-place ≢ o′ .at-place
+            two-quads e = both-ways u v (getD S (o .at-place) noneQuad) (all-at S pr (o .at-place) (o .inside)) (omega (arith, o .there)) (omega (arith, o′ .there, ap (λ k. alongQuad v u 1 (getD S k noneQuad)) e))
+
+    -- four quads at the point of an edge
+    pub valence-mid : (u v : ℕ) → 0 < side S u v → valence (split mid cen 0 S) (mid u v) ≡ 4
+    valence-mid u v h = omega (arith, at-mid u v h (apart-side u v h) (λ p n. 1), (closed u v h) .0, (closed u v h) .1, side-one u v 0 S, side-one v u 0 S)
+
+    -- old points
+    pub ring-of-old : (v : ℕ) → v < n → 0 < valence S v → Ring (atPoint (split mid cen 0 S) v)
+    unfolding Rings
+    ring-of-old v l h = renamed (atPoint S v) (atPoint (split mid cen 0 S) v) (mid v) one (λ g. at-old mid cen n mid-high cen-high mid-sym v l g 0 S) w
+      where
+        w : Ring (atPoint S v)
+        w = rs v h
+
+        is-side : (y : ℕ) → 0 < sum (is y) (w .round) → 0 < side S v y
+        is-side y k = omega (arith, k, w .same (λ p n. is y n), cyc-to (is y) (w .round))
+
+        one : (x : ℕ) → atPoint S v (λ p n. is x (mid v p)) ≤ 1
+        one x = omega (arith, w .same (λ p n. is x (mid v p)), cyc-from (λ y. is x (mid v y)) (w .round), sum-once (mid v) x (w .round) (w .apart) inj)
+          where
+            inj : (y z : ℕ) → 0 < sum (is y) (w .round) → 0 < sum (is z) (w .round) → mid v y ≡ mid v z → y ≡ z
+            inj y z hy hz e = pickone (mid-inj v y v z (is-side y hy) (is-side z hz) e)
+              where
+                pickone : ((v ≡ v) × (y ≡ z)) ⊎ ((v ≡ z) × (y ≡ v)) → y ≡ z
+                pickone (inl (_, q)) = q
+                pickone (inr (p, q)) = q ∙ p
 
   module _ (k : ℕ) (mid-low : (u v : ℕ) → 0 < side S u v → mid u v < n + k) (cen-low : (i : ℕ) → i < length S → cen i < n + k)
       (covers : (w : ℕ) → n ≤ w → w < n + k → ((u : ℕ) × (v : ℕ) × (0 < side S u v) × (w ≡ mid u v)) ⊎ ((i : ℕ) × (i < length S) × (w ≡ cen i))) where
@@ -669,46 +675,17 @@ module _ (mid : ℕ → ℕ → ℕ) (cen : ℕ → ℕ) (n : ℕ) (mid-high : (
               at-diff w (λ p n. 1) (cen i) (mid p v) v (λ e. l (omega (arith, mid-low p v pv))),
             )
 
-    pub split-rings : Rings (split mid cen 0 S)
-    unfolding Rings Below
-    split-rings w h = go (decLt w n)
-      where
-        newer : ((u : ℕ) × (v : ℕ) × (0 < side S u v) × (w ≡ mid u v)) ⊎ ((i : ℕ) × (i < length S) × (w ≡ cen i)) → Ring (atPoint (split mid cen 0 S) w)
-        newer (inl (u, v, s, e)) = rw e (ring-of-mid u v s)
-        newer (inr (i, l, e)) = rw e (ring-of-centre i l)
-
-        go : Dec (w < n) → Ring (atPoint (split mid cen 0 S) w)
-        go (yes l) = ring-of-old w l (omega (arith, h, valence-old w l))
-        go (no l) = newer (covers w (omega arith) (split-below w h))
-
-    four-quads : (w : ℕ) → n ≤ w → w < n + k → valence (split mid cen 0 S) w ≡ 4
-    four-quads w l m = go (covers w l m)
-      where
-        go : ((u : ℕ) × (v : ℕ) × (0 < side S u v) × (w ≡ mid u v)) ⊎ ((i : ℕ) × (i < length S) × (w ≡ cen i)) → valence (split mid cen 0 S) w ≡ 4
-        go (inl (u, v, s, e)) = rw e (valence-mid u v s)
-        go (inr (i, l, e)) = rw e (valence-centre i l)
-
+    -- every point is in use, if the old ones are
     pub split-used : ((v : ℕ) → v < n → 0 < valence S v) → (w : ℕ) → w < n + k → 0 < valence (split mid cen 0 S) w
     split-used u w m = go (decLt w n)
       where
+        newer : ((u : ℕ) × (v : ℕ) × (0 < side S u v) × (w ≡ mid u v)) ⊎ ((i : ℕ) × (i < length S) × (w ≡ cen i)) → 0 < valence (split mid cen 0 S) w
+        newer (inl (u, v, s, e)) = rw e (some-mid u v s)
+        newer (inr (i, l, e)) = rw e (omega (arith, valence-centre i l))
+
         go : Dec (w < n) → 0 < valence (split mid cen 0 S) w
         go (yes l) = omega (arith, valence-old w l, u w l)
-        go (no l) = omega (arith, four-quads w (omega arith) m)
-
-    pub split-squared : squared (n + k) (split mid cen 0 S) ≡ squared n S
-    unfolding squared
-    split-squared = omega (arith, sum-tab (λ v. sq (valence (split mid cen 0 S) v)) itself (n + k), sum-tab (λ v. sq (valence S v)) itself n, upto-plain n k (λ v. sq (valence (split mid cen 0 S) v)) 0 (λ w l m. ap sq (four-quads w l m)), mul-zero k, upto-ext (λ v. sq (valence (split mid cen 0 S) v)) (λ v. sq (valence S v)) n (λ v l. ap sq (valence-old v l)))
-
-    -- three new points for each quad
-    pub split-points : k ≡ 3 * length S
-    split-points = omega (
-      arith,
-      handshake (n + k) (split mid cen 0 S) split-below,
-      handshake n S below,
-      split-length mid cen 0 S,
-      upto-plain n k (λ v. valence (split mid cen 0 S) v) 4 (λ w l m. four-quads w l m),
-      upto-ext (λ v. valence (split mid cen 0 S) v) (λ v. valence S v) n (λ v l. valence-old v l),
-    )
+        go (no l) = newer (covers w (omega arith) m)
 
     -- No new clash: an old point touches what it touched, a centre its quad's label, an edge's point what an end touched.
     pub split-clash : (labels : List ℕ) → length labels ≡ length S → NoClash S labels → NoClash (split mid cen 0 S) (fourLabels labels)
@@ -798,3 +775,39 @@ module _ (mid : ℕ → ℕ → ℕ) (cen : ℕ → ℕ) (n : ℕ) (mid-high : (
         go : Dec (w < n) → touches (split mid cen 0 S) (fourLabels labels) w (2 * j + 1) ≡ 0
         go (yes l) = old l (2 * j + 1) ∙ nc w j (omega (arith, h, old l (2 * j)))
         go (no l) = newer (covers w (omega arith) in-range)
+
+    -- Where the quads at each point are a ring.
+    module _ (rs : Rings S) where
+      pub split-rings : Rings (split mid cen 0 S)
+      unfolding Rings Below
+      split-rings w h = go (decLt w n)
+        where
+          newer : ((u : ℕ) × (v : ℕ) × (0 < side S u v) × (w ≡ mid u v)) ⊎ ((i : ℕ) × (i < length S) × (w ≡ cen i)) → Ring (atPoint (split mid cen 0 S) w)
+          newer (inl (u, v, s, e)) = rw e (ring-of-mid rs u v s)
+          newer (inr (i, l, e)) = rw e (ring-of-centre i l)
+
+          go : Dec (w < n) → Ring (atPoint (split mid cen 0 S) w)
+          go (yes l) = ring-of-old rs w l (omega (arith, h, valence-old w l))
+          go (no l) = newer (covers w (omega arith) (split-below w h))
+
+      four-quads : (w : ℕ) → n ≤ w → w < n + k → valence (split mid cen 0 S) w ≡ 4
+      four-quads w l m = go (covers w l m)
+        where
+          go : ((u : ℕ) × (v : ℕ) × (0 < side S u v) × (w ≡ mid u v)) ⊎ ((i : ℕ) × (i < length S) × (w ≡ cen i)) → valence (split mid cen 0 S) w ≡ 4
+          go (inl (u, v, s, e)) = rw e (valence-mid rs u v s)
+          go (inr (i, l, e)) = rw e (valence-centre i l)
+
+      pub split-squared : squared (n + k) (split mid cen 0 S) ≡ squared n S
+      unfolding squared
+      split-squared = omega (arith, sum-tab (λ v. sq (valence (split mid cen 0 S) v)) itself (n + k), sum-tab (λ v. sq (valence S v)) itself n, upto-plain n k (λ v. sq (valence (split mid cen 0 S) v)) 0 (λ w l m. ap sq (four-quads w l m)), mul-zero k, upto-ext (λ v. sq (valence (split mid cen 0 S) v)) (λ v. sq (valence S v)) n (λ v l. ap sq (valence-old v l)))
+
+      -- three new points for each quad
+      pub split-points : k ≡ 3 * length S
+      split-points = omega (
+        arith,
+        handshake (n + k) (split mid cen 0 S) split-below,
+        handshake n S below,
+        split-length mid cen 0 S,
+        upto-plain n k (λ v. valence (split mid cen 0 S) v) 4 (λ w l m. four-quads w l m),
+        upto-ext (λ v. valence (split mid cen 0 S) v) (λ v. valence S v) n (λ v l. valence-old v l),
+      )

@@ -121,7 +121,7 @@ centre-asked n i (suc j) (quad a b c d ∷ Q) l = omega (arith, subst (λ k. 0 <
     same : (i j : ℕ) → suc i + j ≡ i + suc j
     same i j = omega arith
 
-module _ (n : ℕ) (S : List Quad) (below : Below n S) (pr : All Differ S) (rs : Rings S) where
+module _ (n : ℕ) (S : List Quad) (below : Below n S) (pr : All Differ S) where
   asked-apart : Apart (asked n S)
   unfolding asked Apart
   asked-apart = firsts-apart (keys n 0 S) [] (λ x. omega arith)
@@ -211,29 +211,17 @@ module _ (n : ℕ) (S : List Quad) (below : Below n S) (pr : All Differ S) (rs :
       go (inl (u, v, s, e)) = inl (u, v, omega (arith, side-one u v 0 S), number ∙ ap (λ k. n + place k (asked n S)) e)
       go (inr (j, l, e)) = inr (j, l, number ∙ ap (λ k. n + place k (asked n S)) (e ∙ ap (centreKey n) (omega arith)))
 
-  pub finer-rings : Rings (finer n S)
-  unfolding finer
-  finer-rings = split-rings (midOf n S) (cenOf n S) n mid-high cen-high mid-sym S below pr rs mid-inj cen-inj mid-cen (length (asked n S)) mid-low cen-low covers
-
   pub finer-below : Below (finerCount n S) (finer n S)
   unfolding finer finerCount
-  finer-below = split-below (midOf n S) (cenOf n S) n mid-high cen-high mid-sym S below pr rs mid-inj cen-inj mid-cen (length (asked n S)) mid-low cen-low covers
+  finer-below = split-below (midOf n S) (cenOf n S) n mid-high cen-high mid-sym S below pr mid-inj cen-inj mid-cen (length (asked n S)) mid-low cen-low covers
 
   pub finer-used : ((v : ℕ) → v < n → 0 < valence S v) → (w : ℕ) → w < finerCount n S → 0 < valence (finer n S) w
   unfolding finer finerCount
-  finer-used = split-used (midOf n S) (cenOf n S) n mid-high cen-high mid-sym S below pr rs mid-inj cen-inj mid-cen (length (asked n S)) mid-low cen-low covers
-
-  pub finer-squared : squared (finerCount n S) (finer n S) ≡ squared n S
-  unfolding finer finerCount
-  finer-squared = split-squared (midOf n S) (cenOf n S) n mid-high cen-high mid-sym S below pr rs mid-inj cen-inj mid-cen (length (asked n S)) mid-low cen-low covers
-
-  pub finer-more : finerCount n S ≡ n + 3 * length S
-  unfolding finer finerCount
-  finer-more = ap (λ k. n + k) (split-points (midOf n S) (cenOf n S) n mid-high cen-high mid-sym S below pr rs mid-inj cen-inj mid-cen (length (asked n S)) mid-low cen-low covers)
+  finer-used = split-used (midOf n S) (cenOf n S) n mid-high cen-high mid-sym S below pr mid-inj cen-inj mid-cen (length (asked n S)) mid-low cen-low covers
 
   pub finer-proper : All Differ (finer n S)
   unfolding finer
-  finer-proper = split-proper (midOf n S) (cenOf n S) n mid-high cen-high mid-sym S below pr rs mid-inj cen-inj mid-cen
+  finer-proper = split-proper (midOf n S) (cenOf n S) n mid-high cen-high mid-sym S below pr mid-inj cen-inj mid-cen
 
   pub finer-length : length (finer n S) ≡ 4 * length S
   unfolding finer
@@ -241,4 +229,18 @@ module _ (n : ℕ) (S : List Quad) (below : Below n S) (pr : All Differ S) (rs :
 
   pub finer-clash : (labels : List ℕ) → length labels ≡ length S → NoClash S labels → NoClash (finer n S) (fourLabels labels)
   unfolding finer
-  finer-clash = split-clash (midOf n S) (cenOf n S) n mid-high cen-high mid-sym S below pr rs mid-inj cen-inj mid-cen (length (asked n S)) mid-low cen-low covers
+  finer-clash = split-clash (midOf n S) (cenOf n S) n mid-high cen-high mid-sym S below pr mid-inj cen-inj mid-cen (length (asked n S)) mid-low cen-low covers
+
+  -- where the quads at each point are a ring
+  module _ (rs : Rings S) where
+    pub finer-rings : Rings (finer n S)
+    unfolding finer
+    finer-rings = split-rings (midOf n S) (cenOf n S) n mid-high cen-high mid-sym S below pr mid-inj cen-inj mid-cen (length (asked n S)) mid-low cen-low covers rs
+
+    pub finer-squared : squared (finerCount n S) (finer n S) ≡ squared n S
+    unfolding finer finerCount
+    finer-squared = split-squared (midOf n S) (cenOf n S) n mid-high cen-high mid-sym S below pr mid-inj cen-inj mid-cen (length (asked n S)) mid-low cen-low covers rs
+
+    pub finer-more : finerCount n S ≡ n + 3 * length S
+    unfolding finer finerCount
+    finer-more = ap (λ k. n + k) (split-points (midOf n S) (cenOf n S) n mid-high cen-high mid-sym S below pr mid-inj cen-inj mid-cen (length (asked n S)) mid-low cen-low covers rs)

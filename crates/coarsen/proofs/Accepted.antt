@@ -1,7 +1,7 @@
 -- No pass after the first can refuse: the tests accept what any passes leave of a sheet that they accept. Assumes nothing.
 use Prim.Native.Nat.{ℕ, zero, suc, _+_, _*_, _≤_}
 use mathlib.Core.Path.{_≡_, refl, sym}
-use mathlib.Core.Bool.{Bool, true, false, cond}
+use mathlib.Core.Bool.{Bool, true, false}
 use mathlib.Core.List.{List}
 use native.Mathlib.Omega.{arith}
 use lib.Dec.{eqb}
@@ -10,15 +10,12 @@ use lib.Seq.{length-take-le}
 use lib.Ieee.{Float}
 use borrow.Author.Tests.{le-ltb, ne-eqb}
 use Rattle.band.specs.declared.Band.{Band}
-use Rattle.band.specs.Bands.{validOf}
 use Rattle.sheet.specs.declared.Counts.{Counts}
 use Rattle.sheet.specs.declared.Verdict.{Verdict}
 use Rattle.sheet.specs.declared.Verdict.the-variants.{Accepted, Refused}
-use Rattle.sheet.specs.Numbers.{box, bare, corner, clash}
-use Rattle.sheet.specs.Tests.{goodCorners, goodMasks}
-use Rattle.sheet.specs.Sheet.{Sheet, sheetOf, limit, isLarge, Few, isShort, isShortWork, lentVerdict, isBare, quadsVerdict, sheetVerdict}
+use Rattle.sheet.specs.Sheet.{Sheet, sheetOf, limit, isLarge, Few, isShort, isShortWork, lentVerdict, sheetVerdict}
 use Rattle.sheet.proofs.Flat.{length-quads}
-use Rattle.sheet.proofs.Tests.{lent-is, length-points}
+use Rattle.sheet.proofs.Tests.{lent-is, length-points, tested, tests-accept}
 use Rattle.results.specs.Outcomes.{Outcome, gives, afterTest}
 use Rattle.results.specs.Results.{countsOf}
 use Rattle.swaps.specs.Runs.{Answer, run}
@@ -29,30 +26,6 @@ use Rattle.closed.proofs.Demand.{coarse-fine, coarse-fewer}
 use Rattle.coarse.specs.Pass.{bandPass}
 use Rattle.coarsen.specs.Rule.{coarseSheet, passesVerdict, coarsenRule}
 use Rattle.coarsen.specs.Tested.{passCount, passLeaves, testedRun}
-
--- ---- 1, 5, 6 and 7, one by one
-
-record Tested (b : Band) (s : Sheet) : Type 0 where
-  pub valid : validOf b ≡ true
-  pub not-bare : isBare s ≡ false
-  pub corners : goodCorners (length (s .points)) (s .quads) (s .labels) ≡ true
-  pub masks : goodMasks (length (s .points)) (s .quads) (s .labels) ≡ true
-
-tested : (b : Band) (s : Sheet) → sheetVerdict b s ≡ Accepted → Tested b s
-unfolding sheetVerdict quadsVerdict
-tested b s = go (validOf b) refl (isBare s) refl (goodCorners (length (s .points)) (s .quads) (s .labels)) refl (goodMasks (length (s .points)) (s .quads) (s .labels)) refl
-  where
-    go : (v : Bool) → validOf b ≡ v → (x : Bool) → isBare s ≡ x → (g : Bool) → goodCorners (length (s .points)) (s .quads) (s .labels) ≡ g → (m : Bool) → goodMasks (length (s .points)) (s .quads) (s .labels) ≡ m
-        → cond v (cond x (Refused bare) (cond g (cond m Accepted (Refused clash)) (Refused corner))) (Refused box) ≡ Accepted → Tested b s
-    go false ev x ex g eg m em h = absurd (let z : _≡_ {A = ℕ} 0 1 = cc in omega arith)
-    go true ev true ex g eg m em h = absurd (let z : _≡_ {A = ℕ} 0 1 = cc in omega arith)
-    go true ev false ex false eg m em h = absurd (let z : _≡_ {A = ℕ} 0 1 = cc in omega arith)
-    go true ev false ex true eg false em h = absurd (let z : _≡_ {A = ℕ} 0 1 = cc in omega arith)
-    go true ev false ex true eg true em h = record { valid = ev; not-bare = ex; corners = eg; masks = em }
-
-tests-accept : (b : Band) (s : Sheet) → Tested b s → sheetVerdict b s ≡ Accepted
-unfolding sheetVerdict quadsVerdict
-tests-accept b s t = rw (t .valid, t .not-bare, t .corners, t .masks)
 
 -- ---- 12 and 13
 

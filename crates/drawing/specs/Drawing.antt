@@ -17,8 +17,8 @@ use Rattle.sheet.specs.Quads.{Quad, quad}
 use Rattle.sheet.specs.Edges.{joinTo}
 use Rattle.sheet.specs.Tests.{goodMasks}
 use Rattle.sheet.specs.Numbers.{box, bare, clash, short}
-use Rattle.sheet.specs.Sheet.{Sheet, isLarge, isShort, isBare}
-use Rattle.results.specs.Outcomes.{Outcome, refuses, gives}
+use Rattle.sheet.specs.Sheet.{Sheet, isBare}
+use Rattle.results.specs.Outcomes.{Outcome, refuses, gives, withRoom}
 use Rattle.results.specs.Results.{countsOf}
 use Rattle.sampling.specs.declared.Grid.{Grid}
 use Rattle.sampling.specs.declared.Site.{Site}
@@ -161,8 +161,7 @@ finiteSamples g m = every (finiteSample g m) (m * m * m)
 -- 13 (result), 5, 7
 abbrev pub drawnOr : Sheet → ℕ → ℕ → ℕ → Outcome Sheet
 drawnOr s p q l =
-    cond (isLarge (countsOf s) || isShort (countsOf s) p q l) (refuses short)
-    (cond (isBare s) (refuses bare) (cond (goodMasks (length (s .points)) (s .quads) (s .labels)) (gives s) (refuses clash)))
+    withRoom (countsOf s) p q l (cond (isBare s) (refuses bare) (cond (goodMasks (length (s .points)) (s .quads) (s .labels)) (gives s) (refuses clash)))
 
 -- `extract_candidate` with work of w and f elements into result slices of p, q and l elements: "1, 2, 3, 13 (work), 4, 13 (result), 5, 7"
 unfoldable pub extractRule : Band → ℕ → ℕ → ℕ → ℕ → ℕ → ℕ → Outcome Sheet

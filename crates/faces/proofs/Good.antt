@@ -1,16 +1,15 @@
 -- The quads and labels that are drawn pass the tests of a sheet's corners: four different points each, and labels of at most 7. Assumes nothing.
-use Prim.Native.Nat.{ℕ, zero, suc, _-_, _*_, _<_}
+use Prim.Native.Nat.{ℕ, _-_, _*_, _<_}
 use mathlib.Core.Path.{_≡_, refl, sym, ap}
 use mathlib.Core.Bool.{Bool, true, false, cond}
-use mathlib.Core.List.{List, [], _∷_, _++_}
 use native.Mathlib.Omega.{arith}
 use lib.ListN.{length}
-use borrow.Author.Tests.{lt-ltb, le-leb, ne-eqb}
-use Rattle.lists.specs.Sort.{consIf}
-use Rattle.lists.proofs.Every.{and-left, and-right}
+use borrow.Author.Tests.{le-leb}
 use Rattle.sheet.specs.Quads.{quad, all}
 use Rattle.sheet.specs.Edges.{joinTo}
-use Rattle.sheet.specs.Tests.{inRange, distinct, proper, lowLabel, goodCorners}
+use Rattle.sheet.specs.Tests.{proper, lowLabel, goodCorners}
+use Rattle.sheet.proofs.All.{all-if, all-joined}
+use Rattle.sheet.proofs.Corners.{Four, four-proper}
 use Rattle.sampling.specs.declared.Grid.{Grid}
 use Rattle.crossings.specs.Crossings.{crossingOf, crossedLabel}
 use Rattle.lattice.specs.Lattice.{insideAt}
@@ -45,23 +44,6 @@ corners-apart g n i u w v z I h k l m ne C D =
     (cells-apart i u w v z I h k l m ne)
 
 -- ---- a quad of four different points
-
-record Four (m a b c d : ℕ) : Type 0 where
-  a< : a < m
-  b< : b < m
-  c< : c < m
-  d< : d < m
-  ab : a ≡ b → ⊥
-  ac : a ≡ c → ⊥
-  ad : a ≡ d → ⊥
-  bc : b ≡ c → ⊥
-  bd : b ≡ d → ⊥
-  cd : c ≡ d → ⊥
-
-four-proper : (m a b c d : ℕ) → Four m a b c d → proper m (quad a b c d) ≡ true
-unfolding inRange distinct
-four-proper m a b c d F =
-    rw (lt-ltb a m (F .a<), lt-ltb b m (F .b<), lt-ltb c m (F .c<), lt-ltb d m (F .d<), ne-eqb a b (F .ab), ne-eqb a c (F .ac), ne-eqb a d (F .ad), ne-eqb b c (F .bc), ne-eqb b d (F .bd), ne-eqb c d (F .cd)) refl
 
 reversed : {m a b c d : ℕ} → Four m a b c d → Four m d c b a
 reversed F = record {
@@ -119,19 +101,6 @@ module _ (g : Grid) (n t : ℕ) (h : t < innerCount n) (x : innerCrosses g n t �
 
 -- ---- all quads and labels
 
-all-one : {A : Type 0} (p : A → Bool) (b : Bool) (y : A) → (b ≡ true → p y ≡ true) → all p (consIf b y []) ≡ true
-all-one p true y h = rw (h refl) refl
-all-one p false y h = refl
-
-all-append : {A : Type 0} (p : A → Bool) (l m : List A) → all p l ≡ true → all p m ≡ true → all p (l ++ m) ≡ true
-all-append p [] m e f = f
-all-append p (y ∷ l) m e f = rw (and-left (p y) (all p l) e, all-append p l m (and-right (p y) (all p l) e) f) refl
-
-all-join : {A : Type 0} (p : A → Bool) (f : ℕ → List A) (m : ℕ) → ((t : ℕ) → t < m → all p (f t) ≡ true) → all p (joinTo f m) ≡ true
-unfolding joinTo
-all-join p f zero h = refl
-all-join p f (suc m) h = all-append p (joinTo f m) (f m) (all-join p f m (λ t l. h t (omega arith))) (h m (omega arith))
-
 -- a label is at most 7
 low-label : (l : ℕ) → l < 8 → lowLabel l ≡ true
 low-label l h = le-leb l 7 (omega arith)
@@ -144,7 +113,7 @@ label-low g n t = low-label _ (sample-low g (crossingOf g (innerSite (innerAt n 
 pub drawn-good : (g : Grid) (n : ℕ) → goodCorners (length (pointsTo g n (n * n * n))) (joinTo (quadIf g n) (innerCount n)) (joinTo (labelIf g n) (innerCount n)) ≡ true
 unfolding goodCorners
 drawn-good g n =
-    let a : all lowLabel (joinTo (labelIf g n) (innerCount n)) ≡ true = all-join lowLabel (labelIf g n) (innerCount n) (λ t h. all-one lowLabel (innerCrosses g n t) _ (λ x. label-low g n t)) in
+    let a : all lowLabel (joinTo (labelIf g n) (innerCount n)) ≡ true = all-joined lowLabel (labelIf g n) (innerCount n) (λ t h. all-if lowLabel _ (innerCrosses g n t) (λ x. label-low g n t)) in
     let b : all (proper (length (pointsTo g n (n * n * n)))) (joinTo (quadIf g n) (innerCount n)) ≡ true =
-    all-join (proper (length (pointsTo g n (n * n * n)))) (quadIf g n) (innerCount n) (λ t h. all-one (proper (length (pointsTo g n (n * n * n)))) (innerCrosses g n t) (innerQuad g n (innerAt n t)) (λ x. quad-proper g n t h x)) in
+    all-joined (proper (length (pointsTo g n (n * n * n)))) (quadIf g n) (innerCount n) (λ t h. all-if (proper (length (pointsTo g n (n * n * n)))) (innerQuad g n (innerAt n t)) (innerCrosses g n t) (λ x. quad-proper g n t h x)) in
     rw (a, b) refl

@@ -1,15 +1,14 @@
 -- The walks round both points are the merges' rule, the joined mask is the greater of two, and a position that the rule takes is finite. Assumes nothing.
-use Prim.Native.Nat.{ℕ, zero, suc, _+_, _*_, _%_, _^_, _≤_, _<_, max, zero-le}
-use mathlib.Core.Bool.{Bool, true, false, cond, not, _&&_, _||_, false≢true, or-comm}
+use Prim.Native.Nat.{ℕ, zero, suc, _+_, _*_, _^_, _≤_, _<_, max, zero-le}
+use mathlib.Core.Bool.{Bool, true, false, not, _&&_, _||_, false≢true, or-comm}
 use mathlib.Core.Logic.{⊎-elim}
-use mathlib.Core.Path.{_≡_, refl, sym, ap, _∙_}
+use mathlib.Core.Path.{_≡_, refl, sym, _∙_}
 use mathlib.Core.List.{List}
 use native.Mathlib.Omega.{arith}
 use lib.ListN.{getD, take}
 use lib.Seq.{getD-take}
 use lib.Dec.{eqb}
 use lib.Ieee.{Float}
-use Rattle.numeric.specs.Num.{finiteOf}
 use Rattle.points.specs.declared.Point.{Point}
 use Rattle.points.specs.Points.{halfwayP, finiteP, pointAt}
 use Rattle.field.specs.declared.Field.{Field}
@@ -17,10 +16,11 @@ use Rattle.band.specs.declared.Band.{Band}
 use Rattle.band.specs.Bands.{lengthOf, normalWith}
 use Rattle.projection.specs.declared.Projected.{Projected}
 use Rattle.projection.specs.declared.Projected.the-variants.{Onto, Refused}
-use Rattle.projection.specs.Project.{longestMove, lookCount, freePartOf, onFacesOf, targetOf, walkFrom, withinOf, insideOf, closeOf, closeAfter, projectWith, projectOf, isOnto, ontoOf}
+use Rattle.projection.specs.Project.{longestMove, lookCount, projectWith, projectOf, ontoOf}
+use Rattle.projection.proofs.Finite.{project-finite}
 use Rattle.lists.specs.Every.{every}
 use Rattle.lists.proofs.Laws.{getD-tab}
-use Rattle.lists.proofs.Every.{and-left, and-right, every-at, or-split, bool-iff}
+use Rattle.lists.proofs.Every.{and-left, and-right, every-at, every-each, or-split, bool-iff}
 use Rattle.sheet.specs.Quads.{Quad, num, all, hasLabel, packTo, pack, maskOf}
 use Rattle.sheet.specs.Flat.{quadAt, quadsOf}
 use Rattle.sheet.specs.Sheet.{Sheet, pointsOf}
@@ -29,12 +29,12 @@ use Rattle.sheet.proofs.Masks.{pack-ext}
 use Rattle.incidence.specs.Corners.{Cornered}
 use Rattle.swaps.specs.Swaps.{noneQuad}
 use Rattle.merges.specs.Merges.{Slot}
-use Rattle.merges.specs.Coarse.{hasCorner, MergeFits, Position, masksJoin}
+use Rattle.merges.specs.Coarse.{hasCorner, masksJoin}
 use Rattle.fits.specs.declared.Four.{Four}
 use Rattle.fits.specs.declared.Merge.{Merge}
 use Rattle.fits.specs.Shaped.{pointIn, centreOf, quadIs, fourAt, FourBelow}
 use Rattle.fits.specs.MergeFits.{joinedMask, movedTo, movedAt, quadStays, mergeAt, fitsAt, mergeFits, mergePosition, staysAt}
-use Rattle.fits.proofs.Walk.{every-each, unless-then}
+use Rattle.fits.proofs.Walk.{unless-then}
 use Rattle.fits.proofs.Shaped.{point-there, four-below, Agree, shape-same, centre-same}
 
 -- ---- the rule
@@ -149,39 +149,7 @@ joined-max n S labels a c e =
     omega (arith, pack-wider u t h))
     (or-split _ _ (and-right (every (λ j. not ((t (2 * j) || u (2 * j)) && (t (2 * j + 1) || u (2 * j + 1)))) 4) _ e))
 
--- ---- a projection that is not refused is finite
-
-within-finite : (low high p : Point) (len : Float) → insideOf low high p len ≡ true → finiteP p ≡ true
-unfolding insideOf withinOf finiteP
-within-finite low high p len e =
-    let fx : finiteOf (p .x) ≡ true = search (and-left, and-right) in
-    let fy : finiteOf (p .y) ≡ true = search (and-left, and-right) in
-    let fz : finiteOf (p .z) ≡ true = search (and-left, and-right) in
-    rw (fx, fy, fz)
-
-close-finite : (low high p : Point) (len : Float) (r : Point) → closeOf low high p len ≡ Onto r → finiteP r ≡ true
-unfolding closeOf
-close-finite low high p len r = go (insideOf low high p len) refl
-  where
-    go : (t : Bool) → insideOf low high p len ≡ t → cond t (Onto p) Refused ≡ Onto r → finiteP r ≡ true
-    go true i e = let q : p ≡ r = ap ontoOf e in rw (← q) (within-finite low high p len i)
-    go false i e = absurd (false≢true (ap isOnto e))
-
-after-finite : (low high : Point) (len : Float) (x : Projected) (r : Point) → closeAfter low high len x ≡ Onto r → finiteP r ≡ true
-after-finite low high len (Onto q) r e = close-finite low high q len r e
-after-finite low high len Refused r e = absurd (false≢true (ap isOnto e))
-
-either : (t : Bool) (r : Point) (x y : Projected) → (x ≡ Onto r → finiteP r ≡ true) → (y ≡ Onto r → finiteP r ≡ true) → cond t x y ≡ Onto r → finiteP r ≡ true
-either true r x y f g e = f e
-either false r x y f g e = g e
-
--- a projection that is not refused is finite
-pub project-finite : (b : Band) (p : Point) (mask : ℕ) (r : Point) → projectOf b p mask ≡ Onto r → finiteP r ≡ true
-unfolding projectOf projectWith
-project-finite b p mask r =
-    let q = onFacesOf (b .low) (b .high) p mask in
-    let walked = walkFrom lookCount (b .field) (lengthOf b) longestMove (targetOf (b .lower) (b .upper) mask) (freePartOf mask) q in
-    either (eqb (mask % 4) 0) r _ _ (close-finite (b .low) (b .high) q (lengthOf b) r) (after-finite (b .low) (b .high) (lengthOf b) walked r)
+-- ---- the position is finite
 
 -- among finite points a position that the rule takes is finite
 pub merge-finite : (b : Band) (s : Sheet) (ps : List Point) (S : List Slot) (f a c : ℕ) → all finiteP ps ≡ true → mergeFits b s ps S f a c ≡ true → finiteP (mergePosition b s ps a c) ≡ true

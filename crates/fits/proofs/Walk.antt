@@ -1,5 +1,5 @@
 -- The walk over the corners of a point is the test of all quads with that corner. Assumes nothing.
-use Prim.Native.Nat.{ℕ, _+_, _-_, _*_, _/_, _≤_, _<_, zero-le}
+use Prim.Native.Nat.{ℕ, _+_, _-_, _*_, _/_, _≤_, _<_}
 use mathlib.Core.Logic.{⊎-elim}
 use mathlib.Core.Bool.{Bool, true, false, not, _||_, false≢true}
 use mathlib.Core.Path.{_≡_, refl, sym, ap, _∙_}
@@ -14,7 +14,7 @@ use Rattle.field.specs.declared.Field.{Field}
 use Rattle.lists.specs.Every.{every}
 use Rattle.lists.specs.Regions.{part, Part}
 use Rattle.lists.proofs.Regions.{part-get, part-len}
-use Rattle.lists.proofs.Every.{every-zero, every-at, every-fails, every-on, bool-iff, some-at, some-find}
+use Rattle.lists.proofs.Every.{every-at, every-fails, every-each, bool-iff, some-at, some-find}
 use Rattle.lists.proofs.Laws.{eq-or-ne, lt-or-le}
 use Rattle.lists.proofs.Order.{each-bucket, below-tab}
 use Rattle.sheet.specs.Flat.{from, quadAt}
@@ -27,10 +27,6 @@ use Rattle.merges.specs.Coarse.{hasCorner}
 use Rattle.fits.specs.declared.Merge.{Merge}
 use Rattle.fits.specs.Shaped.{Positioned}
 use Rattle.fits.specs.MergeFits.{faceStays, cornerStays, staysAt, CornersIn, FirstFallen}
-
--- what every number below n has, all have
-pub every-each : (p : ℕ → Bool) (n : ℕ) → ((i : ℕ) → i < n → p i ≡ true) → every p n ≡ true
-every-each p n h = every-on p 0 n (every-zero p) zero-le (λ i l m. h i m)
 
 -- a test that is passed unless it is not asked
 unless : (a b : Bool) → (a ≡ true → b ≡ true) → (not a || b) ≡ true

@@ -11,7 +11,7 @@ use borrow.Author.Tests.{eq-eqb, eqb-true}
 use Rattle.lists.specs.Every.{every}
 use Rattle.lists.specs.Sort.{itself}
 use Rattle.lists.proofs.Laws.{eq-or-ne, lt-or-le}
-use Rattle.lists.proofs.Every.{and-left, and-right, bool-iff, every-at}
+use Rattle.lists.proofs.Every.{and-left, and-right, bool-iff, every-at, every-each}
 use Rattle.lists.proofs.Regions.{elementOf, tab-own}
 use Rattle.sheet.specs.Quads.{is, sum, all, at}
 use Rattle.sheet.specs.Closed.{atPoint}
@@ -22,7 +22,6 @@ use Rattle.sheet.proofs.Flat.{upto, sum-tab, total-flat}
 use Rattle.census.specs.Census.{degree, noneOrTwo}
 use Rattle.census.proofs.Corners.{is-same, is-positive, pos-split}
 use Rattle.census.proofs.Sides.{bucket-sum}
-use Rattle.census.proofs.Tight.{every-of}
 use Rattle.links.specs.Links.{joinsTo, twoAt}
 use Rattle.links.proofs.Rounds.{touch, twos}
 
@@ -82,11 +81,11 @@ module _ {np nq : ℕ} {Q cs : List ℕ} {v m deg : ℕ} {w : List ℕ} (C : Cou
   -- both ends of each corner have two joins exactly if each point has none or two
   pub two-test : every (twoAt Q deg w cs) m ≡ every (noneOrTwo (quadsOf nq Q) v) np
   two-test = bool-iff (every (twoAt Q deg w cs) m) (every (noneOrTwo (quadsOf nq Q) v) np)
-      (λ t. every-of (noneOrTwo (quadsOf nq Q) v) np (λ x h. ⊎-elim
+      (λ t. every-each (noneOrTwo (quadsOf nq Q) v) np (λ x h. ⊎-elim
       (λ (k : 0 < degree (quadsOf nq Q) v x). let e = two-there t x h k in rw (eq-eqb (degree (quadsOf nq Q) v x) 2 e) (or-true (eqb (degree (quadsOf nq Q) v x) 0)))
       (λ (k : degree (quadsOf nq Q) v x ≤ 0). let e : degree (quadsOf nq Q) v x ≡ 0 = omega arith in rw (eq-eqb (degree (quadsOf nq Q) v x) 0 e))
       (lt-or-le 0 (degree (quadsOf nq Q) v x))))
-      (λ t. every-of (twoAt Q deg w cs) m (λ i h.
+      (λ t. every-each (twoAt Q deg w cs) m (λ i h.
       let p = before Q (getD cs i 0) in
       let n = to Q (getD cs i 0) in
       let dp : degree (quadsOf nq Q) v p ≡ 2 = twos np (quadsOf nq Q) (C .good) v t p (omega (arith, C .sums (touch p), joins-at Q cs (touch p) m i h, is-same p)) in

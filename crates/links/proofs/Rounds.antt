@@ -10,14 +10,13 @@ use lib.ListN.{length, getD, length-append}
 use borrow.Author.Tests.{ltb-true, eqb-true, eq-eqb, ne-eqb, lt-ltb}
 use Rattle.lists.specs.Every.{every, some}
 use Rattle.lists.proofs.Laws.{lt-or-le}
-use Rattle.lists.proofs.Every.{and-left, and-right, or-split, bool-iff, every-at, some-find}
+use Rattle.lists.proofs.Every.{and-left, and-right, or-split, bool-iff, every-at, every-each, some-find}
 use Rattle.sheet.specs.Quads.{Quad, num, is, sum, all, at, valence}
 use Rattle.sheet.specs.Flat.{quadsOf}
 use Rattle.sheet.specs.Closed.{ind, arc, atPoint}
 use Rattle.sheet.specs.Tests.{proper}
 use Rattle.census.specs.Census.{degree, joined, reached, reaches, connected, noneOrTwo}
 use Rattle.census.proofs.Corners.{weighty, at-positive, is-same, is-other, is-positive, pos-split}
-use Rattle.census.proofs.Tight.{every-of}
 use Rattle.census.proofs.Sides.{length-sum}
 use Rattle.census.proofs.Arcs.{ind-positive, ind-first, ind-second, arc-more, arc-from, arc-to, arc-le, arc-plus, Ends, pairSum, cornersOf, corners-sum, pair-le}
 use Rattle.census.proofs.Links.{reached-more, along}
@@ -301,7 +300,7 @@ module _ (n : ℕ) (S : List Quad) (good : all (proper n) S ≡ true) (v : ℕ) 
 
       round-connected : connected n S v ≡ true
       unfolding connected
-      round-connected = every-of (λ x. every (reaches n S v x) n) n (λ x _. every-of (reaches n S v x) n (λ y _. all-reach x y))
+      round-connected = every-each (λ x. every (reaches n S v x) n) n (λ x _. every-each (reaches n S v x) n (λ y _. all-reach x y))
 
   no-rest : (l : List Ends) → length l ≡ 0 → (g : ℕ → ℕ → ℕ) → pairSum g l ≡ 0
   no-rest [] e g = refl

@@ -65,6 +65,10 @@ every-on p b (suc c) e h f = ⊎-elim
     rw (ih, f c (omega arith) (omega arith)))
     (eq-or-ne b (suc c))
 
+-- what each one has, every one has
+pub every-each : (p : ℕ → Bool) (n : ℕ) → ((i : ℕ) → i < n → p i ≡ true) → every p n ≡ true
+every-each p n h = every-on p 0 n (every-zero p) (omega arith) (λ i l m. h i m)
+
 pub or-split : (a b : Bool) → (a || b) ≡ true → (a ≡ true) ⊎ (b ≡ true)
 or-split true b e = inl refl
 or-split false b e = inr e

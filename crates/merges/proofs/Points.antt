@@ -13,6 +13,7 @@ use Rattle.points.specs.declared.Point.{Point}
 use Rattle.points.specs.Points.{finiteP}
 use Rattle.sheet.specs.Quads.{Quad, quad, is, sum, all, valence}
 use Rattle.sheet.specs.Sheet.{Sheet}
+use Rattle.sheet.proofs.All.{all-get}
 use Rattle.swaps.specs.Swaps.{choose, takeOr}
 use Rattle.swaps.proofs.Base.{is-self}
 use Rattle.swaps.proofs.Sweep.{none-some, cond-some, choose-some}
@@ -22,11 +23,6 @@ use Rattle.merges.specs.Coarse.{MergeState, MergeFits, Position, masksJo
 -- ---- a test of every element
 
 module _ {A : Type 0} (p : A → Bool) where
-  pub all-get : (l : List A) (i : ℕ) (d : A) → all p l ≡ true → i < length l → p (getD l i d) ≡ true
-  all-get [] i d e h = absurd (omega arith)
-  all-get (x ∷ l) zero d e h = and-left (p x) (all p l) e
-  all-get (x ∷ l) (suc i) d e h = all-get l i d (and-right (p x) (all p l) e) (omega arith)
-
   pub all-put : (l : List A) (i : ℕ) (x : A) → all p l ≡ true → p x ≡ true → all p (set l i x) ≡ true
   all-put [] i x e h = refl
   all-put (y ∷ l) zero x e h = rw (h, and-right (p y) (all p l) e) refl

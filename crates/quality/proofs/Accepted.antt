@@ -14,9 +14,9 @@ use Rattle.sheet.specs.Quads.{all}
 use Rattle.sheet.specs.Flat.{quadAt, quadsOf}
 use Rattle.sheet.specs.Tests.{proper, goodCorners}
 use Rattle.sheet.specs.Sheet.{sheetOf, sheetVerdict, lentVerdict}
-use Rattle.sheet.proofs.Tests.{lent-is, length-points, bare-is, labels-match, all-tab, found-nothing, some-quad, proper-of}
+use Rattle.sheet.proofs.Tests.{lent-is, length-points, bare-is, labels-match, all-tab, tested, some-quad, proper-of}
 use Rattle.incidence.proofs.Corners.{cornered}
-use Rattle.census.proofs.Corners.{Four, four-of}
+use Rattle.sheet.proofs.Corners.{Four, four-of}
 use Rattle.quality.specs.Quality.{Measuring}
 
 -- ---- four corners are four points
@@ -34,9 +34,9 @@ pub accepted : (b : Band) (c : Counts) (P : List Float) (Q labels : List ℕ) (w
     → Measuring c (length P) Q (length labels) w f
 accepted b c P Q labels w f l s =
     let L = lent-is c (length P) (length Q) (length labels) w f l in
-    let F = found-nothing b (sheetOf c P Q labels) s in
-    let e = bare-is c P Q labels (L .0 .labels) ∙ F .0 in
-    let g : goodCorners (c .points) (quadsOf (c .quads) Q) (take (c .labels) labels) ≡ true = rw (length-points (c .points) P) at (F .1) in
+    let F = tested b (sheetOf c P Q labels) s in
+    let e = bare-is c P Q labels (L .0 .labels) ∙ F .not-bare in
+    let g : goodCorners (c .points) (quadsOf (c .quads) Q) (take (c .labels) labels) ≡ true = rw (length-points (c .points) P) at (F .corners) in
     let k = cornered (c .points) (c .quads) Q (take (c .labels) labels) g (L .0 .few .quads≤) (L .0 .quads) in
     let p = proper-of (c .points) (quadsOf (c .quads) Q) (take (c .labels) labels) g in
     let q = some-quad c P e in

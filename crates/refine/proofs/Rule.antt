@@ -14,7 +14,7 @@ use Rattle.lists.specs.Sort.{tabulate, itself}
 use Rattle.lists.specs.Every.{every, countTo}
 use Rattle.lists.specs.Regions.{part, Part, Out, Out3, Kept}
 use Rattle.lists.proofs.Laws.{getD-tab, tab-ext}
-use Rattle.lists.proofs.Every.{every-at, every-zero, every-on, bool-iff, and-left, and-right, count-zero, count-yes, count-mono}
+use Rattle.lists.proofs.Every.{every-at, every-each, bool-iff, and-left, and-right, count-zero, count-yes, count-mono}
 use Rattle.lists.proofs.Regions.{part-as, part-kept, kept-then, lent-tab}
 use Rattle.sheet.specs.declared.Counts.{Counts}
 use Rattle.sheet.specs.declared.Verdict.the-variants.{Accepted, Refused}
@@ -182,19 +182,16 @@ module _ (c : Counts) (P : List Float) (Q labels : List ℕ) (w : ℕ) (R : Refi
 range-is : (n nq : ℕ) (Q : List ℕ) → every (lowAt n Q) (4 * nq) ≡ all (inRange n) (quadsOf nq Q)
 unfolding quadsOf inRange
 range-is n nq Q = bool-iff _ _
-    (λ e. rw all-tab (every-of (λ q. inRange n (quadAt Q q)) nq (λ q h.
+    (λ e. rw all-tab (every-each (λ q. inRange n (quadAt Q q)) nq (λ q h.
     four _ _ _ _ (every-at (lowAt n Q) (4 * nq) (4 * q + 0) e (omega arith)) (every-at (lowAt n Q) (4 * nq) (4 * q + 1) e (omega arith)) (every-at (lowAt n Q) (4 * nq) (4 * q + 2) e (omega arith)) (every-at (lowAt n Q) (4 * nq) (4 * q + 3) e (omega arith)))))
     (λ e.
     let a : every (λ q. inRange n (quadAt Q q)) nq ≡ true = sym (all-tab (inRange n) (quadAt Q) nq) ∙ e in
-    every-of (lowAt n Q) (4 * nq) (λ c h.
+    every-each (lowAt n Q) (4 * nq) (λ c h.
     let s : 4 * (c / 4) + c % 4 ≡ c = omega arith in
     rw s at (one (c / 4) (c % 4) (omega arith) (every-at (λ q. inRange n (quadAt Q q)) nq (c / 4) a (omega arith)))))
   where
     four : (a b c d : Bool) → a ≡ true → b ≡ true → c ≡ true → d ≡ true → (a && b && c && d) ≡ true
     four a b c d p q r s = rw (p, q, r, s)
-
-    every-of : (p : ℕ → Bool) (m : ℕ) → ((i : ℕ) → i < m → p i ≡ true) → every p m ≡ true
-    every-of p m h = every-on p 0 m (every-zero p) (omega arith) (λ i a b. h i b)
 
     one : (q j : ℕ) → j < 4 → inRange n (quadAt Q q) ≡ true → lowAt n Q (4 * q + j) ≡ true
     one q zero h e = search (and-left, and-right)

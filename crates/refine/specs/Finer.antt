@@ -1,6 +1,6 @@
 -- The finer sheet of `refine`: each quad becomes four round its centre. Document 01, "The finer sheet and the rows", and `refine` of 000.
 use Prim.Native.Nat.{ℕ, suc, _+_, _*_, min, max}
-use mathlib.Core.Bool.{cond, _||_}
+use mathlib.Core.Bool.{cond}
 use mathlib.Core.List.{List, [], _∷_, _++_, map}
 use lib.Dec.{eqb}
 use lib.ListN.{length, getD}
@@ -11,9 +11,9 @@ use Rattle.sheet.specs.declared.Counts.{Counts}
 use Rattle.sheet.specs.Quads.{Quad, quad, is, sum, all}
 use Rattle.sheet.specs.FirstUse.{firsts, place}
 use Rattle.sheet.specs.Tests.{inRange}
-use Rattle.sheet.specs.Numbers.{bare, corner, short}
-use Rattle.sheet.specs.Sheet.{Sheet, sheetOf, isLarge, isShort, lentVerdict}
-use Rattle.results.specs.Outcomes.{Outcome, refuses, gives, afterTest}
+use Rattle.sheet.specs.Numbers.{bare, corner}
+use Rattle.sheet.specs.Sheet.{Sheet, sheetOf, lentVerdict}
+use Rattle.results.specs.Outcomes.{Outcome, refuses, gives, afterTest, withRoom}
 use Rattle.results.specs.Results.{countsOf}
 
 -- ---- the quads and labels
@@ -119,9 +119,9 @@ finerSheet s = record {
   labels = fourLabels (s .labels);
 }
 
--- 13, short: "more points or quads than the result slices or the limit hold"
+-- the sheet that is made, or 13
 abbrev pub madeOrShort : Sheet → ℕ → ℕ → ℕ → Outcome Sheet
-madeOrShort t p q l = cond (isLarge (countsOf t) || isShort (countsOf t) p q l) (refuses short) (gives t)
+madeOrShort t p q l = withRoom (countsOf t) p q l (gives t)
 
 -- "refine: label count only" is 5, "refine: range only" is 6
 unfoldable pub refined : Sheet → ℕ → ℕ → ℕ → Outcome Sheet

@@ -3,7 +3,7 @@ use Prim.Native.Nat.{ℕ, zero, suc, _+_, _*_, _/_, _%_, _≤_, _<_}
 use mathlib.Core.Path.{_≡_, refl, sym, ap, _∙_}
 use mathlib.Core.Bool.{Bool, true, false, cond, not, _&&_, _||_}
 use mathlib.Core.Logic.{⊎-elim}
-use mathlib.Core.List.{List, [], _∷_, _++_, map}
+use mathlib.Core.List.{List, [], _∷_, map}
 use native.Mathlib.Omega.{arith}
 use lib.Dec.{eqb}
 use lib.ListN.{length, getD, take, length-map, List·getD-eq-default}
@@ -19,6 +19,7 @@ use Rattle.sheet.specs.Quads.{Quad, quad, num, all, pack, hasLabel, maskOf}
 use Rattle.sheet.specs.Flat.{corner, from, to, quadAt, quadsOf, flatQuads}
 use Rattle.sheet.specs.Edges.{joinTo, pointCorners}
 use Rattle.sheet.specs.Sheet.{masksOf}
+use Rattle.sheet.proofs.All.{all-append}
 use Rattle.sheet.proofs.Edges.{join-ext}
 use Rattle.sheet.proofs.Masks.{bit-pack}
 use Rattle.sheet.proofs.Tests.{length-points}
@@ -36,19 +37,11 @@ use Rattle.rows.proofs.Seams.{sideAt, row-sides}
 
 -- ---- lists
 
-all-snoc : {A : Type 0} (p : A → Bool) (l m : List A) → all p (l ++ m) ≡ (all p l && all p m)
-all-snoc p [] m = refl
-all-snoc p (x ∷ l) m = rw (all-snoc p l m) (assoc (p x) (all p l) (all p m))
-  where
-    assoc : (a b c : Bool) → (a && (b && c)) ≡ ((a && b) && c)
-    assoc true b c = refl
-    assoc false b c = refl
-
 -- a test of those that pass another
 all-those : (p q : ℕ → Bool) (n : ℕ) → all p (those q n) ≡ every (λ k. not (q k) || p k) n
 unfolding those joinTo every
 all-those p q zero = refl
-all-those p q (suc n) = all-snoc p (those q n) (consIf (q n) n []) ∙ rw (all-those p q n, one (q n))
+all-those p q (suc n) = all-append p (those q n) (consIf (q n) n []) ∙ rw (all-those p q n, one (q n))
   where
     yes : (b : Bool) → (b && true) ≡ b
     yes true = refl
@@ -160,7 +153,7 @@ module _ {np nq : ℕ} {P : List Float} {Q labels : List ℕ} (L : Labelled np n
   pub seams-low : (n : ℕ) → 0 < nq → Each 0 (λ c. c < 4 * nq) (seamsTo Q labels (4 * nq) (edgeOrder np nq Q) n)
   unfolding seamsTo joinTo seamCorners
   seams-low zero some = λ i h. absurd (omega arith)
-  seams-low (suc n) some = each-append (λ c. c < 4 * nq) (joinTo (seamCorners Q labels (4 * nq) (edgeOrder np nq Q)) n) (seamCorners Q labels (4 * nq) (edgeOrder np nq Q) n) (seams-low n some) (go (seamAt Q labels (4 * nq) (edgeOrder np nq Q) n))
+  seams-low (suc n) some = each-append 0 (λ c. c < 4 * nq) (joinTo (seamCorners Q labels (4 * nq) (edgeOrder np nq Q)) n) (seamCorners Q labels (4 * nq) (edgeOrder np nq Q) n) (seams-low n some) (go (seamAt Q labels (4 * nq) (edgeOrder np nq Q) n))
     where
       go : (b : Bool) → Each 0 (λ c. c < 4 * nq) (cond b (getD (edgeOrder np nq Q) n 0 ∷ getD (edgeOrder np nq Q) (n + 1) 0 ∷ []) [])
       go true zero h = order-low n some

@@ -19,12 +19,12 @@ use Rattle.band.specs.declared.Band.{Band}
 use Rattle.projection.specs.declared.Projected.{Projected}
 use Rattle.projection.specs.declared.Projected.the-variants.{Onto, Refused}
 use Rattle.sheet.specs.Edges.{joinTo}
-use Rattle.sheet.specs.Sheet.{pointsOf, flatPoints}
+use Rattle.sheet.specs.Sheet.{Sheet, pointsOf, flatPoints}
 use Rattle.sheet.proofs.Tests.{length-points}
 use Rattle.results.specs.Results.{Front}
 use Rattle.results.proofs.Fronts.{front-point, length-with}
 use Rattle.smoothed.specs.Smoothed.{those}
-use Rattle.rows.specs.Rows.{firstStep, tryCount, tryFrom}
+use Rattle.rows.specs.Rows.{isCopied, copies, numberOf, firstStep, tryCount, tryFrom, copyOf, rowsSheet}
 use Rattle.projection.specs.Project.{ontoOf}
 use Rattle.rows.specs.Steps.{copiedIn, numberIn, pointsAfter, inwardAt, copyAt, foundAt, putCopy, copiesTo, numbersAt}
 
@@ -42,6 +42,12 @@ length-those p (suc n) = length-append (those p n) (consIf (p n) n []) ∙ go (p
     go : (b : Bool) → length (those p n) ≡ countTo p n → length (those p n) + length (consIf b n []) ≡ countTo p n + cond b 1 0
     go true e = omega arith
     go false e = omega arith
+
+-- the points of the sheet with rows
+pub length-rows : (b : Band) (s : Sheet) → length (rowsSheet b s .points) ≡ numberOf s (8 * length (s .points))
+unfolding rowsSheet copies numberOf
+length-rows b s =
+    length-append (s .points) (map (λ k. ontoOf (copyOf b s k)) (copies s)) ∙ rw (length-map (copies s) (λ k. ontoOf (copyOf b s k)), length-those (isCopied s) (8 * length (s .points)))
 
 -- ---- the numbers of the copies
 

@@ -24,7 +24,7 @@ use Rattle.sheet.specs.Quads.{Quad, quad, all, maskOf}
 use Rattle.sheet.specs.Tests.{goodQuadAt, goodCorners}
 use Rattle.sheet.specs.Flat.{quadsOf, flatQuads}
 use Rattle.sheet.specs.Sheet.{Sheet, pointsOf, flatPoints, sheetOf, masksOf, LentSheet, isLarge, isShort, lentVerdict, sheetVerdict}
-use Rattle.sheet.proofs.Tests.{or-left, or-right, holds-of, lent-is, length-points, bare-is, labels-match, found-nothing, some-quad, proper-of, corners-tested}
+use Rattle.sheet.proofs.Tests.{or-left, or-right, holds-of, lent-is, length-points, bare-is, labels-match, tested, some-quad, proper-of, corners-tested}
 use Rattle.results.specs.declared.Made.{Made}
 use Rattle.results.specs.declared.Made.the-variants as made
 use Rattle.results.specs.Outcomes.{Outcome, refuses, gives, afterTest}
@@ -35,12 +35,12 @@ use Rattle.results.proofs.Results.{refused-fills}
 use Rattle.smoothed.specs.Smoothed.{paired}
 use Rattle.smoothed.specs.Steps.{flatSheet}
 use Rattle.results.proofs.Fronts.{points-front, quads-front}
-use Rattle.rows.specs.Rows.{isCopied, copies, numberOf, copyOf, copiedQuads, labelOf, stripAt, rowSides, rowsSheet, rowsMade, rowed, rowsRule}
-use Rattle.projection.specs.Project.{isOnto, ontoOf}
+use Rattle.rows.specs.Rows.{copies, numberOf, copyOf, copiedQuads, labelOf, stripAt, rowSides, rowsSheet, rowsMade, rowed, rowsRule}
+use Rattle.projection.specs.Project.{isOnto}
 use Rattle.rows.specs.Steps.{numberIn, pointsAfter, foundAt, copiesTo, cornerLabel, cornerIn, seamsOf, stripIn, masksAt, countsAfter, madeBy, Worked, Gathered, Gathering, Finished, Tested}
 use Rattle.rows.proofs.Copies.{number-le}
 use Rattle.rows.proofs.Seams.{sideAt, row-sides}
-use Rattle.rows.proofs.Put.{length-those}
+use Rattle.rows.proofs.Put.{length-rows}
 use Rattle.rows.proofs.Flat.{number-is, found-is, copies-are, copied-quads, length-copied, strips-are, strip-labels}
 
 -- a slice whose front is written, and what lies behind it by a part to the end
@@ -106,7 +106,7 @@ module _ {np nq : ℕ} {P : List Float} {Q labels M w : List ℕ} (G : Gathered 
       rw (x, y, z)
     where
       points-count : length (t .points) ≡ numberOf s (8 * np)
-      points-count = length-append (s .points) (map (λ k. ontoOf (copyOf b s k)) (copies s)) ∙ rw (length-map (copies s) (λ k. ontoOf (copyOf b s k)), length-points np P, length-those (isCopied s) (8 * np))
+      points-count = length-rows b s ∙ ap (λ (k : ℕ). numberOf s (8 * k)) (length-points np P)
 
   module _ {A : List Float} {B D : List ℕ} (FA : Front (flatPoints (t .points)) A) (FB : Front (flatQuads (t .quads)) B) (FD : Front (t .labels) D) (c : Counts) (ec : c ≡ countsOf t) where
     sheet-is : sheetOf c A B D ≡ t
@@ -292,10 +292,10 @@ module _ (b : Band) (c : Counts) (P : List Float) (Q labels : List ℕ) (w f p q
     unfolding masksOf
     rule-tested v y ew t em =
         let L = rule-sheet in
-        let N = found-nothing b (sheetOf c P Q labels) t in
-        let x = bare-is c P Q labels (L .labels) ∙ N .0 in
+        let N = tested b (sheetOf c P Q labels) t in
+        let x = bare-is c P Q labels (L .labels) ∙ N .not-bare in
         let same = labels-match c P x in
-        let g : goodCorners (c .points) (quadsOf (c .quads) Q) (take (c .labels) labels) ≡ true = rw (length-points (c .points) P) at (N .1) in
+        let g : goodCorners (c .points) (quadsOf (c .quads) Q) (take (c .labels) labels) ≡ true = rw (length-points (c .points) P) at (N .corners) in
         let h : c .quads ≤ length labels = omega (arith, same, L .labels) in
         let each : every (goodQuadAt (c .points) Q labels) (c .quads) ≡ true = corners-tested (c .points) (c .quads) Q labels h ∙ rw same at g in
         let many : length y ≡ c .points = ap length em ∙ length-tab (maskOf (quadsOf (c .quads) Q) (take (c .labels) labels)) (c .points) in

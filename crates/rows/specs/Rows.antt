@@ -1,6 +1,6 @@
 -- The sheet of `boundary_rows`: a row of quads along the edges between two labels. Document 01, "The finer sheet and the rows", and `boundary_rows` of 000.
 use Prim.Native.Nat.{ℕ, zero, suc, _+_, _*_, _/_, _%_, _^_, min, max}
-use mathlib.Core.Bool.{Bool, cond, _&&_, _||_}
+use mathlib.Core.Bool.{Bool, cond, _&&_}
 use mathlib.Core.List.{List, [], _∷_, _++_, map}
 use lib.Dec.{eqb, ltb}
 use lib.ListN.{length, getD}
@@ -16,9 +16,9 @@ use Rattle.projection.specs.Project.{projectOf, isOnto, ontoOf}
 use Rattle.sheet.specs.declared.Counts.{Counts}
 use Rattle.sheet.specs.Quads.{Quad, quad, all, hasLabel}
 use Rattle.sheet.specs.Edges.{Pair, joinTo, joinOf, edgesOf}
-use Rattle.sheet.specs.Numbers.{edge, short}
-use Rattle.sheet.specs.Sheet.{Sheet, sheetOf, isLarge, isShort, lentVerdict, sheetVerdict}
-use Rattle.results.specs.Outcomes.{Outcome, refuses, gives, afterTest}
+use Rattle.sheet.specs.Numbers.{edge}
+use Rattle.sheet.specs.Sheet.{Sheet, sheetOf, lentVerdict, sheetVerdict}
+use Rattle.results.specs.Outcomes.{Outcome, refuses, gives, afterTest, withRoom}
 use Rattle.results.specs.Results.{countsOf}
 use Rattle.smoothing.specs.Smooth.{mean, sumOf}
 use Rattle.smoothing.specs.Rounded.{pointwise}
@@ -173,11 +173,9 @@ rowsMade b s =
     (cond (paired (length (s .points)) (s .quads)) (afterTest (sheetVerdict b t) (gives t)) (refuses edge))
     (refuses row)
 
--- "Result 13 comes next, for more points or quads than the result slices or the limit hold."
+-- 13 (result), 10, 8, 7
 unfoldable pub rowed : Band → Sheet → ℕ → ℕ → ℕ → Outcome Sheet
-rowed b s p q l =
-    let c = countsOf (rowsSheet b s) in
-    cond (isLarge c || isShort c p q l) (refuses short) (rowsMade b s)
+rowed b s p q l = withRoom (countsOf (rowsSheet b s)) p q l (rowsMade b s)
 
 -- `boundary_rows` of the sheet in lent slices, with work of w and f elements, into result slices of p, q and l elements: 12, 13, 1, 5, 6, 7, 13, 10, 8, 7
 unfoldable pub rowsRule : Band → Counts → List Float → List ℕ → List ℕ → ℕ → ℕ → ℕ → ℕ → ℕ → Outcome Sheet

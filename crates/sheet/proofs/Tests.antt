@@ -1,19 +1,19 @@
 -- What the tests of a lent sheet leave, and the tests one quad or point at a time. Assumes nothing.
-use Prim.Native.Nat.{ℕ, zero, suc, _+_, _≤_, _<_}
+use Prim.Native.Nat.{ℕ, zero, suc, _≤_, _<_}
 use mathlib.Core.Path.{_≡_, refl, sym, ap, _∙_}
-use mathlib.Core.Bool.{Bool, true, false, cond, _&&_, _||_, or-true, true≢false}
+use mathlib.Core.Bool.{Bool, true, false, cond, not, _&&_, _||_, and-true, or-true, true≢false}
 use mathlib.Core.Logic.{⊎-elim}
-use mathlib.Core.List.{List, [], _∷_, _++_}
+use mathlib.Core.List.{List, [], _∷_}
 use native.Mathlib.Omega.{arith}
 use lib.ListN.{length, getD, take}
 use lib.Seq.{length-take-le}
 use lib.Dec.{eqb}
 use lib.Ieee.{Float}
-use borrow.Author.Tests.{ltb-false, eq-eqb, eqb-true, not-false}
+use borrow.Author.Tests.{ltb-false, eq-eqb, ne-eqb, eqb-true, eqb-false, not-false}
 use Rattle.lists.specs.Sort.{tabulate}
 use Rattle.lists.specs.Every.{every}
 use Rattle.lists.proofs.Laws.{eq-or-ne, length-tab, getD-tab, tab-take}
-use Rattle.lists.proofs.Every.{and-right, every-ext}
+use Rattle.lists.proofs.Every.{and-left, and-right, every-ext}
 use Rattle.points.specs.Points.{pointAt, finiteP}
 use Rattle.sheet.specs.declared.Counts.{Counts}
 use Rattle.sheet.specs.declared.Verdict.{Verdict}
@@ -26,6 +26,7 @@ use Rattle.sheet.specs.Flat.{quadAt, quadsOf, maskIn, Holds}
 use Rattle.sheet.specs.Tests.{proper, lowLabel, goodCorners, goodMask, goodPoint, goodMasks, goodQuadAt, goodMaskAt}
 use Rattle.sheet.specs.Sheet.{Sheet, sheetOf, sheetVerdict, pointsOf, isLarge, Few, isShort, isShortWork, lentVerdict, isBare, bareBy, quadsVerdict, LentSheet, LentWork, masksOf, MasksIf}
 use Rattle.sheet.proofs.Flat.{length-quads}
+use Rattle.sheet.proofs.All.{all-append}
 
 -- ---- 12 and 13
 
@@ -84,22 +85,10 @@ lent-is c p q l w f = go (isLarge c) refl (isShort c p q l) refl (isShortWork c 
 
 -- ---- tests of all elements
 
-all-append : {A : Type 0} (p : A → Bool) (l : List A) (x : A) → all p (l ++ (x ∷ [])) ≡ (all p l && p x)
-all-append p [] x = and-true (p x)
-  where
-    and-true : (b : Bool) → (b && true) ≡ b
-    and-true true = refl
-    and-true false = refl
-all-append p (y ∷ l) x = rw (all-append p l x) (sym (assoc (p y) (all p l) (p x)))
-  where
-    assoc : (a b c : Bool) → (a && b && c) ≡ (a && (b && c))
-    assoc true b c = refl
-    assoc false b c = refl
-
 pub all-tab : {A : Type 0} (p : A → Bool) (f : ℕ → A) (n : ℕ) → all p (tabulate f n) ≡ every (λ i. p (f i)) n
 unfolding tabulate every
 all-tab p f zero = refl
-all-tab p f (suc n) = all-append p (tabulate f n) (f n) ∙ rw (all-tab p f n)
+all-tab p f (suc n) = all-append p (tabulate f n) (f n ∷ []) ∙ rw (all-tab p f n, and-true (p (f n)))
 
 every-and : (p q : ℕ → Bool) (n : ℕ) → every (λ i. p i && q i) n ≡ (every p n && every q n)
 unfolding every
@@ -187,23 +176,63 @@ quads-decide b c P Q labels n r w v e h en er m =
 
 -- ---- what an accepted sheet has
 
--- 5 and 6 find nothing in a sheet that is accepted
-pub found-nothing : (b : Band) (s : Sheet) → sheetVerdict b s ≡ Accepted → (isBare s ≡ false) × (goodCorners (length (s .points)) (s .quads) (s .labels) ≡ true)
+-- 1, 5, 6 and 7 find nothing
+pub record Tested (b : Band) (s : Sheet) : Type 0 where
+  pub valid : validOf b ≡ true
+  pub not-bare : isBare s ≡ false
+  pub corners : goodCorners (length (s .points)) (s .quads) (s .labels) ≡ true
+  pub masks : goodMasks (length (s .points)) (s .quads) (s .labels) ≡ true
+
+pub tested : (b : Band) (s : Sheet) → sheetVerdict b s ≡ Accepted → Tested b s
 unfolding sheetVerdict quadsVerdict
-found-nothing b s = go (validOf b) (isBare s) refl (goodCorners (length (s .points)) (s .quads) (s .labels)) refl (goodMasks (length (s .points)) (s .quads) (s .labels))
+tested b s = go (validOf b) refl (isBare s) refl (goodCorners (length (s .points)) (s .quads) (s .labels)) refl (goodMasks (length (s .points)) (s .quads) (s .labels)) refl
   where
-    go : (v x : Bool) → isBare s ≡ x → (g : Bool) → goodCorners (length (s .points)) (s .quads) (s .labels) ≡ g → (m : Bool)
-        → cond v (cond x (Refused bare) (cond g (cond m Accepted (Refused clash)) (Refused corner))) (Refused box) ≡ Accepted
-        → (isBare s ≡ false) × (goodCorners (length (s .points)) (s .quads) (s .labels) ≡ true)
-    go false x ex g eg m h = absurd (let z : _≡_ {A = ℕ} 0 1 = cc in omega arith)
-    go true true ex g eg m h = absurd (let z : _≡_ {A = ℕ} 0 1 = cc in omega arith)
-    go true false ex false eg m h = absurd (let z : _≡_ {A = ℕ} 0 1 = cc in omega arith)
-    go true false ex true eg m h = (ex, eg)
+    go : (v : Bool) → validOf b ≡ v → (x : Bool) → isBare s ≡ x → (g : Bool) → goodCorners (length (s .points)) (s .quads) (s .labels) ≡ g → (m : Bool) → goodMasks (length (s .points)) (s .quads) (s .labels) ≡ m
+        → cond v (cond x (Refused bare) (cond g (cond m Accepted (Refused clash)) (Refused corner))) (Refused box) ≡ Accepted → Tested b s
+    go false ev x ex g eg m em h = absurd (let z : _≡_ {A = ℕ} 0 1 = cc in omega arith)
+    go true ev true ex g eg m em h = absurd (let z : _≡_ {A = ℕ} 0 1 = cc in omega arith)
+    go true ev false ex false eg m em h = absurd (let z : _≡_ {A = ℕ} 0 1 = cc in omega arith)
+    go true ev false ex true eg false em h = absurd (let z : _≡_ {A = ℕ} 0 1 = cc in omega arith)
+    go true ev false ex true eg true em h = record { valid = ev; not-bare = ex; corners = eg; masks = em }
+
+-- and the other way round
+pub tests-accept : (b : Band) (s : Sheet) → Tested b s → sheetVerdict b s ≡ Accepted
+unfolding sheetVerdict quadsVerdict
+tests-accept b s t = rw (t .valid, t .not-bare, t .corners, t .masks)
+
+-- what 5 asks
+pub record Whole (s : Sheet) : Type 0 where
+  pub some-points : 0 < length (s .points)
+  pub some-quads : 0 < length (s .quads)
+  pub labelled : length (s .labels) ≡ length (s .quads)
+  pub finite : all finiteP (s .points) ≡ true
+
+pub whole-of : (s : Sheet) → isBare s ≡ false → Whole s
+unfolding isBare
+whole-of s e = record {
+  some-points = positive _ (eqb-false _ _ (search (or-left, or-right)));
+  some-quads = positive _ (eqb-false _ _ (search (or-left, or-right)));
+  labelled = eqb-true _ _ (not-false _ (search (or-left, or-right)));
+  finite = not-false _ (search (or-left, or-right));
+}
+  where
+    positive : (k : ℕ) → (k ≡ 0 → ⊥) → 0 < k
+    positive k h = omega arith
+
+-- 5 of a sheet with points, quads and a label for each quad asks whether its points are finite
+pub bare-finite : (s : Sheet) → 0 < length (s .points) → 0 < length (s .quads) → length (s .labels) ≡ length (s .quads) → isBare s ≡ not (all finiteP (s .points))
+unfolding isBare
+bare-finite s p q l = rw (ne-eqb (length (s .points)) 0 (λ z. omega arith), ne-eqb (length (s .quads)) 0 (λ z. omega arith), eq-eqb (length (s .labels)) (length (s .quads)) l)
 
 -- a quad is there where 5 finds nothing
 pub some-quad : (c : Counts) (P : List Float) → bareBy c P ≡ false → 0 < c .quads
 unfolding bareBy
 some-quad c P e = ⊎-elim (λ (z : c .quads ≡ 0). absurd (true≢false (rw (eq-eqb (c .quads) 0 z, or-true (eqb (c .points) 0)) at e))) (λ (n : c .quads ≡ 0 → ⊥). omega arith) (eq-or-ne (c .quads) 0)
+
+-- 6 finds every label low
+pub lows-of : (n : ℕ) (S : List Quad) (labels : List ℕ) → goodCorners n S labels ≡ true → all lowLabel labels ≡ true
+unfolding goodCorners
+lows-of n S labels e = and-left (all lowLabel labels) (all (proper n) S) e
 
 -- 6 finds every quad proper
 pub proper-of : (n : ℕ) (S : List Quad) (labels : List ℕ) → goodCorners n S labels ≡ true → all (proper n) S ≡ true

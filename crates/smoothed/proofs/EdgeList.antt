@@ -10,11 +10,12 @@ use lib.Dec.{eqb, ltb}
 use borrow.Author.Tests.{eqb-true, ne-eqb, lt-ltb, ltb-true}
 use Rattle.lists.specs.Sort.{tabulate, itself, consIf, bucket}
 use Rattle.lists.proofs.Laws.{eq-or-ne, bucket-append, tab-add}
-use Rattle.lists.proofs.Every.{and-left, and-right, bool-iff}
+use Rattle.lists.proofs.Every.{bool-iff}
 use Rattle.sheet.specs.Quads.{all, side, isEdge}
 use Rattle.sheet.specs.Flat.{from, quadsOf}
 use Rattle.sheet.specs.Edges.{Pair, pair, joinTo, joinOf, edgesOf, smaller, larger, pointCorners, edgeCorners}
 use Rattle.sheet.specs.Tests.{proper}
+use Rattle.sheet.proofs.All.{all-get}
 use Rattle.incidence.specs.Corners.{Cornered, edgeOrder}
 use Rattle.incidence.proofs.Corners.{edge-order-runs}
 use Rattle.census.specs.Census.{isBoundary, isNonmanifold, boundaryEdges, nonmanifoldEdges}
@@ -27,11 +28,6 @@ use Rattle.smoothed.specs.Steps.{endAt, Ends, otherEnd, keep}
 use Rattle.smoothed.proofs.CreaseLoop.{keep-append}
 use Rattle.smoothed.proofs.Quads.{quadOf, edge-quads}
 use Rattle.smoothed.proofs.Joins.{join-list, length-twos, twos-at, others}
-
-all-get : {A : Type 0} (d : A) (p : A → Bool) (l : List A) → all p l ≡ true → (j : ℕ) → j < length l → p (getD l j d) ≡ true
-all-get d p [] e j h = absurd (omega arith)
-all-get d p (x ∷ l) e zero h = and-left (p x) (all p l) e
-all-get d p (x ∷ l) e (suc j) h = all-get d p l (and-right (p x) (all p l) e) j (omega arith)
 
 -- the pair that stands for one out of range
 abbrev pub noPair : Pair
@@ -113,9 +109,9 @@ module _ {np nq : ℕ} {Q : List ℕ} (C : Cornered np nq Q) (good : all (proper
 
   edge-in : (j : ℕ) → j < length (edgesOf np (quadsOf nq Q)) → Edge nq Q (edgeNo j)
   unfolding paired
-  edge-in j h = go (edgeNo j) (ltb-true _ _ (all-get noPair (λ e. ltb (e .low) (e .high)) (edgesOf np (quadsOf nq Q)) rising j h))
-      (eqb-true _ _ (all-get noPair (isPaired (quadsOf nq Q)) (edgesOf np (quadsOf nq Q)) pr j h))
-      (all-get noPair (λ e. isEdge (quadsOf nq Q) (e .low) (e .high)) (edgesOf np (quadsOf nq Q)) joining j h)
+  edge-in j h = go (edgeNo j) (ltb-true _ _ (all-get (λ e. ltb (e .low) (e .high)) (edgesOf np (quadsOf nq Q)) j noPair rising h))
+      (eqb-true _ _ (all-get (isPaired (quadsOf nq Q)) (edgesOf np (quadsOf nq Q)) j noPair pr h))
+      (all-get (λ e. isEdge (quadsOf nq Q) (e .low) (e .high)) (edgesOf np (quadsOf nq Q)) j noPair joining h)
     where
       go : (e : Pair) → e .low < e .high → length (edgeQuads (quadsOf nq Q) (e .low) (e .high)) ≡ 2 → isEdge (quadsOf nq Q) (e .low) (e .high) ≡ true → Edge nq Q e
       go e r t x =

@@ -1,7 +1,7 @@
 -- Where the old points come to, by the corners around them and the ends of their edges. Assumes nothing.
 use Prim.Native.Nat.{ℕ, zero, suc, _+_, _*_, _/_, _%_, _≤_, _<_, min, max}
 use mathlib.Core.Path.{_≡_, refl, sym, ap, _∙_}
-use mathlib.Core.Bool.{Bool, true, false, cond, not, _&&_}
+use mathlib.Core.Bool.{Bool, true, false, not, _&&_}
 use mathlib.Core.Logic.{⊎-elim}
 use mathlib.Core.List.{List, [], _∷_, _++_, map}
 use native.Mathlib.Omega.{arith}
@@ -43,16 +43,16 @@ map-ext d f g (x ∷ l) h =
     let e : f x ≡ g x = h 0 (omega arith) in
     rw (e, map-ext d f g l (λ i b. h (suc i) (omega arith)))
 
-pub each-append : (P : ℕ → Type 0) (l m : List ℕ) → Each 0 P l → Each 0 P m → Each 0 P (l ++ m)
-each-append P [] m a b i h = b i h
-each-append P (x ∷ l) m a b zero h = a 0 (omega arith)
-each-append P (x ∷ l) m a b (suc i) h = each-append P l m (λ j k. a (suc j) (omega arith)) b i (omega arith)
+pub each-append : {A : Type 0} (d : A) (P : A → Type 0) (l m : List A) → Each d P l → Each d P m → Each d P (l ++ m)
+each-append d P [] m a b i h = b i h
+each-append d P (x ∷ l) m a b zero h = a 0 (omega arith)
+each-append d P (x ∷ l) m a b (suc i) h = each-append d P l m (λ j k. a (suc j) (omega arith)) b i (omega arith)
 
 -- the numbers below n that pass a test are below n
 pub those-below : (p : ℕ → Bool) (m n : ℕ) → n ≤ m → Each 0 (λ x. x < m) (those p n)
 unfolding those joinTo
 those-below p m zero h i l = absurd (omega arith)
-those-below p m (suc n) h i l = each-append (λ x. x < m) (those p n) (consIf (p n) n []) (those-below p m n (omega arith)) (one (p n)) i l
+those-below p m (suc n) h i l = each-append 0 (λ x. x < m) (those p n) (consIf (p n) n []) (those-below p m n (omega arith)) (one (p n)) i l
   where
     one : (b : Bool) → Each 0 (λ x. x < m) (consIf b n [])
     one true zero k = omega arith

@@ -24,7 +24,7 @@ use Rattle.sheet.specs.Tests.{goodCorners}
 use Rattle.sheet.specs.Sheet.{Sheet, sheetOf, pointsOf, flatPoints, isLarge, isShort, lentVerdict, sheetVerdict, masksOf, LentSheet}
 use Rattle.sheet.proofs.Flat.{length-quads}
 use Rattle.sheet.proofs.Masks.{pack-lt}
-use Rattle.sheet.proofs.Tests.{or-left, or-right, holds-of, lent-is, length-points, bare-is, labels-match, found-nothing, some-quad, proper-of}
+use Rattle.sheet.proofs.Tests.{or-left, or-right, holds-of, lent-is, length-points, bare-is, labels-match, tested, some-quad, proper-of}
 use Rattle.results.specs.declared.Made.{Made}
 use Rattle.results.specs.Outcomes.{Outcome, refuses, afterTest}
 use Rattle.results.specs.Results.{answerOf, countsOf, Front, Fills}
@@ -201,10 +201,10 @@ module _ (b : Band) (c : Counts) (P : List Float) (Q labels : List ℕ) (w f p q
     unfolding masksOf
     rule-tested v y ew t em =
         let L = rule-sheet in
-        let F = found-nothing b (sheetOf c P Q labels) t in
-        let x = bare-is c P Q labels (L .labels) ∙ F .0 in
+        let F = tested b (sheetOf c P Q labels) t in
+        let x = bare-is c P Q labels (L .labels) ∙ F .not-bare in
         let same = labels-match c P x in
-        let g : goodCorners (c .points) (quadsOf (c .quads) Q) (take (c .labels) labels) ≡ true = rw (length-points (c .points) P) at (F .1) in
+        let g : goodCorners (c .points) (quadsOf (c .quads) Q) (take (c .labels) labels) ≡ true = rw (length-points (c .points) P) at (F .corners) in
         let many : length y ≡ c .points = ap length em ∙ length-tab (maskOf (quadsOf (c .quads) Q) (take (c .labels) labels)) (c .points) in
         let Z = lent (masksAt (c .points) (c .quads)) (c .points) v y (omega (arith, rule-work)) many in
         record {

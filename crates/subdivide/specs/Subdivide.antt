@@ -1,6 +1,6 @@
 -- The sheet of `subdivide`: the smoothed sheet with its points projected. Document 01, "The finer sheet and the rows", and `subdivide` of 000.
 use Prim.Native.Nat.{ℕ}
-use mathlib.Core.Bool.{Bool, cond, _||_}
+use mathlib.Core.Bool.{Bool, cond}
 use mathlib.Core.List.{List}
 use lib.ListN.{length}
 use lib.Ieee.{Float}
@@ -11,9 +11,9 @@ use Rattle.projection.specs.declared.Projected.{Projected}
 use Rattle.projection.specs.Project.{projectOf, isOnto, ontoOf}
 use Rattle.sheet.specs.declared.Counts.{Counts}
 use Rattle.sheet.specs.Quads.{maskOf}
-use Rattle.sheet.specs.Numbers.{edge, short}
-use Rattle.sheet.specs.Sheet.{Sheet, sheetOf, isLarge, isShort, lentVerdict, sheetVerdict}
-use Rattle.results.specs.Outcomes.{Outcome, refuses, gives, afterTest}
+use Rattle.sheet.specs.Numbers.{edge}
+use Rattle.sheet.specs.Sheet.{Sheet, sheetOf, lentVerdict, sheetVerdict}
+use Rattle.results.specs.Outcomes.{Outcome, refuses, gives, afterTest, withRoom}
 use Rattle.results.specs.Results.{countsOf}
 use Rattle.refine.specs.Finer.{finerSheet}
 use Rattle.smoothed.specs.Smoothed.{paired, pointOf, smoothSheet}
@@ -45,12 +45,10 @@ projectedSheet b t = record {
 unfoldable pub projected : Band → Sheet → Outcome Sheet
 projected b t = cond (every (landsAt b t) (length (t .points))) (gives (projectedSheet b t)) (refuses astray)
 
--- "Result 13 comes next, for more points or quads than the result slices or the limit hold." "Then subdivide 8, 5, 9": the smoothed sheet is
--- tested as the lent one was, as in 000; of these tests only 5 can fail.
+-- 13 (result); "Then subdivide 8, 5, 9": the smoothed sheet is tested as the lent one was, as in 000; of these tests only 5 can fail
 unfoldable pub subdivided : Band → Sheet → ℕ → ℕ → ℕ → Outcome Sheet
 subdivided b s p q l =
-    let c = countsOf (finerSheet s) in
-    cond (isLarge c || isShort c p q l) (refuses short)
+    withRoom (countsOf (finerSheet s)) p q l
     (cond (paired (length (s .points)) (s .quads)) (afterTest (sheetVerdict b (smoothSheet s)) (projected b (smoothSheet s))) (refuses edge))
 
 -- `subdivide` of the sheet in lent slices, with work of w and f elements, into result slices of p, q and l elements: 12, 13, 1, 5, 6, 7, 13, 8, 5, 9
