@@ -1,11 +1,9 @@
 // Replays the stored answers of the Rust original through the proved functions, and writes for each operation and number
 // how many agree. Standard input holds the records; docs/ORACLE.md has their layout.
-mod numbers;
-mod operations;
-mod records;
-mod sheets;
+mod record;
 mod table;
-mod words;
+
+use records::numbers;
 
 // The first words of a file of records, and the version of its layout.
 const MAGIC: u64 = 0x3156_5351;
@@ -23,7 +21,7 @@ fn records_in(head: &[u8]) -> u64 {
 // Goes through the records, until one is missing or too long.
 fn replay_all(records: u64, seen: &mut [u64; 256], agreed: &mut [u64; 256]) {
     let mut left = records;
-    while 0 < left && records::replay(seen, agreed) {
+    while 0 < left && record::replay(seen, agreed) {
         left -= 1;
     }
 }

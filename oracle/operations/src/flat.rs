@@ -1,6 +1,7 @@
 //! Sheets, bands and work as the library is lent them: flat lists with their counts.
 use oracle::field::BandNumbers;
 use oracle::quads::QuadMesh;
+use quads::ffi;
 
 /// The most points, quads or labels of a sheet.
 pub const LIMIT: usize = 1_048_576;
@@ -68,6 +69,21 @@ impl Flat {
         })
     }
 
+    /// The sheet as one that is read.
+    pub fn read(&self) -> ffi::Read<'_> {
+        ffi::Read { points: &self.points, quads: &self.quads, labels: &self.labels, counts: self.counts }
+    }
+
+    /// The sheet as one that is altered in its own lists.
+    pub fn altered(&mut self) -> ffi::Altered<'_> {
+        ffi::Altered { points: &mut self.points, quads: &mut self.quads, labels: &mut self.labels, counts: self.counts }
+    }
+
+    /// The lists as room for a sheet that is made.
+    pub fn written(&mut self) -> ffi::Written<'_> {
+        ffi::Written { points: &mut self.points, quads: &mut self.quads, labels: &mut self.labels }
+    }
+
     /// Whether all lists are, bit for bit, those of another.
     pub fn same(&self, other: &Flat) -> bool {
         let bits = |flat: &Flat| flat.points.iter().map(|x| x.to_bits()).collect::<Vec<_>>();
@@ -95,11 +111,17 @@ impl FlatBand {
             upper: band.levels[1],
         }
     }
+
+    /// The band as it is given.
+    pub fn given(&self) -> ffi::Given<'_> {
+        let FlatBand { kind, numbers, bounds, lower, upper } = self;
+        ffi::Given { kind: *kind, numbers, bounds, lower: *lower, upper: *upper }
+    }
 }
 
 /// The two work slices of a lent sheet, filled with what must be cleared.
 pub struct Work {
-    pub whole: Vec<u32>,
+    pub wholes: Vec<u32>,
     pub floats: Vec<f64>,
 }
 
@@ -107,18 +129,23 @@ impl Work {
     /// What document 01 asks for a sheet of these counts.
     pub fn of([points, quads, _]: [usize; 3]) -> Work {
         let n = points + quads;
-        Work { whole: vec![u32::MAX; 64 * n], floats: vec![f64::NAN; 16 * n] }
+        Work { wholes: vec![u32::MAX; 64 * n], floats: vec![f64::NAN; 16 * n] }
     }
 
     /// What it asks for a drawing of this many cells; next to nothing where so many are not allowed.
     pub fn drawing(cells: usize) -> Work {
-        let [whole, floats] =
+        let [wholes, floats] =
             if CELLS.contains(&cells) { [12 * (cells + 2).pow(3), (cells + 3).pow(3)] } else { [1, 1] };
-        Work { whole: vec![u32::MAX; whole], floats: vec![f64::NAN; floats] }
+        Work { wholes: vec![u32::MAX; wholes], floats: vec![f64::NAN; floats] }
+    }
+
+    /// Both as they are lent.
+    pub fn lent(&mut self) -> ffi::Work<'_> {
+        ffi::Work { wholes: &mut self.wholes, floats: &mut self.floats }
     }
 
     /// Whether both are zero.
     pub fn is_zero(&self) -> bool {
-        self.whole.iter().all(|&x| x == 0) && self.floats.iter().all(|x| x.to_bits() == 0)
+        self.wholes.iter().all(|&x| x == 0) && self.floats.iter().all(|x| x.to_bits() == 0)
     }
 }

@@ -2,7 +2,6 @@
 pub mod chain;
 pub mod closed;
 pub mod draws;
-pub mod exports;
 pub mod flat;
 pub mod library;
 pub mod lists;

@@ -1,8 +1,8 @@
 //! A call of the library: everything it is lent, and what it answers.
-use crate::exports::call;
 use crate::flat::{self, Flat, FlatBand, Work};
 use oracle::call::{Answer, Call, Operation, original};
 use oracle::quads::Quality;
+use quads::ffi;
 
 /// The number of a refusal for want of room.
 const SHORT: u8 = 13;
@@ -53,19 +53,18 @@ impl Lent {
 
     /// Calls the operation: 0, or the number of its refusal. None where it is not one of the library's.
     pub fn run(&mut self, operation: Operation) -> Option<u32> {
-        // SAFETY: each pointer and the length after it are of one list of `self`, and no two lists overlap.
-        unsafe {
-            match operation {
-                Operation::Refine => Some(call!(self.quads_refine [] sheet made work)),
-                Operation::Subdivide => Some(call!(self.quads_subdivide [] sheet band made work)),
-                Operation::Rows => Some(call!(self.quads_boundary_rows [] sheet band made work)),
-                Operation::Extract => Some(call!(self.quads_extract_candidate [] band number made work)),
-                Operation::Regularize => Some(call!(self.quads_regularize [] sheet band number work)),
-                Operation::ImproveLayout => Some(call!(self.quads_improve_layout [] sheet band number work)),
-                Operation::Coarsen => Some(call!(self.quads_coarsen [] sheet band number work)),
-                Operation::Quality => Some(call!(self.quads_quality [] sheet band work measures)),
-                _ => None,
-            }
+        let (band, number) = (self.band.given(), self.argument);
+        let (sheet, made, work, answer) = (&mut self.sheet, self.result.written(), self.work.lent(), &mut self.answer);
+        match operation {
+            Operation::Refine => Some(ffi::refine(sheet.read(), made, work, answer)),
+            Operation::Subdivide => Some(ffi::subdivide(sheet.read(), band, made, work, answer)),
+            Operation::Rows => Some(ffi::boundary_rows(sheet.read(), band, made, work, answer)),
+            Operation::Extract => Some(ffi::extract_candidate(band, number, made, work, answer)),
+            Operation::Regularize => Some(ffi::regularize(sheet.altered(), band, number, work, answer)),
+            Operation::ImproveLayout => Some(ffi::improve_layout(sheet.altered(), band, number, work, answer)),
+            Operation::Coarsen => Some(ffi::coarsen(sheet.altered(), band, number, work, answer)),
+            Operation::Quality => Some(ffi::quality(sheet.read(), band, work, answer, &mut self.measures)),
+            _ => None,
         }
     }
 

@@ -1,0 +1,38 @@
+// `quality`, asked as a record says.
+use records::numbers;
+use records::sheets;
+use records::stored;
+ghost use Prim.Native.Nat.{_≤_};
+ghost use lib.ListN.{length};
+
+// Whether `quality` answers as the record says; k holds the band.
+pub fn agrees(bytes: &[u8], k: &[f64], number: u64) -> bool
+    requires { ⌜ 18 ≤ length (now k) ⌝ }
+{
+    let mut points = [0.0; 192];
+    let mut corners = [0u32; 256];
+    let mut labels = [0u8; 64];
+    let n = sheets::load(bytes, &mut points, &mut corners, &mut labels);
+    let mut work = [0u32; 8192];
+    let mut floats = [0.0; 2048];
+    let mut answer = [0u64; 10];
+    let mut measures = [0.0; 4];
+    let got = quads::quads_quality(
+        &points,
+        &corners,
+        &labels,
+        n.points,
+        n.quads,
+        n.labels,
+        numbers::byte_at(bytes, 7) as u32,
+        &k[0..10],
+        &k[10..16],
+        k[16],
+        k[17],
+        &mut work,
+        &mut floats,
+        &mut answer,
+        &mut measures,
+    );
+    stored::same_quality(bytes, got, number, &answer, &measures)
+}
