@@ -12,6 +12,7 @@ ghost use lib.ListN.{length};
 ghost use Rattle.merging.specs.Layout.{Grounds, Touched};
 ghost use Rattle.candidates.specs.Choices.{diagonalOf, betterOf, landingOf, stayAround, candidateOf, weighedOf, foundTo, Tried, Searching, Holding, Noted, triedIn, Takeable, Taken, Passing, VisitedFace, VisitedAll};
 ghost use Rattle.lists.specs.Regions.{Out, Kept};
+ghost use Rattle.fits.specs.MergeFits.{mergeAt};
 ghost use Rattle.merging.specs.Layout.{allowedIn, orderAt, endedAt};
 ghost use mathlib.Core.Bool.{true};
 ghost use Rattle.band.specs.Bands.{lengthOf};
@@ -128,6 +129,18 @@ fn better(best: Choice, next: Candidate) -> Choice
     }
 }
 
+// The merge of a diagonal at p.
+fn merge_of(g: Diagonal, p: Point) -> Merge
+    ensures { λ r. ⌜ r ≡ mergeAt (g .face) (g .a) (g .c) p ⌝ }
+{
+    Merge {
+        face: g.face,
+        a: g.a,
+        c: g.c,
+        to: p,
+    }
+}
+
 // Whether the other quads at the point v stay, if the merge of a diagonal lands at p; the walk begins where the last one round v ended.
 fn stay_around(
     np: usize,
@@ -149,12 +162,7 @@ fn stay_around(
     ensures { λ r. ⌜ r .at ≤ orderAt np nq + 4 * nq ⌝ }
 {
     let n = np + nq;
-    let m = Merge {
-        face: g.face,
-        a: g.a,
-        c: g.c,
-        to: p,
-    };
+    let m = merge_of(g, p);
     let place = lists::at(w, merging::ENDED * n + v);
     fits::quads_stay(
         np,
