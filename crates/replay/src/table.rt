@@ -1,16 +1,8 @@
 // The table of what was seen and what agreed, at operation × 16 + number.
 
-// Writes the name of an operation.
-fn print_name(operation: usize) {
+// Writes the name of a function at a point, or of a test.
+fn print_function(operation: usize) -> bool {
     match operation {
-        1 => io::write_all(1, b"refine "),
-        2 => io::write_all(1, b"subdivide "),
-        3 => io::write_all(1, b"extract_candidate "),
-        4 => io::write_all(1, b"regularize "),
-        5 => io::write_all(1, b"improve_layout "),
-        6 => io::write_all(1, b"coarsen "),
-        7 => io::write_all(1, b"boundary_rows "),
-        8 => io::write_all(1, b"quality "),
         9 => io::write_all(1, b"project "),
         10 => io::write_all(1, b"value "),
         11 => io::write_all(1, b"gradient "),
@@ -20,7 +12,21 @@ fn print_name(operation: usize) {
         15 => io::write_all(1, b"validate "),
         _ => io::write_all(1, b"unknown "),
     }
-    ;
+}
+
+// Writes the name of an operation.
+fn print_name(operation: usize) -> bool {
+    match operation {
+        1 => io::write_all(1, b"refine "),
+        2 => io::write_all(1, b"subdivide "),
+        3 => io::write_all(1, b"extract_candidate "),
+        4 => io::write_all(1, b"regularize "),
+        5 => io::write_all(1, b"improve_layout "),
+        6 => io::write_all(1, b"coarsen "),
+        7 => io::write_all(1, b"boundary_rows "),
+        8 => io::write_all(1, b"quality "),
+        _ => print_function(operation),
+    }
 }
 
 // Writes a line for what has been seen at a place.
