@@ -1,5 +1,6 @@
 -- The choice between two diagonals is the rule's. Assumes nothing.
 use mathlib.Core.Path.{_≡_, refl, sym, ap, _∙_}
+use mathlib.Core.Logic.{_⊎_, inl, inr}
 use mathlib.Core.Bool.{Bool, true, false, not, cond, _&&_, and-false, false≢true}
 use Prim.Native.Nat.{ℕ, zero, suc, _+_, _-_, _≤_, _<_}
 use mathlib.Core.List.{List}
@@ -8,7 +9,7 @@ use native.Mathlib.Numerals.{add-one}
 use lib.Dec.{leb, ltb}
 use lib.Ieee.{Float}
 use lib.ListN.{getD}
-use borrow.Author.Tests.{leb-true, not-true, not-false}
+use borrow.Author.Tests.{leb-true, not-false}
 use Rattle.lists.proofs.Every.{and-left, and-right}
 use Rattle.points.specs.declared.Point.{Point}
 use Rattle.field.specs.declared.Field.{Field}
@@ -23,7 +24,8 @@ use Rattle.candidates.specs.declared.Diagonal.{Diagonal}
 use Rattle.candidates.specs.declared.Choice.{Choice}
 use Rattle.candidates.specs.declared.Choice.the-variants.{None}
 use Rattle.candidates.specs.declared.Candidate.{Candidate}
-use Rattle.candidates.specs.Choices.{diagonalOf, betterOf, landingOf, stayAround, candidateOf, weighedOf, foundTo, Tried, Searching}
+use Rattle.candidates.specs.declared.Ends.{Ends}
+use Rattle.candidates.specs.Choices.{diagonalOf, betterOf, landingOf, stayAround, candidateOf, weighedOf, foundTo, Tried, Searching, InOrder}
 
 -- an allowed merge gains
 pub allowed-gains : (np nq f a b c d : ℕ) (w : List ℕ) → allowedIn np nq f a b c d w ≡ true → (gainOf np nq a b c d w) .after ≤ (gainOf np nq a b c d w) .before
@@ -44,20 +46,37 @@ allowed-joins np nq f a b c d w e =
 
 -- ---- a diagonal whose merge lands
 
--- x and y tell whether the quads at its two ends stay
+-- x and y tell whether the quads at its ends stay
 module _ (np nq : ℕ) (g : Diagonal) (f : Field) (len : Float) (p : Point) (P : List Float) (labels w : List ℕ) (best : Choice) where
-  pub falls-at-a : (x : Bool) → x ≡ stayAround np nq g f len p P labels w (g .a) → not x ≡ true → best ≡ weighedOf np nq g f len p P labels w best
+  pub falls-at : (v : ℕ) (x : Bool) → (v ≡ g .a) ⊎ (v ≡ g .c) → x ≡ stayAround np nq g f len p P labels w v → x ≡ false → best ≡ weighedOf np nq g f len p P labels w best
   unfolding weighedOf
-  falls-at-a x e h = rw (← e, not-true x h)
+  falls-at v x (inl i) e h = let d : stayAround np nq g f len p P labels w (g .a) ≡ false = sym (e ∙ ap (stayAround np nq g f len p P labels w) i) ∙ h in rw d refl
+  falls-at v x (inr i) e h = let d : stayAround np nq g f len p P labels w (g .c) ≡ false = sym (e ∙ ap (stayAround np nq g f len p P labels w) i) ∙ h in rw (d, and-false (stayAround np nq g f len p P labels w (g .a))) refl
 
-  pub falls-at-c : (x y : Bool) → x ≡ stayAround np nq g f len p P labels w (g .a) → not x ≡ false → y ≡ stayAround np nq g f len p P labels w (g .c) → y ≡ false → best ≡ weighedOf np nq g f len p P labels w best
-  unfolding weighedOf
-  falls-at-c x y e h d k = rw (← e, ← d, k, and-false x)
-
-  pub both-stay : (x y : Bool) (z : Candidate) (r : Choice) → x ≡ stayAround np nq g f len p P labels w (g .a) → not x ≡ false → y ≡ stayAround np nq g f len p P labels w (g .c) → y ≡ true
+  pub both-stay : (n : Ends) (x y : Bool) (z : Candidate) (r : Choice) → InOrder g n → x ≡ stayAround np nq g f len p P labels w (n .first) → not x ≡ false → y ≡ stayAround np nq g f len p P labels w (n .second) → y ≡ true
       → z ≡ candidateOf np nq g p w → r ≡ betterOf best z → r ≡ weighedOf np nq g f len p P labels w best
   unfolding weighedOf
-  both-stay x y z r e h d k n b = rw (← e, ← d, k, not-false x h, ← n) b
+  both-stay n x y z r (inl i) e h d k c b =
+      let first : stayAround np nq g f len p P labels w (g .a) ≡ true = sym (e ∙ ap (stayAround np nq g f len p P labels w) (i .0)) ∙ not-false x h in
+      let second : stayAround np nq g f len p P labels w (g .c) ≡ true = sym (d ∙ ap (stayAround np nq g f len p P labels w) (i .1)) ∙ k in
+      rw (first, second, ← c) b
+  both-stay n x y z r (inr i) e h d k c b =
+      let first : stayAround np nq g f len p P labels w (g .c) ≡ true = sym (e ∙ ap (stayAround np nq g f len p P labels w) (i .0)) ∙ not-false x h in
+      let second : stayAround np nq g f len p P labels w (g .a) ≡ true = sym (d ∙ ap (stayAround np nq g f len p P labels w) (i .1)) ∙ k in
+      rw (first, second, ← c) b
+
+-- each of the two ends is one of the diagonal, and a point
+pub first-end : (g : Diagonal) (n : Ends) → InOrder g n → (n .first ≡ g .a) ⊎ (n .first ≡ g .c)
+first-end g n (inl i) = inl (i .0)
+first-end g n (inr i) = inr (i .0)
+
+pub second-end : (g : Diagonal) (n : Ends) → InOrder g n → (n .second ≡ g .a) ⊎ (n .second ≡ g .c)
+second-end g n (inl i) = inr (i .1)
+second-end g n (inr i) = inl (i .1)
+
+pub end-below : {np nq : ℕ} {g : Diagonal} {w : List ℕ} {v : ℕ} → Tried np nq g w → (v ≡ g .a) ⊎ (v ≡ g .c) → v < np
+end-below T (inl i) = rw i (T .face .a<)
+end-below T (inr i) = rw i (T .face .c<)
 
 -- ---- the search
 

@@ -1,6 +1,7 @@
 -- The search for the merge in a quad: its two diagonals, one after the other.
 use Prim.Native.Nat.{ℕ, zero, suc, _+_, _-_, _*_, _%_, _≤_, _<_, max}
 use mathlib.Core.Path.{_≡_}
+use mathlib.Core.Logic.{_⊎_}
 use mathlib.Core.Bool.{Bool, true, cond, _&&_}
 use mathlib.Core.Option.{Option, none, some}
 use mathlib.Core.List.{List, []}
@@ -36,6 +37,7 @@ use Rattle.candidates.specs.declared.Choice.{Choice}
 use Rattle.candidates.specs.declared.Choice.the-variants.{None, Take}
 use Rattle.candidates.specs.declared.Diagonal.{Diagonal}
 use Rattle.candidates.specs.declared.Ended.{Ended}
+use Rattle.candidates.specs.declared.Ends.{Ends}
 
 -- diagonal k of quad f, whose corners are those of the flat list Q
 unfoldable pub diagonalOf : List ℕ → ℕ → ℕ → Diagonal
@@ -96,6 +98,10 @@ pub record Holding (np nq p q l : ℕ) : Type 0 where
   pub points : 3 * np ≤ p
   pub quads : 4 * nq ≤ q
   pub labels : nq ≤ l
+
+-- the two ends of a diagonal, in either order
+abbrev pub InOrder : Diagonal → Ends → Type 0
+InOrder g e = ((e .first ≡ g .a) × (e .second ≡ g .c)) ⊎ ((e .first ≡ g .c) × (e .second ≡ g .a))
 
 -- where a walk ended can be kept: its point is one or none, and its place lies among the corners by point or behind them
 pub record Noted (np nq : ℕ) (e : Ended) : Type 0 where

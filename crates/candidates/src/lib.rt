@@ -10,7 +10,7 @@ ghost use mathlib.Core.Path.{_≡_};
 ghost use Prim.Native.Nat.{ℕ, _+_, _*_, _<_, _≤_, max};
 ghost use lib.ListN.{length};
 ghost use Rattle.merging.specs.Layout.{Grounds, Touched};
-ghost use Rattle.candidates.specs.Choices.{diagonalOf, betterOf, landingOf, stayAround, candidateOf, weighedOf, foundTo, Tried, Searching, Holding, Noted, triedIn, Takeable, Taken, Passing, VisitedFace, VisitedAll};
+ghost use Rattle.candidates.specs.Choices.{diagonalOf, betterOf, landingOf, stayAround, candidateOf, weighedOf, foundTo, Tried, Searching, Holding, Noted, InOrder, triedIn, Takeable, Taken, Passing, VisitedFace, VisitedAll};
 ghost use Rattle.lists.specs.Regions.{Out, Kept};
 ghost use Rattle.fits.specs.MergeFits.{mergeAt};
 ghost use Rattle.merging.specs.Layout.{allowedIn, orderAt, endedAt};
@@ -45,6 +45,12 @@ pub enum Choice {
 pub struct Ended {
     pub point: usize,
     pub place: usize,
+}
+
+// The ends of a diagonal, in the order in which the quads at them are asked.
+pub struct Ends {
+    pub first: usize,
+    pub second: usize,
 }
 
 // The better of what was found and a diagonal, and where the last walk for it ended.
@@ -181,6 +187,27 @@ fn stay_around(
     )
 }
 
+// The ends of a diagonal, the one with fewer quads first.
+fn ends_of(np: usize, nq: usize, g: Diagonal, w: &[u32]) -> Ends
+    requires { ⌜ Grounds np nq (now w) ⌝ }
+    requires { ⌜ Tried np nq g (now w) ⌝ }
+    ensures { λ r. ⌜ InOrder g r ⌝ }
+{
+    let valences = merging::VALENCES * (np + nq);
+    let a = lists::at(w, valences + g.a);
+    let c = lists::at(w, valences + g.c);
+    if c < a {
+        return Ends {
+            first: g.c,
+            second: g.a,
+        };
+    }
+    Ends {
+        first: g.a,
+        second: g.c,
+    }
+}
+
 // The candidate of a diagonal whose merge lands at p.
 fn candidate_of(np: usize, nq: usize, g: Diagonal, p: Point, w: &[u32]) -> Candidate
     requires { ⌜ Grounds np nq (now w) ⌝ }
@@ -218,27 +245,22 @@ fn weighed(
     ensures { λ r. ⌜ r .best ≡ weighedOf np nq g f len p (now (points .entry)) (now (labels .entry)) (now (w .entry)) best ⌝ }
     ensures { λ r. ⌜ Noted np nq (r .ended) ⌝ }
 {
-    let one = stay_around(np, nq, g, f, len, p, points, labels, w, g.a);
+    let ends = ends_of(np, nq, g, w);
+    let one = stay_around(np, nq, g, f, len, p, points, labels, w, ends.first);
     if !one.stays {
-        return Weighing {
-            best,
-            ended: Ended {
-                point: g.a,
-                place: one.at,
-            },
-        };
+        let point = ends.first;
+        let place = one.at;
+        let ended = Ended { point, place };
+        return Weighing { best, ended };
     }
-    let other = stay_around(np, nq, g, f, len, p, points, labels, w, g.c);
-    let ended = Ended {
-        point: g.c,
-        place: other.at,
-    };
+    let other = stay_around(np, nq, g, f, len, p, points, labels, w, ends.second);
+    let point = ends.second;
+    let place = other.at;
+    let ended = Ended { point, place };
     if other.stays {
         let next = candidate_of(np, nq, g, p, w);
-        return Weighing {
-            best: better(best, next),
-            ended,
-        };
+        let best = better(best, next);
+        return Weighing { best, ended };
     }
     Weighing { best, ended }
 }
