@@ -1,4 +1,4 @@
-//! Links target/staticlib/libleaves.a of the project's root.
+//! Links target/staticlib/libexport_leaves.a of the project's root.
 use std::path::PathBuf;
 use std::{env, process};
 
@@ -7,10 +7,10 @@ fn main() {
     let folder = here.join("../../target/staticlib");
     let archive = folder.join("libleaves.a");
     if !archive.is_file() {
-        println!("cargo::error=no {}: run `rt staticlib leaves` at the project's root first", archive.display());
+        println!("cargo::error=no {}: run `rt staticlib export_leaves` at the project's root first", archive.display());
         process::exit(1);
     }
     println!("cargo::rerun-if-changed={}", archive.display());
     println!("cargo::rustc-link-search=native={}", folder.display());
-    println!("cargo::rustc-link-lib=static=leaves");
+    println!("cargo::rustc-link-lib=static=export_leaves");
 }

@@ -10,21 +10,22 @@ use lib.Seq.{length-take-le}
 use lib.Ieee.{Float}
 use borrow.Author.Tests.{le-ltb, ne-eqb}
 use Rattle.band.specs.declared.Band.{Band}
-use Rattle.sheet.specs.declared.Counts.{Counts}
-use Rattle.sheet.specs.declared.Verdict.{Verdict}
-use Rattle.sheet.specs.declared.Verdict.the-variants.{Accepted, Refused}
-use Rattle.sheet.specs.Sheet.{Sheet, sheetOf, limit, isLarge, Few, isShort, isShortWork, lentVerdict, sheetVerdict}
+use Rattle.rule_sheet.specs.declared.Counts.{Counts}
+use Rattle.rule_sheet.specs.declared.Verdict.{Verdict}
+use Rattle.rule_sheet.specs.declared.Verdict.the-variants.{Accepted, Refused}
+use Rattle.rule_sheet.specs.Sheet.{Sheet, sheetOf, limit, isLarge, isShort, isShortWork, lentVerdict, sheetVerdict}
+use Rattle.sheet.specs.Sheet.{Few}
 use Rattle.sheet.proofs.Flat.{length-quads}
 use Rattle.sheet.proofs.Tests.{lent-is, length-points, tested, tests-accept}
-use Rattle.results.specs.Outcomes.{Outcome, gives, afterTest}
-use Rattle.results.specs.Results.{countsOf}
-use Rattle.swaps.specs.Runs.{Answer, run}
-use Rattle.fits.specs.MergeFits.{mergeFits, mergePosition}
-use Rattle.fits.proofs.MergeFits.{merge-finite}
-use Rattle.closed.proofs.Fine.{Fine, fine-of, accepted-of}
-use Rattle.closed.proofs.Demand.{coarse-fine, coarse-fewer}
-use Rattle.coarse.specs.Pass.{bandPass}
-use Rattle.coarsen.specs.Rule.{coarseSheet, passesVerdict, coarsenRule}
+use Rattle.rule_sheet.specs.Outcomes.{Outcome, gives, afterTest}
+use Rattle.rule_sheet.specs.Results.{countsOf}
+use Rattle.rule_passes.specs.Runs.{Answer, run}
+use Rattle.rule_coarsen.specs.MergeFits.{mergeFits, mergePosition}
+use Rattle.pass_shapes.proofs.MergeFits.{merge-finite}
+use Rattle.safety_rules.proofs.Fine.{Fine, fine-of, accepted-of}
+use Rattle.safety_rules.proofs.Demand.{coarse-fine, coarse-fewer}
+use Rattle.coarsen_pass.specs.Pass.{bandPass}
+use Rattle.rule_coarsen.specs.Rule.{coarseSheet, passesVerdict, coarsenRule}
 use Rattle.coarsen.specs.Tested.{passCount, passLeaves, testedRun}
 
 -- ---- 12 and 13

@@ -12,27 +12,29 @@ use borrow.Author.Tests.{eq-eqb, ne-eqb}
 use Rattle.lists.specs.Every.{every}
 use Rattle.points.specs.declared.Point.{Point}
 use Rattle.band.specs.declared.Band.{Band}
-use Rattle.sheet.specs.declared.Counts.{Counts}
-use Rattle.sheet.specs.Quads.{Quad}
-use Rattle.sheet.specs.Flat.{quadsOf}
-use Rattle.sheet.specs.Tests.{goodCorners, goodQuadAt}
-use Rattle.sheet.specs.Sheet.{Sheet, sheetOf}
+use Rattle.rule_sheet.specs.declared.Counts.{Counts}
+use Rattle.rule_sheet.specs.Quads.{Quad}
+use Rattle.rule_sheet.specs.Flat.{quadsOf}
+use Rattle.rule_sheet.specs.Tests.{goodCorners}
+use Rattle.sheet.specs.Tests.{goodQuadAt}
+use Rattle.rule_sheet.specs.Sheet.{Sheet, sheetOf}
 use Rattle.sheet.proofs.Flat.{length-quads}
 use Rattle.sheet.proofs.Tests.{length-points, corners-tested}
-use Rattle.results.specs.Results.{countsOf, Room}
-use Rattle.results.proofs.Results.{length-flat-points, length-flat-quads}
-use Rattle.results.proofs.Fronts.{points-front, quads-front}
-use Rattle.swaps.specs.Runs.{Answer, run}
-use Rattle.swaps.proofs.Runs.{idle}
-use Rattle.merges.specs.Merges.{Slot}
-use Rattle.merges.specs.Coarse.{MergeState, compact}
-use Rattle.merging.specs.Layout.{removedAt, removedIn}
-use Rattle.compact.specs.Compact.{compacted, Begins, Compacting}
-use Rattle.merges.specs.Slots.{slotsOf}
-use Rattle.closed.proofs.Fine.{Fine, accepted-of}
-use Rattle.coarse.specs.Pass.{sheetIn, Mergeable, bandPass, Passed}
-use Rattle.coarse.proofs.Pass.{passed-none}
-use Rattle.coarsen.specs.Rule.{coarseSheet}
+use Rattle.rule_sheet.specs.Results.{countsOf}
+use Rattle.sheet.specs.Results.{Room}
+use Rattle.sheet.proofs.Results.{length-flat-points, length-flat-quads}
+use Rattle.sheet.proofs.Fronts.{points-front, quads-front}
+use Rattle.rule_passes.specs.Runs.{Answer, run}
+use Rattle.rule_regularize.proofs.Runs.{idle}
+use Rattle.rule_coarsen.specs.Merges.{Slot}
+use Rattle.rule_coarsen.specs.Coarse.{MergeState, compact}
+use Rattle.coarsen_merge.specs.Layout.{removedAt, removedIn}
+use Rattle.coarsen_compact.specs.Compact.{compacted, Begins, Compacting}
+use Rattle.rule_coarsen.specs.Invariants.{slotsOf}
+use Rattle.safety_rules.proofs.Fine.{Fine, accepted-of}
+use Rattle.coarsen_pass.specs.Pass.{sheetIn, Mergeable, bandPass, Passed}
+use Rattle.coarsen_pass.proofs.Pass.{passed-none}
+use Rattle.rule_coarsen.specs.Rule.{coarseSheet}
 use Rattle.coarsen.specs.Passes.{Coarsenable, Remains}
 use Rattle.coarsen.specs.Tested.{passCount, passLeaves}
 use Rattle.coarsen.proofs.Accepted.{counts-of, fine-by}

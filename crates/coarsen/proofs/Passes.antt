@@ -9,20 +9,20 @@ use lib.ListN.{length}
 use lib.Ieee.{Float}
 use borrow.Author.Tests.{eqb-false}
 use Rattle.band.specs.declared.Band.{Band}
-use Rattle.sheet.specs.declared.Counts.{Counts}
-use Rattle.sheet.specs.Sheet.{Sheet, sheetOf, limit}
+use Rattle.rule_sheet.specs.declared.Counts.{Counts}
+use Rattle.rule_sheet.specs.Sheet.{Sheet, sheetOf, limit}
 use Rattle.sheet.proofs.Flat.{length-quads}
 use Rattle.sheet.proofs.Tests.{length-points}
-use Rattle.results.specs.Results.{countsOf}
-use Rattle.swaps.specs.Runs.{Answer, run}
-use Rattle.swaps.proofs.Runs.{idle, run-split, run-from}
-use Rattle.fits.specs.MergeFits.{mergeFits, mergePosition}
-use Rattle.fits.proofs.MergeFits.{merge-finite}
-use Rattle.closed.proofs.Fine.{Fine}
-use Rattle.closed.proofs.Demand.{coarse-fine, coarse-fewer}
-use Rattle.coarse.specs.Pass.{bandPass}
-use Rattle.coarsen.specs.declared.Merged.{Merged}
-use Rattle.coarsen.specs.Rule.{coarseSheet}
+use Rattle.rule_sheet.specs.Results.{countsOf}
+use Rattle.rule_passes.specs.Runs.{Answer, run}
+use Rattle.rule_regularize.proofs.Runs.{idle, run-split, run-from}
+use Rattle.rule_coarsen.specs.MergeFits.{mergeFits, mergePosition}
+use Rattle.pass_shapes.proofs.MergeFits.{merge-finite}
+use Rattle.safety_rules.proofs.Fine.{Fine}
+use Rattle.safety_rules.proofs.Demand.{coarse-fine, coarse-fewer}
+use Rattle.coarsen_pass.specs.Pass.{bandPass}
+use Rattle.rule_coarsen.specs.declared.Merged.{Merged}
+use Rattle.rule_coarsen.specs.Rule.{coarseSheet}
 use Rattle.coarsen.specs.Passes.{Coarsenable, Remains}
 use Rattle.coarsen.specs.Tested.{passCount, passLeaves}
 use Rattle.coarsen.proofs.Accepted.{counts-of, passes-accepted}

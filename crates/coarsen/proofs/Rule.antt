@@ -9,21 +9,23 @@ use lib.Ieee.{Float}
 use borrow.Author.Tests.{ne-eqb}
 use Rattle.numeric.specs.Num.{zeroF}
 use Rattle.band.specs.declared.Band.{Band}
-use Rattle.sheet.specs.declared.Counts.{Counts}
-use Rattle.sheet.specs.declared.Verdict.the-variants as verdicts
-use Rattle.sheet.specs.Flat.{flatQuads}
-use Rattle.sheet.specs.Sheet.{Sheet, sheetOf, flatPoints, lentVerdict, sheetVerdict, LentSheet, LentWork}
+use Rattle.rule_sheet.specs.declared.Counts.{Counts}
+use Rattle.rule_sheet.specs.declared.Verdict.the-variants as verdicts
+use Rattle.rule_sheet.specs.Flat.{flatQuads}
+use Rattle.rule_sheet.specs.Sheet.{Sheet, sheetOf, flatPoints, lentVerdict, sheetVerdict}
+use Rattle.sheet.specs.Sheet.{LentSheet, LentWork}
 use Rattle.sheet.proofs.Tests.{lent-is}
-use Rattle.results.specs.declared.Made.the-variants as made
-use Rattle.results.specs.Outcomes.{Outcome, gives}
-use Rattle.results.specs.Results.{cleared, padded, shownCounts, countsOf, Fills, Room}
-use Rattle.results.proofs.Results.{fills-leaves}
-use Rattle.results.proofs.Fronts.{front-points, front-quads}
-use Rattle.swaps.specs.Runs.{Answer}
-use Rattle.coarsen.specs.declared.Merged.{Merged}
-use Rattle.coarsen.specs.declared.Coarsened.{Coarsened}
-use Rattle.coarsen.specs.declared.Coarsened.the-variants.{Done, Refused}
-use Rattle.coarsen.specs.Rule.{coarseSheet, coarsenRule, Leaves}
+use Rattle.rule_sheet.specs.declared.Made.the-variants as made
+use Rattle.rule_sheet.specs.Outcomes.{Outcome, gives}
+use Rattle.sheet.specs.Results.{cleared, Fills, Room}
+use Rattle.rule_sheet.specs.Results.{padded, shownCounts, countsOf}
+use Rattle.sheet.proofs.Results.{fills-leaves}
+use Rattle.sheet.proofs.Fronts.{front-points, front-quads}
+use Rattle.rule_passes.specs.Runs.{Answer}
+use Rattle.rule_coarsen.specs.declared.Merged.{Merged}
+use Rattle.rule_coarsen.specs.declared.Coarsened.{Coarsened}
+use Rattle.rule_coarsen.specs.declared.Coarsened.the-variants.{Done, Refused}
+use Rattle.rule_coarsen.specs.Rule.{coarseSheet, coarsenRule, Leaves}
 use Rattle.coarsen.specs.Passes.{Coarsenable, Remains, Unchanged, Finds, refused, done}
 use Rattle.coarsen.proofs.Accepted.{counts-of}
 

@@ -5,15 +5,16 @@ use mathlib.Core.List.{List}
 use lib.ListN.{length}
 use lib.Ieee.{Float}
 use Rattle.band.specs.declared.Band.{Band}
-use Rattle.sheet.specs.declared.Counts.{Counts}
-use Rattle.sheet.specs.declared.Verdict.the-variants.{Accepted}
-use Rattle.sheet.specs.Sheet.{Sheet, sheetOf, LentSheet, LentWork, sheetVerdict}
-use Rattle.results.specs.Outcomes.{Outcome, refuses, gives}
-use Rattle.results.specs.Results.{Room}
-use Rattle.swaps.specs.Runs.{Answer}
-use Rattle.coarsen.specs.declared.Merged.{Merged}
-use Rattle.coarsen.specs.declared.Coarsened.{Coarsened}
-use Rattle.coarsen.specs.declared.Coarsened.the-variants.{Done, Refused}
+use Rattle.rule_sheet.specs.declared.Counts.{Counts}
+use Rattle.rule_sheet.specs.declared.Verdict.the-variants.{Accepted}
+use Rattle.rule_sheet.specs.Sheet.{Sheet, sheetOf, sheetVerdict}
+use Rattle.sheet.specs.Sheet.{LentSheet, LentWork}
+use Rattle.rule_sheet.specs.Outcomes.{Outcome, refuses, gives}
+use Rattle.sheet.specs.Results.{Room}
+use Rattle.rule_passes.specs.Runs.{Answer}
+use Rattle.rule_coarsen.specs.declared.Merged.{Merged}
+use Rattle.rule_coarsen.specs.declared.Coarsened.{Coarsened}
+use Rattle.rule_coarsen.specs.declared.Coarsened.the-variants.{Done, Refused}
 
 -- what 12, 13, 1, 5, 6 and 7 leave of the slices; f is the length of the floats
 pub record Coarsenable (b : Band) (c : Counts) (P : List Float) (Q labels w : List ℕ) (f : ℕ) : Type 0 where

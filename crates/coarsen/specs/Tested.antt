@@ -3,11 +3,11 @@ use Prim.Native.Nat.{ℕ, zero, suc, _+_}
 use mathlib.Core.Bool.{true, false}
 use lib.Dec.{eqb}
 use Rattle.band.specs.declared.Band.{Band}
-use Rattle.sheet.specs.Sheet.{Sheet, sheetVerdict}
-use Rattle.results.specs.Outcomes.{Outcome, gives, afterTest}
-use Rattle.swaps.specs.Runs.{Answer}
-use Rattle.merges.specs.Coarse.{nextSheet}
-use Rattle.coarse.specs.Pass.{bandPass}
+use Rattle.rule_sheet.specs.Sheet.{Sheet, sheetVerdict}
+use Rattle.rule_sheet.specs.Outcomes.{Outcome, gives, afterTest}
+use Rattle.rule_passes.specs.Runs.{Answer}
+use Rattle.rule_coarsen.specs.Coarse.{nextSheet}
+use Rattle.coarsen_pass.specs.Pass.{bandPass}
 
 -- the merges of a pass over a sheet, and the sheet after it
 abbrev pub passCount : Band → Sheet → ℕ

@@ -1,30 +1,20 @@
 // The merged sheet: `coarsen`, passes of merges until one merges nothing.
 
 use band::Band;
-use sheet::Counts;
-use sheet::Verdict;
+use rule_coarsen::Coarsened;
+use rule_coarsen::Merged;
+use rule_sheet::Counts;
+use rule_sheet::Verdict;
 ghost use mathlib.Core.Path.{_≡_};
 ghost use lib.ListN.{length, replicate};
 ghost use Rattle.numeric.specs.Num.{zeroF};
 ghost use Rattle.band.specs.Bands.{lengthOf};
-ghost use Rattle.sheet.specs.Sheet.{sheetOf};
-ghost use Rattle.coarsen.specs.Rule.{coarseSheet, coarsenRule, Leaves};
+ghost use Rattle.rule_sheet.specs.Sheet.{sheetOf};
+ghost use Rattle.rule_coarsen.specs.Rule.{coarseSheet, coarsenRule, Leaves};
 ghost use Rattle.coarsen.specs.Passes.{Coarsenable, Remains, Finds};
 
 // Where the numbers of the renumbering stand in the work slice, in units of points and quads together.
 const NUMBERS: usize = 24;
-
-// What the passes leave: how many merges they made, and how many points, quads and labels the sheet has.
-pub struct Merged {
-    pub count: usize,
-    pub sheet: Counts,
-}
-
-// What `coarsen` answers.
-pub enum Coarsened {
-    Done(Merged),
-    Refused(u32),
-}
 
 // One pass over an accepted sheet; its points are renumbered if it merged.
 fn merge_once(
@@ -43,18 +33,18 @@ fn merge_once(
 {
     let np = c.points;
     let nq = c.quads;
-    let count = coarse::merge_pass(np, nq, b, len, points, quads, labels, w);
+    let count = coarsen_pass::merge_pass(np, nq, b, len, points, quads, labels, w);
     if count == 0 {
         return Merged { count, sheet: c };
     }
     let n = np + nq;
-    let sheet = compact::compact(
+    let sheet = coarsen_compact::compact(
         np,
         nq,
         points,
         quads,
         labels,
-        merging::REMOVED * n,
+        coarsen_merge::REMOVED * n,
         NUMBERS * n,
         w,
         floats,
@@ -148,10 +138,10 @@ pub fn coarsen(
     ensures { λ _. ⌜ now (floats .exit) ≡ replicate (length (now (floats .entry))) zeroF ⌝ }
 {
     let r = coarsen_or_refusal(b, passes, c, points, quads, labels, work, floats);
-    results::clear_work(work, floats);
+    sheet::clear_work(work, floats);
     let Coarsened::Done(m) = r else {
         return r;
     };
-    results::clear_unused(m.sheet, points, quads, labels);
+    sheet::clear_unused(m.sheet, points, quads, labels);
     r
 }

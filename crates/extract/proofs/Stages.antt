@@ -17,25 +17,29 @@ use Rattle.lists.proofs.Laws.{length-tab, getD-tab}
 use Rattle.lists.proofs.Every.{and-right, every-ext}
 use Rattle.band.specs.declared.Band.{Band}
 use Rattle.band.specs.Bands.{validOf}
-use Rattle.sheet.specs.declared.Counts.{Counts}
-use Rattle.sheet.specs.Flat.{quadsOf, flatQuads, Holds}
-use Rattle.sheet.specs.Edges.{joinTo}
-use Rattle.sheet.specs.Tests.{goodCorners, goodMasks}
-use Rattle.sheet.specs.Sheet.{Sheet, sheetOf, pointsOf, flatPoints, isLarge, isShort, isBare, bareBy, LentSheet}
+use Rattle.rule_sheet.specs.declared.Counts.{Counts}
+use Rattle.rule_sheet.specs.Flat.{quadsOf, flatQuads}
+use Rattle.sheet.specs.Flat.{Holds}
+use Rattle.rule_sheet.specs.Edges.{joinTo}
+use Rattle.rule_sheet.specs.Tests.{goodCorners, goodMasks}
+use Rattle.rule_sheet.specs.Sheet.{Sheet, sheetOf, pointsOf, flatPoints, isLarge, isShort, isBare}
+use Rattle.sheet.specs.Sheet.{bareBy, LentSheet}
 use Rattle.sheet.proofs.Flat.{length-quads}
 use Rattle.sheet.proofs.Tests.{or-left, or-right, holds-of, length-points, bare-is, labels-match, holds-quads}
-use Rattle.results.specs.declared.Made.{Made}
-use Rattle.results.specs.declared.Made.the-variants.{Done}
-use Rattle.results.specs.Outcomes.{Outcome, refuses, gives}
-use Rattle.results.specs.Results.{countsOf, answerOf, Front, Fills}
-use Rattle.results.proofs.Results.{refused-fills}
-use Rattle.results.proofs.Fronts.{points-front, quads-front}
-use Rattle.sampling.specs.declared.Grid.{Grid}
-use Rattle.sampling.specs.Grids.{gridOf}
-use Rattle.lattice.specs.Lattice.{sampleAt, finiteIn, Samples}
-use Rattle.drawing.specs.Drawing.{pointsTo, innerCount, quadIf, drawnSheet, goodCells, shortWork, finiteSample, finiteSamples, drawnOr, extractRule}
-use Rattle.faces.proofs.Turns.{labels-many}
-use Rattle.faces.proofs.Good.{drawn-good}
+use Rattle.rule_sheet.specs.declared.Made.{Made}
+use Rattle.rule_sheet.specs.declared.Made.the-variants.{Done}
+use Rattle.rule_sheet.specs.Outcomes.{Outcome, refuses, gives}
+use Rattle.rule_sheet.specs.Results.{countsOf, answerOf}
+use Rattle.sheet.specs.Results.{Front, Fills}
+use Rattle.sheet.proofs.Results.{refused-fills}
+use Rattle.sheet.proofs.Fronts.{points-front, quads-front}
+use Rattle.rule_extract.specs.declared.Grid.{Grid}
+use Rattle.rule_extract.specs.Grids.{gridOf}
+use Rattle.rule_extract.specs.Lattice.{sampleAt}
+use Rattle.extract_grid.specs.Lattice.{finiteIn, Samples}
+use Rattle.rule_extract.specs.Drawing.{pointsTo, innerCount, quadIf, drawnSheet, goodCells, shortWork, finiteSample, finiteSamples, drawnOr, extractRule}
+use Rattle.extract_quads.proofs.Turns.{labels-many}
+use Rattle.extract_quads.proofs.Good.{drawn-good}
 use Rattle.extract.specs.Stages.{testedOr, sampledOr}
 
 -- ---- grids

@@ -2,12 +2,12 @@
 use Prim.Native.Nat.{ℕ, _+_}
 use mathlib.Core.Bool.{cond, not}
 use lib.ListN.{length}
-use Rattle.sheet.specs.Tests.{goodMasks}
-use Rattle.sheet.specs.Numbers.{bare, clash}
-use Rattle.sheet.specs.Sheet.{Sheet, isBare}
-use Rattle.results.specs.Outcomes.{Outcome, refuses, gives}
-use Rattle.sampling.specs.declared.Grid.{Grid}
-use Rattle.drawing.specs.Drawing.{samplesNumber, finiteSamples, drawnSheet, drawnOr}
+use Rattle.rule_sheet.specs.Tests.{goodMasks}
+use Rattle.rule_sheet.specs.Numbers.{bare, clash}
+use Rattle.rule_sheet.specs.Sheet.{Sheet, isBare}
+use Rattle.rule_sheet.specs.Outcomes.{Outcome, refuses, gives}
+use Rattle.rule_extract.specs.declared.Grid.{Grid}
+use Rattle.rule_extract.specs.Drawing.{samplesNumber, finiteSamples, drawnSheet, drawnOr}
 
 -- 5, 7
 unfoldable pub testedOr : Sheet → Outcome Sheet

@@ -1,20 +1,23 @@
 // The sheet drawn around a band: the surface where its levels and the faces of its box are met, in quads.
 
 use band::Band;
-use results::Made;
-use sampling::Grid;
-use sheet::Counts;
+use rule_extract::Grid;
+use rule_sheet::Counts;
+use rule_sheet::Made;
 ghost use mathlib.Core.Path.{_≡_};
 ghost use mathlib.Core.Bool.{true};
 ghost use Prim.Native.Nat.{_+_, _*_, _≤_};
 ghost use lib.ListN.{length, take, replicate};
 ghost use Rattle.numeric.specs.Num.{zeroF};
-ghost use Rattle.sheet.specs.Flat.{quadsOf, flatQuads, Holds};
-ghost use Rattle.sheet.specs.Tests.{goodCorners, goodMasks};
-ghost use Rattle.sheet.specs.Sheet.{flatPoints, sheetOf, LentSheet};
-ghost use Rattle.results.specs.Results.{countsOf, answerOf, Front, Fills, Leaves};
-ghost use Rattle.lattice.specs.Lattice.{Samples};
-ghost use Rattle.drawing.specs.Drawing.{goodCells, shortWork, drawnSheet, drawnOr, extractRule};
+ghost use Rattle.rule_sheet.specs.Flat.{quadsOf, flatQuads};
+ghost use Rattle.sheet.specs.Flat.{Holds};
+ghost use Rattle.rule_sheet.specs.Tests.{goodCorners, goodMasks};
+ghost use Rattle.rule_sheet.specs.Sheet.{flatPoints, sheetOf};
+ghost use Rattle.sheet.specs.Sheet.{LentSheet};
+ghost use Rattle.rule_sheet.specs.Results.{countsOf, answerOf, Leaves};
+ghost use Rattle.sheet.specs.Results.{Front, Fills};
+ghost use Rattle.extract_grid.specs.Lattice.{Samples};
+ghost use Rattle.rule_extract.specs.Drawing.{goodCells, shortWork, drawnSheet, drawnOr, extractRule};
 ghost use Rattle.extract.specs.Stages.{testedOr, sampledOr};
 
 // The numbers of refusals: a lower level that is not finite, a number of cells out of range, and a sample that is not finite.
@@ -67,8 +70,8 @@ fn count_sheet(g: Grid, n: usize, samples: &[f64]) -> Counts
     ensures { λ r. ⌜ r ≡ countsOf (drawnSheet g n) ⌝ }
     ensures { λ r. ⌜ r .points ≤ 12 * (n * n * n) ⌝ }
 {
-    let points = drawing::count_points(g, n, n * n * n, samples);
-    let quads = faces::count_quads(g, n, samples);
+    let points = extract_points::count_points(g, n, n * n * n, samples);
+    let quads = extract_quads::count_quads(g, n, samples);
     Counts {
         points,
         quads,
@@ -93,9 +96,9 @@ fn draw_sheet(
     ensures { λ _. ⌜ Front (flatQuads (drawnSheet g n .quads)) (now («new_quads» .exit)) ⌝ }
     ensures { λ _. ⌜ Front (drawnSheet g n .labels) (now («new_labels» .exit)) ⌝ }
 {
-    paths::put_paths(g, n, n * n * n, samples, w);
-    vertices::draw_points(g, n, samples, w, new_points);
-    faces::put_quads(g, n, samples, w, new_quads, new_labels);
+    extract_paths::put_paths(g, n, n * n * n, samples, w);
+    extract_points::draw_points(g, n, samples, w, new_points);
+    extract_quads::put_quads(g, n, samples, w, new_quads, new_labels);
 }
 
 // Draws the sheet of a grid whose samples are finite, if the result slices hold it: 13, 5, 7.
@@ -138,8 +141,8 @@ fn sample_or_refusal(
     requires { ⌜ 12 * (n * n * n) ≤ length (now w) ⌝ }
     ensures { λ r. ⌜ Fills (sampledOr g n (length (now («new_points» .entry))) (length (now («new_quads» .entry))) (length (now («new_labels» .entry)))) r (now («new_points» .exit)) (now («new_quads» .exit)) (now («new_labels» .exit)) ⌝ }
 {
-    lattice::sample_grid(g, n + 1, samples);
-    if lattice::all_finite(samples) {
+    extract_grid::sample_grid(g, n + 1, samples);
+    if extract_grid::all_finite(samples) {
         return draw_or_refusal(g, n, samples, new_points, new_quads, new_labels, w);
     }
     Made::Refused(SAMPLES)
@@ -188,7 +191,7 @@ fn extract_or_refusal(
     if is_short_work(cells, w.len(), floats.len()) {
         return Made::Refused(sheet::SHORT);
     }
-    let g = sampling::grid_of(b, cells);
+    let g = extract_samples::grid_of(b, cells);
     let m = cells + 3;
     let count = m * m * m;
     sample_or_refusal(
@@ -217,7 +220,7 @@ pub fn extract_candidate(
     ensures { λ _. ⌜ now (floats .exit) ≡ replicate (length (now (floats .entry))) zeroF ⌝ }
 {
     let r = extract_or_refusal(b, cells, new_points, new_quads, new_labels, work, floats);
-    results::clear_unused(results::shown_counts(r), new_points, new_quads, new_labels);
-    results::clear_work(work, floats);
+    sheet::clear_unused(sheet::shown_counts(r), new_points, new_quads, new_labels);
+    sheet::clear_work(work, floats);
     r
 }

@@ -15,8 +15,9 @@ use Rattle.lists.proofs.Laws.{length-tab, getD-tab, is-tab, tab-ext, tab-set, s
 use Rattle.lists.proofs.Every.{bool-iff, some-zero, some-at, some-find}
 use Rattle.lists.proofs.Order.{bucket-key, each-bucket, part-bucket, in-bucket, below-tab}
 use Rattle.lists.proofs.Regions.{part-of, part-len, part-get, part-set, part-set-out, part-as, part-sub, part-kept, kept-refl, kept-set}
-use Rattle.sheet.specs.Quads.{uses, valence}
-use Rattle.sheet.specs.Flat.{from, corner, quadAt, quadsOf}
+use Rattle.rule_sheet.specs.Quads.{uses, valence}
+use Rattle.sheet.specs.Flat.{from}
+use Rattle.rule_sheet.specs.Flat.{corner, quadAt, quadsOf}
 use Rattle.sheet.specs.Edges.{allCorners, pointCorners}
 use Rattle.sheet.proofs.Flat.{valence-flat}
 use Rattle.incidence.specs.Corners.{cornersAt, firstAt}

@@ -7,8 +7,8 @@ use lib.Dec.{eqb, ltb}
 use Rattle.lists.specs.Sort.{tabulate}
 use Rattle.lists.specs.Every.{some}
 use Rattle.lists.specs.Regions.{Part, Apart}
-use Rattle.sheet.specs.Quads.{uses}
-use Rattle.sheet.specs.Flat.{quadAt}
+use Rattle.rule_sheet.specs.Quads.{uses}
+use Rattle.rule_sheet.specs.Flat.{quadAt}
 use Rattle.incidence.specs.Corners.{Cornered, cornersAt, firstAt}
 
 -- element t of the corners cs is a corner of quad q

@@ -1,19 +1,19 @@
 // The public face: every operation under its name, as a function that C and Rust can link. A slice passes as its pointer and its length.
 
-use sheet::Counts;
+use rule_sheet::Counts;
 ghost use mathlib.Core.Path.{_≡_};
 ghost use mathlib.Core.Bool.{true, false};
 ghost use lib.ListN.{length, replicate};
 ghost use Rattle.numeric.specs.Num.{zeroF};
-ghost use Rattle.results.specs.Outcomes.{roomFor};
-ghost use Rattle.refine.specs.Finer.{refineRule};
-ghost use Rattle.regularize.specs.Rule.{answerOf, quadsLeft};
-ghost use Rattle.extraction.specs.Extraction.{extractBy};
-ghost use Rattle.making.specs.Making.{subdivideBy, rowsBy};
-ghost use Rattle.cleaning.specs.Cleanings.{cleanedNumber, cleanBy, countLeft};
-ghost use Rattle.coarsening.specs.Coarsenings.{coarsenBy, Coarsens};
-ghost use Rattle.assessing.specs.Assessments.{qualityBy, answersBy, countsLeft, measuresLeft};
-ghost use Rattle.making.specs.Exports.{Exports, answerLeft};
+ghost use Rattle.rule_sheet.specs.Outcomes.{roomFor};
+ghost use Rattle.rule_finer.specs.Finer.{refineRule};
+ghost use Rattle.rule_regularize.specs.Rule.{answerOf, quadsLeft};
+ghost use Rattle.rule_exports.specs.Extraction.{extractBy};
+ghost use Rattle.rule_exports.specs.Making.{subdivideBy, rowsBy};
+ghost use Rattle.rule_exports.specs.Cleanings.{cleanedNumber, cleanBy, countLeft};
+ghost use Rattle.rule_exports.specs.Coarsenings.{coarsenBy, Coarsens};
+ghost use Rattle.rule_exports.specs.Assessments.{qualityBy, answersBy, countsLeft, measuresLeft};
+ghost use Rattle.rule_exports.specs.Exports.{Exports, answerLeft};
 
 // `extract_candidate`: the counts of the drawn sheet go to answer[1..4], answer[0] is 0.
 #[no_mangle]
@@ -36,7 +36,7 @@ pub extern "C" fn quads_extract_candidate(
     ensures { λ _. ⌜ now (work .exit) ≡ replicate (length (now (work .entry))) 0 ⌝ }
     ensures { λ _. ⌜ now (floats .exit) ≡ replicate (length (now (floats .entry))) zeroF ⌝ }
 {
-    extraction::extract_answered(
+    export_extract::extract_answered(
         kind,
         numbers,
         bounds,
@@ -78,7 +78,7 @@ pub extern "C" fn quads_refine(
         quads: nq,
         labels: nl,
     };
-    making::refine_answered(
+    export_finer::refine_answered(
         points,
         quads,
         labels,
@@ -123,7 +123,7 @@ pub extern "C" fn quads_subdivide(
         quads: nq,
         labels: nl,
     };
-    making::subdivide_answered(
+    export_finer::subdivide_answered(
         points,
         quads,
         labels,
@@ -173,7 +173,7 @@ pub extern "C" fn quads_boundary_rows(
         quads: nq,
         labels: nl,
     };
-    making::rows_answered(
+    export_finer::rows_answered(
         points,
         quads,
         labels,
@@ -222,7 +222,7 @@ pub extern "C" fn quads_quality(
         quads: nq,
         labels: nl,
     };
-    assessing::quality_answered(
+    export_quality::quality_answered(
         points,
         quads,
         labels,
@@ -269,7 +269,7 @@ pub extern "C" fn quads_regularize(
         quads: nq,
         labels: nl,
     };
-    cleaning::clean_answered(
+    export_cleanup::clean_answered(
         false,
         points,
         quads,
@@ -317,7 +317,7 @@ pub extern "C" fn quads_improve_layout(
         quads: nq,
         labels: nl,
     };
-    cleaning::clean_answered(
+    export_cleanup::clean_answered(
         true,
         points,
         quads,
@@ -363,7 +363,7 @@ pub extern "C" fn quads_coarsen(
         quads: nq,
         labels: nl,
     };
-    coarsening::coarsen_answered(
+    export_cleanup::coarsen_answered(
         points,
         quads,
         labels,

@@ -8,12 +8,12 @@ use lib.ListN.{length, take}
 use lib.Ieee.{Float}
 use Rattle.lists.proofs.Every.{every-at}
 use Rattle.band.specs.declared.Band.{Band}
-use Rattle.sheet.specs.declared.Counts.{Counts}
-use Rattle.sheet.specs.declared.Verdict.the-variants.{Accepted}
-use Rattle.sheet.specs.Quads.{all}
-use Rattle.sheet.specs.Flat.{quadAt, quadsOf}
-use Rattle.sheet.specs.Tests.{proper, goodCorners}
-use Rattle.sheet.specs.Sheet.{sheetOf, sheetVerdict, lentVerdict}
+use Rattle.rule_sheet.specs.declared.Counts.{Counts}
+use Rattle.rule_sheet.specs.declared.Verdict.the-variants.{Accepted}
+use Rattle.rule_sheet.specs.Quads.{all}
+use Rattle.rule_sheet.specs.Flat.{quadAt, quadsOf}
+use Rattle.rule_sheet.specs.Tests.{proper, goodCorners}
+use Rattle.rule_sheet.specs.Sheet.{sheetOf, sheetVerdict, lentVerdict}
 use Rattle.sheet.proofs.Tests.{lent-is, length-points, bare-is, labels-match, all-tab, tested, some-quad, proper-of}
 use Rattle.incidence.proofs.Corners.{cornered}
 use Rattle.sheet.proofs.Corners.{Four, four-of}

@@ -11,23 +11,26 @@ use Rattle.lists.specs.Sort.{tabulate}
 use Rattle.lists.specs.Regions.{Part, Out, Kept}
 use Rattle.lists.proofs.Regions.{part-kept}
 use Rattle.band.specs.declared.Band.{Band}
-use Rattle.sheet.specs.declared.Counts.{Counts}
-use Rattle.sheet.specs.declared.Verdict.the-variants as verdict
-use Rattle.sheet.specs.Flat.{quadsOf}
-use Rattle.sheet.specs.Sheet.{sheetOf, lentVerdict, sheetVerdict, LentSheet}
+use Rattle.rule_sheet.specs.declared.Counts.{Counts}
+use Rattle.rule_sheet.specs.declared.Verdict.the-variants as verdict
+use Rattle.rule_sheet.specs.Flat.{quadsOf}
+use Rattle.rule_sheet.specs.Sheet.{sheetOf, lentVerdict, sheetVerdict}
+use Rattle.sheet.specs.Sheet.{LentSheet}
 use Rattle.sheet.proofs.Flat.{length-quads}
 use Rattle.sheet.proofs.Tests.{lent-is, length-points}
 use Rattle.incidence.specs.Corners.{firstAt, cornersAt}
-use Rattle.census.specs.declared.EdgeCounts.{EdgeCounts}
-use Rattle.census.specs.Census.{edgeCounts, duplicateFaces, tight, tightBy}
-use Rattle.census.proofs.Tight.{tight-counts}
-use Rattle.links.specs.Links.{LinkRoom}
-use Rattle.measure.specs.declared.Measures.{Measures}
-use Rattle.measure.specs.Measure.{measureRule}
+use Rattle.quality_counts.specs.declared.EdgeCounts.{EdgeCounts}
+use Rattle.quality_counts.specs.Census.{edgeCounts, tightBy}
+use Rattle.rule_quality.specs.Census.{duplicateFaces, tight}
+use Rattle.quality_counts.proofs.Tight.{tight-counts}
+use Rattle.quality_links.specs.Links.{LinkRoom}
+use Rattle.rule_quality.specs.declared.Measures.{Measures}
+use Rattle.rule_quality.specs.Measure.{measureRule}
 use Rattle.quality.specs.declared.PointCounts.{PointCounts}
-use Rattle.quality.specs.declared.report.Assessed.{Assessed}
-use Rattle.quality.specs.declared.report.Assessed.the-variants.{Done, Refused}
-use Rattle.quality.specs.Quality.{qualityOf, withCounts, assessed, qualityRule, pointCounts, Countable}
+use Rattle.rule_quality.specs.declared.report.Assessed.{Assessed}
+use Rattle.rule_quality.specs.declared.report.Assessed.the-variants.{Done, Refused}
+use Rattle.rule_quality.specs.Quality.{qualityOf, withCounts, assessed, qualityRule}
+use Rattle.quality.specs.Quality.{pointCounts, Countable}
 
 -- the slice after the numbers of quads are taken has what the links ask
 pub link-room : {np nq m : ℕ} {Q v w : List ℕ} → Countable np nq Q m → m ≡ length v → Part 0 (np + 1) (tabulate (firstAt nq Q) (np + 1)) v → Part (2 * (np + nq)) (4 * nq) (cornersAt np nq Q) v → Kept (Out (10 * (np + nq)) np) v w

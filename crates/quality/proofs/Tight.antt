@@ -9,24 +9,25 @@ use lib.Ieee.{Float}
 use borrow.Author.Tests.{eqb-true}
 use Rattle.lists.proofs.Every.{and-left, and-right}
 use Rattle.band.specs.declared.Band.{Band}
-use Rattle.sheet.specs.declared.Counts.{Counts}
-use Rattle.sheet.specs.declared.Verdict.{Verdict}
-use Rattle.sheet.specs.declared.Verdict.the-variants as verdict
-use Rattle.sheet.specs.Closed.{Closed, Rings}
-use Rattle.sheet.specs.Flat.{quadsOf}
-use Rattle.sheet.specs.Sheet.{sheetOf, lentVerdict, sheetVerdict}
+use Rattle.rule_sheet.specs.declared.Counts.{Counts}
+use Rattle.rule_sheet.specs.declared.Verdict.{Verdict}
+use Rattle.rule_sheet.specs.declared.Verdict.the-variants as verdict
+use Rattle.rule_sheet.specs.Closed.{Closed, Rings}
+use Rattle.rule_sheet.specs.Flat.{quadsOf}
+use Rattle.rule_sheet.specs.Sheet.{sheetOf, lentVerdict, sheetVerdict}
 use Rattle.sheet.proofs.Tests.{length-points}
-use Rattle.census.specs.Census.{badLinks, edgeCounts, tight, tightBy}
-use Rattle.census.proofs.Tight.{tight-counts, tight-closed}
-use Rattle.census.proofs.Links.{tight-rings}
-use Rattle.measure.specs.declared.Measures.{Measures}
-use Rattle.measure.specs.declared.Measured.{Measured}
-use Rattle.measure.specs.declared.Measured.the-variants as measured
-use Rattle.measure.specs.Measure.{measureRule}
-use Rattle.quality.specs.declared.report.Quality.{Quality}
-use Rattle.quality.specs.declared.report.Assessed.{Assessed}
-use Rattle.quality.specs.declared.report.Assessed.the-variants.{Done, Refused}
-use Rattle.quality.specs.Quality.{isValid, qualityOf, withCounts, afterTests, assessed, qualityRule}
+use Rattle.rule_quality.specs.Census.{badLinks, tight}
+use Rattle.quality_counts.specs.Census.{edgeCounts, tightBy}
+use Rattle.quality_counts.proofs.Tight.{tight-counts, tight-closed}
+use Rattle.quality_counts.proofs.Links.{tight-rings}
+use Rattle.rule_quality.specs.declared.Measures.{Measures}
+use Rattle.rule_quality.specs.declared.Measured.{Measured}
+use Rattle.rule_quality.specs.declared.Measured.the-variants as measured
+use Rattle.rule_quality.specs.Measure.{measureRule}
+use Rattle.rule_quality.specs.declared.report.Quality.{Quality}
+use Rattle.rule_quality.specs.declared.report.Assessed.{Assessed}
+use Rattle.rule_quality.specs.declared.report.Assessed.the-variants.{Done, Refused}
+use Rattle.rule_quality.specs.Quality.{isValid, qualityOf, withCounts, afterTests, assessed, qualityRule}
 use Rattle.quality.proofs.Accepted.{accepted}
 
 -- the record of an answer, d for a refusal

@@ -1,24 +1,24 @@
 // `quality`: the counts and measures of a sheet, and whether it is tight.
 
-pub mod report;
-
 use band::Band;
-use census::EdgeCounts;
-use measure::Measured;
-use measure::Measures;
-use report::Assessed;
-use report::Quality;
-use sheet::Counts;
-use sheet::Verdict;
+use quality_counts::EdgeCounts;
+use rule_quality::Measured;
+use rule_quality::Measures;
+use rule_quality::report::Assessed;
+use rule_quality::report::Quality;
+use rule_sheet::Counts;
+use rule_sheet::Verdict;
 ghost use mathlib.Core.Path.{_≡_};
 ghost use lib.ListN.{length, replicate};
 ghost use Rattle.numeric.specs.Num.{zeroF};
-ghost use Rattle.sheet.specs.Flat.{quadsOf};
-ghost use Rattle.sheet.specs.Sheet.{sheetOf};
-ghost use Rattle.census.specs.Census.{edgeCounts, duplicateFaces, tight};
-ghost use Rattle.measure.specs.Measure.{measureRule};
-ghost use Rattle.quality.specs.declared.report.Assessed.the-variants.{Done};
-ghost use Rattle.quality.specs.Quality.{qualityOf, withCounts, qualityRule, pointCounts, Countable, Measuring};
+ghost use Rattle.rule_sheet.specs.Flat.{quadsOf};
+ghost use Rattle.rule_sheet.specs.Sheet.{sheetOf};
+ghost use Rattle.quality_counts.specs.Census.{edgeCounts};
+ghost use Rattle.rule_quality.specs.Census.{duplicateFaces, tight};
+ghost use Rattle.rule_quality.specs.Measure.{measureRule};
+ghost use Rattle.rule_quality.specs.declared.report.Assessed.the-variants.{Done};
+ghost use Rattle.rule_quality.specs.Quality.{qualityOf, withCounts, qualityRule};
+ghost use Rattle.quality.specs.Quality.{pointCounts, Countable, Measuring};
 
 // The points whose number of quads is not 4, and those whose link is bad.
 struct PointCounts {
@@ -40,8 +40,8 @@ fn count_points(np: usize, nq: usize, quads: &[u32], work: &mut [u32]) -> PointC
     let acc = 12 * n;
     incidence::quads_at(np, nq, quads, first, starts, order, work);
     incidence::valences(np, nq, quads, starts, val, work);
-    let irregular = census::irregular_vertices(np, nq, quads, val, work);
-    let bad_links = links::bad_links(np, nq, quads, starts, order, deg, acc, work);
+    let irregular = quality_counts::irregular_vertices(np, nq, quads, val, work);
+    let bad_links = quality_links::bad_links(np, nq, quads, starts, order, deg, acc, work);
     PointCounts {
         irregular,
         bad_links,
@@ -57,7 +57,7 @@ fn count_edges(np: usize, nq: usize, quads: &[u32], work: &mut [u32]) -> EdgeCou
     let order = 4 * n;
     let pos = 8 * n;
     incidence::edge_order(np, nq, quads, 0, pos, order, work);
-    census::edge_counts(np, nq, quads, order, work)
+    quality_counts::edge_counts(np, nq, quads, order, work)
 }
 
 // The quads whose corners an earlier quad has, by the order of the quads by their corners.
@@ -67,8 +67,8 @@ fn count_duplicates(np: usize, nq: usize, quads: &[u32], work: &mut [u32]) -> us
 {
     let n = np + nq;
     let pos = 2 * n;
-    census::quad_order(np, nq, quads, 0, pos, n, work);
-    census::duplicate_faces(np, nq, quads, 0, work)
+    quality_counts::quad_order(np, nq, quads, 0, pos, n, work);
+    quality_counts::duplicate_faces(np, nq, quads, 0, work)
 }
 
 // The record of a sheet with these measures, and whether it is tight.
@@ -93,7 +93,7 @@ fn with_counts(np: usize, nq: usize, quads: &[u32], m: Measures, work: &mut [u32
         minimum_sampled_jacobian: m.minimum_sampled_jacobian,
         invalid_cells: m.invalid_cells,
     };
-    Assessed::Done(q, census::is_tight(edges))
+    Assessed::Done(q, quality_counts::is_tight(edges))
 }
 
 // The measures of a sheet that the tests accept, and its counts if it has them.
@@ -111,7 +111,7 @@ fn assess(
 {
     let np = c.points;
     let nq = c.quads;
-    let r = measure::measure(b, c, points, quads, labels, 0, work, floats);
+    let r = quality_measures::measure(b, c, points, quads, labels, 0, work, floats);
     match r {
         Measured::Done(m) => with_counts(np, nq, quads, m, work),
         Measured::Refused(k) => Assessed::Refused(k),
@@ -164,6 +164,6 @@ pub fn quality(
     ensures { λ _. ⌜ now (floats .exit) ≡ replicate (length (now (floats .entry))) zeroF ⌝ }
 {
     let r = quality_or_refusal(b, c, points, quads, labels, work, floats);
-    results::clear_work(work, floats);
+    sheet::clear_work(work, floats);
     r
 }

@@ -18,7 +18,7 @@ use Rattle.lists.proofs.Every.{some-at, or-split, and-left, and-right}
 use Rattle.lists.proofs.Order.{Each, each-bucket, bucket-key, In, in-bucket, below-tab, below-sort}
 use Rattle.sheet.specs.Flat.{from, to}
 use Rattle.sheet.specs.Edges.{smaller, larger, allCorners}
-use Rattle.sheet.proofs.FirstUse.{First, place-first, first-unique}
+use Rattle.rule_sheet.proofs.FirstUse.{First, place-first, first-unique}
 use Rattle.incidence.specs.declared.Key.the-variants.{Smaller, Larger}
 use Rattle.incidence.specs.Corners.{keyOf, Cornered, edgeOrder}
 use Rattle.incidence.proofs.Corners.{key-below}

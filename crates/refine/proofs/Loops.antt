@@ -16,13 +16,14 @@ use Rattle.lists.specs.Regions.{part, Part, Out, Kept}
 use Rattle.lists.proofs.Laws.{getD-tab, length-tab, tab-suc}
 use Rattle.lists.proofs.Every.{count-le, count-zero}
 use Rattle.lists.proofs.Regions.{part-of, part-get, part-set, part-as, part-kept, kept-refl, kept-set, RegionFilled, region-start, region-turn, region-part, region-end, region-other}
-use Rattle.sheet.specs.Quads.{Quad, quad}
-use Rattle.sheet.specs.Flat.{corner, flatQuads, withQuad}
-use Rattle.sheet.specs.Sheet.{flatPoints}
-use Rattle.results.specs.Results.{Front}
-use Rattle.results.proofs.Fronts.{front-none, front-point, front-quad, length-with, length-with-quad}
+use Rattle.rule_sheet.specs.Quads.{Quad, quad}
+use Rattle.rule_sheet.specs.Flat.{corner, flatQuads}
+use Rattle.sheet.specs.Flat.{withQuad}
+use Rattle.rule_sheet.specs.Sheet.{flatPoints}
+use Rattle.sheet.specs.Results.{Front}
+use Rattle.sheet.proofs.Fronts.{front-none, front-point, front-quad, length-with, length-with-quad}
 use Rattle.incidence.specs.Corners.{edgeOrder}
-use Rattle.refine.specs.Finer.{centreP}
+use Rattle.rule_finer.specs.Finer.{centreP}
 use Rattle.refine.specs.Requests.{requestOf, firstOf, own, numberOf, sameEdge, linkedTo, positionIn, childAt}
 use Rattle.refine.specs.Loops.{lowAt, nth, Held, Linking, Numbering, Numbered, Writing, madeTo, putRequest}
 use Rattle.refine.proofs.Edges.{Same, sorted, same-yes, same-no, linked-new, linked-same, linked-end}

@@ -12,11 +12,12 @@ use Rattle.points.specs.declared.Point.{Point}
 use Rattle.points.specs.Points.{pointAt}
 use Rattle.lists.specs.Sort.{tabulate}
 use Rattle.lists.proofs.Laws.{tab-add, map-tab}
-use Rattle.sheet.specs.Quads.{Quad, quad, is, sum}
-use Rattle.sheet.specs.Flat.{corner, quadAt, quadsOf}
-use Rattle.sheet.specs.FirstUse.{firsts}
+use Rattle.rule_sheet.specs.Quads.{Quad, quad, is, sum}
+use Rattle.rule_sheet.specs.Flat.{corner, quadAt, quadsOf}
+use Rattle.rule_sheet.specs.FirstUse.{firsts}
 use Rattle.sheet.proofs.Flat.{length-quads}
-use Rattle.refine.specs.Finer.{split, fourLabels, keys, asked, Request, keyOf, requests, made}
+use Rattle.rule_finer.specs.Finer.{split, fourLabels, keys, asked, Request, requests, made}
+use Rattle.refine.specs.Finer.{keyOf}
 use Rattle.refine.specs.Requests.{positionIn, keyAt, requestAt, keysOf, childAt, labelAt}
 
 -- ---- the requests in order

@@ -16,25 +16,27 @@ use Rattle.lists.specs.Regions.{part, Part, Out, Out3, Kept}
 use Rattle.lists.proofs.Laws.{getD-tab, tab-ext}
 use Rattle.lists.proofs.Every.{every-at, every-each, bool-iff, and-left, and-right, count-zero, count-yes, count-mono}
 use Rattle.lists.proofs.Regions.{part-as, part-kept, kept-then, lent-tab}
-use Rattle.sheet.specs.declared.Counts.{Counts}
-use Rattle.sheet.specs.declared.Verdict.the-variants.{Accepted, Refused}
-use Rattle.sheet.specs.Quads.{all}
-use Rattle.sheet.specs.Flat.{quadAt, quadsOf, flatQuads}
-use Rattle.sheet.specs.Tests.{inRange}
-use Rattle.sheet.specs.Sheet.{Sheet, sheetOf, pointsOf, flatPoints, isLarge, isShort, lentVerdict, LentSheet}
+use Rattle.rule_sheet.specs.declared.Counts.{Counts}
+use Rattle.rule_sheet.specs.declared.Verdict.the-variants.{Accepted, Refused}
+use Rattle.rule_sheet.specs.Quads.{all}
+use Rattle.rule_sheet.specs.Flat.{quadAt, quadsOf, flatQuads}
+use Rattle.rule_sheet.specs.Tests.{inRange}
+use Rattle.rule_sheet.specs.Sheet.{Sheet, sheetOf, pointsOf, flatPoints, isLarge, isShort, lentVerdict}
+use Rattle.sheet.specs.Sheet.{LentSheet}
 use Rattle.sheet.proofs.Flat.{length-quads}
 use Rattle.sheet.proofs.Tests.{or-left, or-right, all-tab, lent-is, length-points}
-use Rattle.results.specs.declared.Made.{Made}
-use Rattle.results.specs.Outcomes.{Outcome, refuses, gives}
-use Rattle.results.specs.Results.{answerOf, countsOf, Front, Fills}
-use Rattle.results.proofs.Results.{refused-fills}
+use Rattle.rule_sheet.specs.declared.Made.{Made}
+use Rattle.rule_sheet.specs.Outcomes.{Outcome, refuses, gives}
+use Rattle.rule_sheet.specs.Results.{answerOf, countsOf}
+use Rattle.sheet.specs.Results.{Front, Fills}
+use Rattle.sheet.proofs.Results.{refused-fills}
 use Rattle.incidence.specs.Corners.{Cornered, edgeOrder}
-use Rattle.refine.specs.Finer.{finerSheet, madeOrShort, refined, refineRule}
+use Rattle.rule_finer.specs.Finer.{finerSheet, madeOrShort, refined, refineRule}
 use Rattle.refine.specs.Requests.{positionAt, firstsOf, own, numberOf, childAt, labelAt}
 use Rattle.refine.specs.Loops.{lowAt, nth, Linking, Numbering, Numbered, Writing, madeTo, orderAt, firstsAt, numbersAt, pointsAfter, Behind, Worked, Finished, Refinable}
 use Rattle.refine.proofs.Edges.{linked-start}
 use Rattle.refine.proofs.Sheet.{firsts-known, finer-points, finer-quads, finer-labels, finer-counts}
-use Rattle.results.specs.declared.Made.the-variants as made
+use Rattle.rule_sheet.specs.declared.Made.the-variants as made
 
 -- ---- the work slice
 

@@ -14,16 +14,17 @@ use Rattle.lists.specs.Sort.{tabulate}
 use Rattle.lists.specs.Every.{countTo}
 use Rattle.lists.proofs.Laws.{eq-or-ne, length-tab, getD-tab, tab-ext, map-tab}
 use Rattle.lists.proofs.Every.{count-ext}
-use Rattle.sheet.specs.declared.Counts.{Counts}
-use Rattle.sheet.specs.Quads.{Quad, quad}
-use Rattle.sheet.specs.Flat.{corner, quadsOf}
-use Rattle.sheet.specs.FirstUse.{firsts, place}
-use Rattle.sheet.specs.Sheet.{Sheet, sheetOf, pointsOf}
+use Rattle.rule_sheet.specs.declared.Counts.{Counts}
+use Rattle.rule_sheet.specs.Quads.{Quad, quad}
+use Rattle.rule_sheet.specs.Flat.{corner, quadsOf}
+use Rattle.rule_sheet.specs.FirstUse.{firsts, place}
+use Rattle.rule_sheet.specs.Sheet.{Sheet, sheetOf, pointsOf}
 use Rattle.sheet.proofs.Tests.{length-points}
-use Rattle.sheet.proofs.FirstUse.{usedTo, ownFirst, used-suc, used-zero, used-new, used-old, count-used, place-used, first-unique, firsts-new, firsts-old}
-use Rattle.results.specs.Results.{countsOf}
+use Rattle.rule_sheet.proofs.FirstUse.{usedTo, ownFirst, used-suc, used-zero, used-new, used-old, count-used, place-used, first-unique, firsts-new, firsts-old}
+use Rattle.rule_sheet.specs.Results.{countsOf}
 use Rattle.incidence.specs.Corners.{Cornered}
-use Rattle.refine.specs.Finer.{split, edgeKey, centreKey, asked, midOf, cenOf, finer, finerCount, keyOf, positionOf, requests, made, pointIn, newPoints, finerSheet}
+use Rattle.rule_finer.specs.Finer.{split, edgeKey, centreKey, asked, midOf, cenOf, finer, positionOf, requests, made, pointIn, newPoints, finerSheet}
+use Rattle.refine.specs.Finer.{finerCount, keyOf}
 use Rattle.refine.specs.Requests.{positionIn, positionAt, keyAt, requestAt, firstOf, firstsOf, own, numberOf, childAt, labelAt}
 use Rattle.refine.specs.Loops.{Firsts, madeTo}
 use Rattle.refine.proofs.Edges.{first-of}

@@ -5,10 +5,11 @@ use mathlib.Core.Bool.{Bool, true}
 use mathlib.Core.List.{List, [], _∷_}
 use lib.Dec.{eqb}
 use lib.ListN.{length}
-use Rattle.sheet.specs.Quads.{Quad, quad, valence, all}
-use Rattle.sheet.specs.Edges.{joinTo, edgesOf}
-use Rattle.sheet.proofs.Flat.{upto}
-use Rattle.refine.specs.Finer.{asked, midOf, cenOf, finer, finerCount}
+use Rattle.rule_sheet.specs.Quads.{Quad, quad, valence, all}
+use Rattle.rule_sheet.specs.Edges.{joinTo, edgesOf}
+use Rattle.rule_sheet.proofs.Sums.{upto}
+use Rattle.rule_finer.specs.Finer.{asked, midOf, cenOf, finer}
+use Rattle.refine.specs.Finer.{finerCount}
 
 -- "Unit cube as its own box, 6 quads": point x + 2 y + 4 z, the quads of the faces x = 0, x = 1, y = 0, y = 1, z = 0, z = 1
 unfoldable pub cube : List Quad

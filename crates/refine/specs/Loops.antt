@@ -11,7 +11,7 @@ use Rattle.points.specs.Points.{withPoint}
 use Rattle.lists.specs.Sort.{tabulate}
 use Rattle.lists.specs.Every.{countTo}
 use Rattle.lists.specs.Regions.{Part, Apart}
-use Rattle.sheet.specs.declared.Counts.{Counts}
+use Rattle.rule_sheet.specs.declared.Counts.{Counts}
 use Rattle.sheet.specs.Sheet.{LentSheet}
 use Rattle.incidence.specs.Corners.{Cornered, edgeOrder}
 use Rattle.refine.specs.Requests.{firstsOf, linkedTo, own, numberOf}

@@ -8,11 +8,12 @@ use Rattle.points.specs.declared.Point.{Point}
 use Rattle.points.specs.Points.{halfwayP}
 use Rattle.lists.specs.Sort.{tabulate}
 use Rattle.lists.specs.Every.{countTo, some}
-use Rattle.sheet.specs.Quads.{Quad, quad}
-use Rattle.sheet.specs.Flat.{corner, from, to}
-use Rattle.sheet.specs.FirstUse.{place}
+use Rattle.rule_sheet.specs.Quads.{Quad, quad}
+use Rattle.rule_sheet.specs.Flat.{corner}
+use Rattle.sheet.specs.Flat.{from, to}
+use Rattle.rule_sheet.specs.FirstUse.{place}
 use Rattle.incidence.specs.Corners.{edgeOrder}
-use Rattle.refine.specs.Finer.{edgeKey, centreKey, centreP, Request, request}
+use Rattle.rule_finer.specs.Finer.{edgeKey, centreKey, centreP, Request, request}
 
 -- the corner after corner j of a quad
 abbrev pub after : ℕ → ℕ

@@ -2,9 +2,9 @@
 // the edge of corner j of quad q, or for the centre where j is 4; the first request of an edge makes its point.
 
 use points::Point;
-use results::Made;
-use sheet::Counts;
-use sheet::Verdict;
+use rule_sheet::Counts;
+use rule_sheet::Made;
+use rule_sheet::Verdict;
 ghost use mathlib.Core.Path.{_≡_};
 ghost use mathlib.Core.Bool.{cond};
 ghost use mathlib.Core.List.{_++_};
@@ -15,11 +15,13 @@ ghost use Rattle.points.specs.Points.{pointAt};
 ghost use Rattle.lists.specs.Sort.{tabulate};
 ghost use Rattle.lists.specs.Every.{every, countTo};
 ghost use Rattle.lists.specs.Regions.{part, Part, Out, Kept};
-ghost use Rattle.sheet.specs.Flat.{corner, flatQuads, withQuad};
-ghost use Rattle.sheet.specs.Sheet.{pointsOf, flatPoints, sheetOf};
-ghost use Rattle.results.specs.Results.{Leaves, Fills, Front};
+ghost use Rattle.rule_sheet.specs.Flat.{corner, flatQuads};
+ghost use Rattle.sheet.specs.Flat.{withQuad};
+ghost use Rattle.rule_sheet.specs.Sheet.{pointsOf, flatPoints, sheetOf};
+ghost use Rattle.rule_sheet.specs.Results.{Leaves};
+ghost use Rattle.sheet.specs.Results.{Fills, Front};
 ghost use Rattle.incidence.specs.Corners.{Cornered};
-ghost use Rattle.refine.specs.Finer.{centreP, finerSheet, madeOrShort, refineRule};
+ghost use Rattle.rule_finer.specs.Finer.{centreP, finerSheet, madeOrShort, refineRule};
 ghost use Rattle.refine.specs.Requests.{requestOf, sameEdge, positionIn, positionAt, firstOf, linkedTo, own, numberOf, childAt, labelAt, firstsOf};
 ghost use Rattle.refine.specs.Loops.{lowAt, nth, Linking, Numbering, Held, putRequest, madeTo, Writing, Numbered, Behind, Worked, Finished, Refinable, pointsAfter};
 
@@ -264,7 +266,7 @@ fn put_child(nq: usize, quads: &[u32], num: usize, c: usize, w: &[u32], out: &mu
     let b = w[num + (5 * q + j)];
     let e = w[num + (5 * q + 4)];
     let d = w[num + (5 * q + (j + 3) % 4)];
-    results::put_quad(out, c, a, b, e, d);
+    sheet::put_quad(out, c, a, b, e, d);
 }
 
 // Puts the four children of every quad.
@@ -441,7 +443,7 @@ pub fn refine(
         work,
         floats.len(),
     );
-    results::clear_unused(results::shown_counts(r), new_points, new_quads, new_labels);
-    results::clear_work(work, floats);
+    sheet::clear_unused(sheet::shown_counts(r), new_points, new_quads, new_labels);
+    sheet::clear_work(work, floats);
     r
 }

@@ -11,27 +11,30 @@ use borrow.Author.Tests.{eqb-false}
 use Rattle.lists.specs.Every.{every}
 use Rattle.band.specs.declared.Band.{Band}
 use Rattle.band.specs.Bands.{lengthOf, validOf}
-use Rattle.sheet.specs.declared.Counts.{Counts}
-use Rattle.sheet.specs.declared.Verdict.the-variants.{Accepted, Refused}
-use Rattle.sheet.specs.Numbers.{box, bare, corner, clash}
-use Rattle.sheet.specs.Quads.{Quad}
-use Rattle.sheet.specs.Flat.{quadsOf, flatQuads}
-use Rattle.sheet.specs.Tests.{goodCorners, goodMasks}
-use Rattle.sheet.specs.Sheet.{Sheet, sheetOf, pointsOf, LentSheet, isBare, bareBy, finiteAt, lentVerdict, quadsVerdict, sheetVerdict}
+use Rattle.rule_sheet.specs.declared.Counts.{Counts}
+use Rattle.rule_sheet.specs.declared.Verdict.the-variants.{Accepted, Refused}
+use Rattle.rule_sheet.specs.Numbers.{box, bare, corner, clash}
+use Rattle.rule_sheet.specs.Quads.{Quad}
+use Rattle.rule_sheet.specs.Flat.{quadsOf, flatQuads}
+use Rattle.rule_sheet.specs.Tests.{goodCorners, goodMasks}
+use Rattle.rule_sheet.specs.Sheet.{Sheet, sheetOf, pointsOf, isBare, lentVerdict, quadsVerdict, sheetVerdict}
+use Rattle.sheet.specs.Sheet.{LentSheet, bareBy, finiteAt}
 use Rattle.sheet.proofs.Flat.{length-quads}
 use Rattle.sheet.proofs.Tests.{lent-is, length-points, bare-is, labels-match}
 use Rattle.incidence.proofs.Corners.{cornered}
-use Rattle.results.specs.Results.{cleared, padded}
-use Rattle.results.proofs.Results.{length-flat-quads}
-use Rattle.results.proofs.Fronts.{front-quads}
-use Rattle.swaps.specs.Runs.{Answer, capped}
-use Rattle.swaps.specs.Swaps.{swapRun}
-use Rattle.fits.specs.SwapFits.{fitsWith, swapFits}
-use Rattle.passes.specs.declared.Trial.{Trial}
-use Rattle.passes.specs.Choice.{Passable}
-use Rattle.regularize.specs.declared.Cleaned as answers
+use Rattle.sheet.specs.Results.{cleared}
+use Rattle.rule_sheet.specs.Results.{padded}
+use Rattle.sheet.proofs.Results.{length-flat-quads}
+use Rattle.sheet.proofs.Fronts.{front-quads}
+use Rattle.rule_passes.specs.Runs.{Answer, capped}
+use Rattle.rule_regularize.specs.Swaps.{swapRun}
+use Rattle.rule_regularize.specs.SwapFits.{fitsWith, swapFits}
+use Rattle.regularize_pass.specs.declared.Trial.{Trial}
+use Rattle.regularize_pass.specs.Choice.{Passable}
+use Rattle.rule_regularize.specs.declared.Cleaned as answers
 use Rattle.regularize.specs.Runs.{Ran}
-use Rattle.regularize.specs.Rule.{swapSheet, Cleanable, Cleans, cleanRule, Leaves}
+use Rattle.rule_regularize.specs.Rule.{swapSheet, cleanRule, Leaves}
+use Rattle.regularize.specs.Rule.{Cleanable, Cleans}
 
 -- ---- the quads of a slice, flat
 

@@ -8,13 +8,13 @@ use lib.Dec.{eqb}
 use lib.ListN.{length, take}
 use lib.Ieee.{Float}
 use borrow.Author.Tests.{eq-eqb, ne-eqb}
-use Rattle.sheet.specs.Quads.{Quad}
-use Rattle.sheet.specs.Flat.{quadsOf}
-use Rattle.swaps.specs.Runs.{Answer, run, capped}
-use Rattle.swaps.proofs.Runs.{idle, capped-add}
-use Rattle.swaps.proofs.Sweep.{pass-none}
-use Rattle.passes.specs.declared.Trial.{Trial}
-use Rattle.passes.specs.Choice.{fitsIn, passIn, Passable, Passed}
+use Rattle.rule_sheet.specs.Quads.{Quad}
+use Rattle.rule_sheet.specs.Flat.{quadsOf}
+use Rattle.rule_passes.specs.Runs.{Answer, run, capped}
+use Rattle.rule_regularize.proofs.Runs.{idle, capped-add}
+use Rattle.rule_regularize.proofs.Sweep.{pass-none}
+use Rattle.regularize_pass.specs.declared.Trial.{Trial}
+use Rattle.regularize_pass.specs.Choice.{fitsIn, passIn, Passable, Passed}
 use Rattle.regularize.specs.Runs.{Ran}
 
 module _ (np nq : ℕ) (t : Trial) (P : List Float) (labels : List ℕ) where

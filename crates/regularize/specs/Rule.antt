@@ -1,26 +1,18 @@
--- The rules of `regularize` and `improve_layout`, from lent slices to what is left in them. Document 01, "The swapped sheet".
+-- What the passes are handed, and what they leave.
 use Prim.Native.Nat.{ℕ, _+_, _*_, _≤_}
 use mathlib.Core.Path.{_≡_}
 use mathlib.Core.List.{List}
 use lib.ListN.{length}
 use lib.Ieee.{Float}
 use Rattle.band.specs.declared.Band.{Band}
-use Rattle.sheet.specs.declared.Counts.{Counts}
-use Rattle.sheet.specs.declared.Verdict.the-variants.{Accepted}
-use Rattle.sheet.specs.Quads.{Quad}
-use Rattle.sheet.specs.Flat.{flatQuads}
-use Rattle.sheet.specs.Sheet.{Sheet, sheetOf, LentSheet, lentVerdict, sheetVerdict}
-use Rattle.results.specs.Outcomes.{Outcome, refuses, gives, afterTest}
-use Rattle.results.specs.Results.{padded}
-use Rattle.swaps.specs.Runs.{Answer, capped}
-use Rattle.swaps.specs.Swaps.{swapRun}
-use Rattle.fits.specs.SwapFits.{swapFits}
-use Rattle.regularize.specs.declared.Cleaned as answers
-use Rattle.regularize.specs.declared.Cleaned.{Cleaned}
-
--- at most k passes over a sheet, half the gain of each swap at least m
-abbrev pub swapSheet : ℕ → Band → ℕ → Sheet → Answer (List Quad)
-swapSheet m b k s = swapRun (length (s .points)) (s .labels) m (swapFits b (s .points) (s .labels)) k (s .quads)
+use Rattle.rule_sheet.specs.declared.Counts.{Counts}
+use Rattle.rule_sheet.specs.declared.Verdict.the-variants.{Accepted}
+use Rattle.rule_sheet.specs.Quads.{Quad}
+use Rattle.rule_sheet.specs.Flat.{flatQuads}
+use Rattle.rule_sheet.specs.Sheet.{sheetOf, sheetVerdict}
+use Rattle.sheet.specs.Sheet.{LentSheet}
+use Rattle.rule_sheet.specs.Results.{padded}
+use Rattle.rule_passes.specs.Runs.{Answer, capped}
 
 -- what 12, 13, 1, 5, 6 and 7 leave of the slices
 pub record Cleanable (b : Band) (least : ℕ) (c : Counts) (P : List Float) (Q labels w : List ℕ) : Type 0 where
@@ -33,33 +25,3 @@ pub record Cleanable (b : Band) (least : ℕ) (c : Counts) (P : List Float) (Q l
 pub record Cleans (a : Answer (List Quad)) (Q : List ℕ) (r : ℕ) (R : List ℕ) : Type 0 where
   pub count : r ≡ capped (a .count)
   pub quads : R ≡ padded 0 (length Q) (flatQuads (a .left))
-
--- the rule over slices: points P, quads Q, labels, and work slices of w and f elements; it gives the quads that are left and the swaps made
--- "Order for a lent sheet: 12, 13 (counts or work), 1, 5, 6, 7"; "Zero passes still validate."
-unfoldable pub cleanRule : ℕ → Band → ℕ → Counts → List Float → List ℕ → List ℕ → ℕ → ℕ → Outcome (Answer (List Quad))
-cleanRule m b k c P Q labels w f =
-    afterTest (lentVerdict c (length P) (length Q) (length labels) w f)
-    (afterTest (sheetVerdict b (sheetOf c P Q labels)) (gives (swapSheet m b k (sheetOf c P Q labels))))
-
--- "regularize needs more than 0"
-abbrev pub regularizeRule : Band → ℕ → Counts → List Float → List ℕ → List ℕ → ℕ → ℕ → Outcome (Answer (List Quad))
-regularizeRule = cleanRule 1
-
--- "improve_layout also takes 0"
-abbrev pub improveRule : Band → ℕ → Counts → List Float → List ℕ → List ℕ → ℕ → ℕ → Outcome (Answer (List Quad))
-improveRule = cleanRule 0
-
--- the answer of an outcome: its number, or its count
-abbrev pub answerOf : Outcome (Answer (List Quad)) → Cleaned
-answerOf (refuses n) = answers.the-variants.Refused n
-answerOf (gives a) = answers.the-variants.Done (capped (a .count))
-
--- the quads that an outcome leaves in a slice that held Q: "A sheet altered in its own slices stays unchanged" on a refusal; "so are unused tails after success"
-abbrev pub quadsLeft : Outcome (Answer (List Quad)) → List ℕ → List ℕ
-quadsLeft (refuses n) Q = Q
-quadsLeft (gives a) Q = padded 0 (length Q) (flatQuads (a .left))
-
--- the answer r of an operation, and the quads R at its end, Q being those that it was lent
-pub record Leaves (o : Outcome (Answer (List Quad))) (Q : List ℕ) (r : Cleaned) (R : List ℕ) : Type 0 where
-  pub answer : r ≡ answerOf o
-  pub quads : R ≡ quadsLeft o Q

@@ -4,11 +4,11 @@ use mathlib.Core.Path.{_≡_}
 use mathlib.Core.List.{List}
 use lib.ListN.{take}
 use lib.Ieee.{Float}
-use Rattle.sheet.specs.Flat.{quadsOf}
-use Rattle.swaps.specs.Runs.{capped}
-use Rattle.swaps.specs.Swaps.{swapRun}
-use Rattle.passes.specs.declared.Trial.{Trial}
-use Rattle.passes.specs.Choice.{fitsIn}
+use Rattle.rule_sheet.specs.Flat.{quadsOf}
+use Rattle.rule_passes.specs.Runs.{capped}
+use Rattle.rule_regularize.specs.Swaps.{swapRun}
+use Rattle.regularize_pass.specs.declared.Trial.{Trial}
+use Rattle.regularize_pass.specs.Choice.{fitsIn}
 
 -- at most k passes over the quads of Q leave R, and count r swaps
 pub record Ran (np nq : ℕ) (t : Trial) (P : List Float) (labels : List ℕ) (k : ℕ) (Q R : List ℕ) (r : ℕ) : Type 0 where

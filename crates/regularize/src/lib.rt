@@ -1,18 +1,20 @@
 // The swapped sheet: `regularize` and `improve_layout`, passes of swaps until one swaps nothing.
 
 use band::Band;
-use passes::Trial;
-use sheet::Counts;
-use sheet::Verdict;
+use regularize_pass::Trial;
+use rule_regularize::Cleaned;
+use rule_sheet::Counts;
+use rule_sheet::Verdict;
 ghost use mathlib.Core.Path.{_≡_};
 ghost use Prim.Native.Nat.{_+_, _≤_};
 ghost use lib.ListN.{length, replicate};
 ghost use Rattle.numeric.specs.Num.{zeroF};
-ghost use Rattle.sheet.specs.Sheet.{sheetOf};
-ghost use Rattle.passes.specs.Choice.{Passable};
-ghost use Rattle.swaps.specs.Runs.{capped};
+ghost use Rattle.rule_sheet.specs.Sheet.{sheetOf};
+ghost use Rattle.regularize_pass.specs.Choice.{Passable};
+ghost use Rattle.rule_passes.specs.Runs.{capped};
 ghost use Rattle.regularize.specs.Runs.{Ran};
-ghost use Rattle.regularize.specs.Rule.{Cleanable, Cleans, swapSheet, cleanRule, regularizeRule, improveRule, Leaves};
+ghost use Rattle.regularize.specs.Rule.{Cleanable, Cleans};
+ghost use Rattle.rule_regularize.specs.Rule.{swapSheet, cleanRule, regularizeRule, improveRule, Leaves};
 
 // The least half gain of a swap: more than 0, or 0.
 const GAIN: usize = 1;
@@ -21,12 +23,6 @@ const NEUTRAL: usize = 0;
 
 // The largest count.
 const MOST: usize = 18446744073709551615;
-
-// What a clean-up answers: the swaps made in all its passes, or the number of a refusal.
-pub enum Cleaned {
-    Done(usize),
-    Refused(u32),
-}
 
 // The sum of two counts, at most the largest.
 fn add_capped(a: usize, b: usize) -> usize
@@ -55,7 +51,7 @@ fn run_passes(
     let mut total: usize = 0;
     let mut left = passes;
     while left > 0 {
-        let count = passes::swap_pass(np, nq, t, points, labels, quads, w);
+        let count = regularize_pass::swap_pass(np, nq, t, points, labels, quads, w);
         if count == 0 {
             return total;
         }
@@ -87,7 +83,7 @@ fn clean_accepted(
     };
     let nq = c.quads;
     let count = run_passes(passes, c.points, nq, t, points, labels, quads, w);
-    results::clear_behind(4 * nq, quads);
+    sheet::clear_behind(4 * nq, quads);
     count
 }
 
@@ -143,7 +139,7 @@ pub fn regularize(
         work,
         floats.len(),
     );
-    results::clear_work(work, floats);
+    sheet::clear_work(work, floats);
     r
 }
 
@@ -173,6 +169,6 @@ pub fn improve_layout(
         work,
         floats.len(),
     );
-    results::clear_work(work, floats);
+    sheet::clear_work(work, floats);
     r
 }

@@ -3,7 +3,7 @@
 mod record;
 mod table;
 
-use records::numbers;
+use replay_records::numbers;
 
 // The first words of a file of records, and the version of its layout.
 const MAGIC: u64 = 0x3156_5351;

@@ -1,6 +1,6 @@
 // One record: reading it, asking the proved function, comparing.
-use records::numbers;
-use records::sheets;
+use replay_records::numbers;
+use replay_records::sheets;
 
 // Where the floats of a record begin: the band, then a point.
 const FLOATS: usize = 64;

@@ -1,9 +1,9 @@
 // The operations that alter the lent sheet, asked as a record says, and whether they answer as it.
 
-use records::numbers;
-use records::sheets;
-use records::sheets::Sizes;
-use records::stored;
+use replay_records::numbers;
+use replay_records::sheets;
+use replay_records::sheets::Sizes;
+use replay_records::stored;
 ghost use Prim.Native.Nat.{_≤_};
 ghost use lib.ListN.{length};
 

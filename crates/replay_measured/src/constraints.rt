@@ -1,10 +1,10 @@
 // The proved test of the lent sheet of a record.
 use crate::UNKNOWN;
-use records::sheets;
-use records::sheets::Sizes;
+use replay_records::sheets;
+use replay_records::sheets::Sizes;
 ghost use Prim.Native.Nat.{_≤_};
 ghost use lib.ListN.{length};
-ghost use Rattle.records.specs.Sizes.{Small};
+ghost use Rattle.replay_records.specs.Sizes.{Small};
 
 // Tests the first of the numbers that were read, as many as the sizes say; k holds the band.
 fn test_lent(
@@ -29,7 +29,7 @@ fn test_lent(
     if labels.len() < labels_end || masks.len() < masks_end {
         return UNKNOWN;
     }
-    leaves::leaf_constraints(
+    export_leaves::leaf_constraints(
         &coordinates[0..points_end],
         &corners[0..quads_end],
         &labels[0..labels_end],

@@ -4,7 +4,7 @@
 mod constraints;
 mod measures;
 
-use records::numbers;
+use replay_records::numbers;
 ghost use Prim.Native.Nat.{_≤_};
 ghost use lib.ListN.{length};
 
@@ -28,7 +28,7 @@ fn project(kind: u32, k: &[f64], mask: u8, out: &mut [f64]) -> u32
 {
     let numbers = &k[0..10];
     let bounds = &k[10..16];
-    leaves::leaf_project(
+    export_leaves::leaf_project(
         kind,
         numbers,
         bounds,
@@ -48,7 +48,7 @@ fn gradient(kind: u32, k: &[f64], out: &mut [f64]) -> u32
 {
     let numbers = &k[0..10];
     let bounds = &k[10..16];
-    leaves::leaf_gradient(
+    export_leaves::leaf_gradient(
         kind,
         numbers,
         bounds,
@@ -67,7 +67,7 @@ fn normal(kind: u32, k: &[f64], label: u8, out: &mut [f64]) -> u32
 {
     let numbers = &k[0..10];
     let bounds = &k[10..16];
-    leaves::leaf_normal(
+    export_leaves::leaf_normal(
         kind,
         numbers,
         bounds,
@@ -91,13 +91,13 @@ fn ask(bytes: &[u8], operation: u64, k: &[f64], out: &mut [f64]) -> u32
         9 => project(kind, k, byte, out),
         10 => put(
             out,
-            leaves::leaf_value(kind, &k[0..10], k[18], k[19], k[20]),
+            export_leaves::leaf_value(kind, &k[0..10], k[18], k[19], k[20]),
         ),
         11 => gradient(kind, k, out),
         12 => normal(kind, k, byte, out),
-        13 => put(out, leaves::leaf_sqrt(k[18])),
+        13 => put(out, export_leaves::leaf_sqrt(k[18])),
         14 => constraints::test(bytes, kind, k),
-        15 => leaves::leaf_validate(kind, &k[0..10], &k[10..16], k[16], k[17]),
+        15 => export_leaves::leaf_validate(kind, &k[0..10], &k[10..16], k[16], k[17]),
         _ => UNKNOWN,
     }
 }

@@ -1,7 +1,7 @@
 // `quality`, asked as a record says.
-use records::numbers;
-use records::sheets;
-use records::stored;
+use replay_records::numbers;
+use replay_records::sheets;
+use replay_records::stored;
 ghost use Prim.Native.Nat.{_≤_};
 ghost use lib.ListN.{length};
 

@@ -20,15 +20,16 @@ use Rattle.band.specs.Bands.{lengthOf}
 use Rattle.projection.specs.declared.Projected.{Projected}
 use Rattle.projection.specs.declared.Projected.the-variants.{Onto, Refused}
 use Rattle.projection.specs.Project.{longestMove, lookCount, projectWith, projectOf}
-use Rattle.sheet.specs.Quads.{num}
+use Rattle.rule_sheet.specs.Quads.{num}
 use Rattle.smoothing.specs.Smooth.{sumOf}
 use Rattle.smoothing.specs.Rounded.{pointwise}
-use Rattle.smoothed.specs.Steps.{cornerCentre, keep}
+use Rattle.subdivide_points.specs.Steps.{cornerCentre}
+use Rattle.rule_finer.specs.Smoothed.{keep}
 use Rattle.smoothing.proofs.Coordinates.{sum-snoc}
-use Rattle.smoothed.proofs.Sums.{part-suc}
-use Rattle.smoothed.proofs.CreaseLoop.{keep-append, keep-le}
+use Rattle.subdivide_points.proofs.Sums.{part-suc}
+use Rattle.subdivide_points.proofs.CreaseLoop.{keep-append, keep-le}
 use Rattle.rows.specs.declared.Centres.{Centres}
-use Rattle.rows.specs.Rows.{half, orElse, tryFrom}
+use Rattle.rule_rows.specs.Rows.{half, orElse, tryFrom}
 use Rattle.rows.specs.Steps.{copiedBy, copiedIn, numberIn, ofLabel, centresOf, withCentre}
 
 -- ---- the numbers of the copies

@@ -15,22 +15,24 @@ use Rattle.lists.proofs.Laws.{lt-or-le, getD-tab, length-tab, tab-add}
 use Rattle.lists.proofs.Every.{count-ext, every-ext}
 use Rattle.lists.proofs.Order.{Each, each-bucket, below-tab}
 use Rattle.band.specs.declared.Band.{Band}
-use Rattle.sheet.specs.Quads.{Quad, quad, num, all, pack, hasLabel, maskOf}
-use Rattle.sheet.specs.Flat.{corner, from, to, quadAt, quadsOf, flatQuads}
-use Rattle.sheet.specs.Edges.{joinTo, pointCorners}
+use Rattle.rule_sheet.specs.Quads.{Quad, quad, num, all, pack, hasLabel, maskOf}
+use Rattle.rule_sheet.specs.Flat.{corner, quadAt, quadsOf, flatQuads}
+use Rattle.sheet.specs.Flat.{from, to}
+use Rattle.rule_sheet.specs.Edges.{joinTo}
+use Rattle.sheet.specs.Edges.{pointCorners}
 use Rattle.sheet.specs.Sheet.{masksOf}
-use Rattle.sheet.proofs.All.{all-append}
+use Rattle.rule_sheet.proofs.All.{all-append}
 use Rattle.sheet.proofs.Edges.{join-ext}
 use Rattle.sheet.proofs.Masks.{bit-pack}
 use Rattle.sheet.proofs.Tests.{length-points}
-use Rattle.results.proofs.Fronts.{flat-quads-snoc}
+use Rattle.sheet.proofs.Fronts.{flat-quads-snoc}
 use Rattle.incidence.specs.Corners.{edgeOrder}
 use Rattle.refine.proofs.Edges.{sorted}
-use Rattle.smoothed.specs.Smoothed.{those, labelCount, centreAt}
-use Rattle.smoothed.specs.Steps.{cornerCentre, keep, flatSheet}
-use Rattle.smoothed.proofs.Quads.{quadOf, point-quads}
-use Rattle.smoothed.proofs.Moved.{map-map, map-ext, each-append, those-below, ones-count, point-is, centre-is}
-use Rattle.rows.specs.Rows.{keyOf, isCopied, copies, numberOf, isLabelled, labelCentres, inward, copyOf, cornerFor, copiedAt, copiedQuads, labelOf, stripAt, rowSides}
+use Rattle.rule_finer.specs.Smoothed.{those, labelCount, centreAt, keep}
+use Rattle.subdivide_points.specs.Steps.{cornerCentre, flatSheet}
+use Rattle.subdivide_points.proofs.Quads.{quadOf, point-quads}
+use Rattle.subdivide_points.proofs.Moved.{map-map, map-ext, each-append, those-below, ones-count, point-is, centre-is}
+use Rattle.rule_rows.specs.Rows.{keyOf, isCopied, copies, numberOf, isLabelled, labelCentres, inward, copyOf, cornerFor, copiedAt, copiedQuads, labelOf, stripAt, rowSides}
 use Rattle.projection.specs.Project.{isOnto, ontoOf}
 use Rattle.rows.specs.Steps.{copiedBy, copiedIn, numberIn, ofLabel, centresOf, inwardAt, copyAt, foundAt, copiesTo, cornerLabel, cornerIn, seamCorners, seamAt, seamsTo, seamsOf, stripIn, Labelled}
 use Rattle.rows.proofs.Seams.{sideAt, row-sides}

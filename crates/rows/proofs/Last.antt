@@ -21,22 +21,22 @@ use Rattle.projection.specs.declared.Projected.{Projected}
 use Rattle.projection.specs.declared.Projected.the-variants.{Onto, Refused as RefusedPoint}
 use Rattle.projection.specs.Project.{projectOf, isOnto, ontoOf}
 use Rattle.projection.proofs.Finite.{onto-finite}
-use Rattle.sheet.specs.declared.Counts.{Counts}
-use Rattle.sheet.specs.declared.Verdict.{Verdict}
-use Rattle.sheet.specs.declared.Verdict.the-variants.{Accepted, Refused}
-use Rattle.sheet.specs.Numbers.{clash, edge, short}
-use Rattle.sheet.specs.Quads.{Quad, quad, all, uses, touches, hasLabel}
-use Rattle.sheet.specs.Edges.{Pair, joinTo, joinOf, edgesOf}
-use Rattle.sheet.specs.Tests.{proper, lowLabel, goodCorners, goodMasks}
-use Rattle.sheet.specs.Sheet.{Sheet, isLarge, isShort, isBare, quadsVerdict, sheetVerdict}
-use Rattle.sheet.proofs.All.{all-append, all-get, all-each, all-map, all-weaker}
+use Rattle.rule_sheet.specs.declared.Counts.{Counts}
+use Rattle.rule_sheet.specs.declared.Verdict.{Verdict}
+use Rattle.rule_sheet.specs.declared.Verdict.the-variants.{Accepted, Refused}
+use Rattle.rule_sheet.specs.Numbers.{clash, edge, short}
+use Rattle.rule_sheet.specs.Quads.{Quad, quad, all, uses, touches, hasLabel}
+use Rattle.rule_sheet.specs.Edges.{Pair, joinTo, joinOf, edgesOf}
+use Rattle.rule_sheet.specs.Tests.{proper, lowLabel, goodCorners, goodMasks}
+use Rattle.rule_sheet.specs.Sheet.{Sheet, isLarge, isShort, isBare, quadsVerdict, sheetVerdict}
+use Rattle.rule_sheet.proofs.All.{all-append, all-get, all-each, all-map, all-weaker}
 use Rattle.sheet.proofs.Corners.{four-of, four-proper}
 use Rattle.sheet.proofs.Tests.{Tested, tested, Whole, whole-of, bare-finite, lows-of, proper-of, all-tab}
-use Rattle.results.specs.Outcomes.{refuses, gives, afterTest}
-use Rattle.results.specs.Results.{countsOf}
-use Rattle.smoothed.specs.Smoothed.{paired, labelCount}
-use Rattle.smoothed.proofs.Moved.{each-append}
-use Rattle.rows.specs.Rows.{row, keyOf, isCopied, copies, numberOf, half, orElse, tryFrom, copyOf, cornerFor, copiedQuad, copiedAt, copiedQuads, Side, side, labelOf, lowOf, highOf, fourSides, sidesOf, edgeSides, twoLabels, rowSides, stripAt, rowsSheet, rowsMade, rowed}
+use Rattle.rule_sheet.specs.Outcomes.{refuses, gives, afterTest}
+use Rattle.rule_sheet.specs.Results.{countsOf}
+use Rattle.rule_finer.specs.Smoothed.{paired, labelCount}
+use Rattle.subdivide_points.proofs.Moved.{each-append}
+use Rattle.rule_rows.specs.Rows.{row, keyOf, isCopied, copies, numberOf, half, orElse, tryFrom, copyOf, cornerFor, copiedQuad, copiedAt, copiedQuads, Side, side, labelOf, lowOf, highOf, fourSides, sidesOf, edgeSides, twoLabels, rowSides, stripAt, rowsSheet, rowsMade, rowed}
 use Rattle.rows.proofs.Put.{length-rows}
 
 -- ---- a copy that is found is finite

@@ -18,13 +18,13 @@ use Rattle.points.specs.Points.{pointAt, withPoint}
 use Rattle.band.specs.declared.Band.{Band}
 use Rattle.projection.specs.declared.Projected.{Projected}
 use Rattle.projection.specs.declared.Projected.the-variants.{Onto, Refused}
-use Rattle.sheet.specs.Edges.{joinTo}
-use Rattle.sheet.specs.Sheet.{Sheet, pointsOf, flatPoints}
+use Rattle.rule_sheet.specs.Edges.{joinTo}
+use Rattle.rule_sheet.specs.Sheet.{Sheet, pointsOf, flatPoints}
 use Rattle.sheet.proofs.Tests.{length-points}
-use Rattle.results.specs.Results.{Front}
-use Rattle.results.proofs.Fronts.{front-point, length-with}
-use Rattle.smoothed.specs.Smoothed.{those}
-use Rattle.rows.specs.Rows.{isCopied, copies, numberOf, firstStep, tryCount, tryFrom, copyOf, rowsSheet}
+use Rattle.sheet.specs.Results.{Front}
+use Rattle.sheet.proofs.Fronts.{front-point, length-with}
+use Rattle.rule_finer.specs.Smoothed.{those}
+use Rattle.rule_rows.specs.Rows.{isCopied, copies, numberOf, firstStep, tryCount, tryFrom, copyOf, rowsSheet}
 use Rattle.projection.specs.Project.{ontoOf}
 use Rattle.rows.specs.Steps.{copiedIn, numberIn, pointsAfter, inwardAt, copyAt, foundAt, putCopy, copiesTo, numbersAt}
 

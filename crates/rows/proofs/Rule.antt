@@ -17,25 +17,28 @@ use Rattle.lists.proofs.Regions.{part-of, part-as, lent}
 use Rattle.lists.proofs.Laws.{length-tab}
 use Rattle.lists.proofs.Parts.{put-end, length-end}
 use Rattle.band.specs.declared.Band.{Band}
-use Rattle.sheet.specs.declared.Counts.{Counts}
-use Rattle.sheet.specs.declared.Verdict.{Verdict}
-use Rattle.sheet.specs.declared.Verdict.the-variants.{Accepted, Refused}
-use Rattle.sheet.specs.Quads.{Quad, quad, all, maskOf}
-use Rattle.sheet.specs.Tests.{goodQuadAt, goodCorners}
-use Rattle.sheet.specs.Flat.{quadsOf, flatQuads}
-use Rattle.sheet.specs.Sheet.{Sheet, pointsOf, flatPoints, sheetOf, masksOf, LentSheet, isLarge, isShort, lentVerdict, sheetVerdict}
+use Rattle.rule_sheet.specs.declared.Counts.{Counts}
+use Rattle.rule_sheet.specs.declared.Verdict.{Verdict}
+use Rattle.rule_sheet.specs.declared.Verdict.the-variants.{Accepted, Refused}
+use Rattle.rule_sheet.specs.Quads.{Quad, quad, all, maskOf}
+use Rattle.sheet.specs.Tests.{goodQuadAt}
+use Rattle.rule_sheet.specs.Tests.{goodCorners}
+use Rattle.rule_sheet.specs.Flat.{quadsOf, flatQuads}
+use Rattle.rule_sheet.specs.Sheet.{Sheet, pointsOf, flatPoints, sheetOf, isLarge, isShort, lentVerdict, sheetVerdict}
+use Rattle.sheet.specs.Sheet.{masksOf, LentSheet}
 use Rattle.sheet.proofs.Tests.{or-left, or-right, holds-of, lent-is, length-points, bare-is, labels-match, tested, some-quad, proper-of, corners-tested}
-use Rattle.results.specs.declared.Made.{Made}
-use Rattle.results.specs.declared.Made.the-variants as made
-use Rattle.results.specs.Outcomes.{Outcome, refuses, gives, afterTest}
-use Rattle.results.specs.Results.{Front, Fills, countsOf, answerOf}
+use Rattle.rule_sheet.specs.declared.Made.{Made}
+use Rattle.rule_sheet.specs.declared.Made.the-variants as made
+use Rattle.rule_sheet.specs.Outcomes.{Outcome, refuses, gives, afterTest}
+use Rattle.sheet.specs.Results.{Front, Fills}
+use Rattle.rule_sheet.specs.Results.{countsOf, answerOf}
 use Rattle.incidence.proofs.Corners.{cornered}
 use Rattle.refine.proofs.Edges.{sorted}
-use Rattle.results.proofs.Results.{refused-fills}
-use Rattle.smoothed.specs.Smoothed.{paired}
-use Rattle.smoothed.specs.Steps.{flatSheet}
-use Rattle.results.proofs.Fronts.{points-front, quads-front}
-use Rattle.rows.specs.Rows.{copies, numberOf, copyOf, copiedQuads, labelOf, stripAt, rowSides, rowsSheet, rowsMade, rowed, rowsRule}
+use Rattle.sheet.proofs.Results.{refused-fills}
+use Rattle.rule_finer.specs.Smoothed.{paired}
+use Rattle.subdivide_points.specs.Steps.{flatSheet}
+use Rattle.sheet.proofs.Fronts.{points-front, quads-front}
+use Rattle.rule_rows.specs.Rows.{copies, numberOf, copyOf, copiedQuads, labelOf, stripAt, rowSides, rowsSheet, rowsMade, rowed, rowsRule}
 use Rattle.projection.specs.Project.{isOnto}
 use Rattle.rows.specs.Steps.{numberIn, pointsAfter, foundAt, copiesTo, cornerLabel, cornerIn, seamsOf, stripIn, masksAt, countsAfter, madeBy, Worked, Gathered, Gathering, Finished, Tested}
 use Rattle.rows.proofs.Copies.{number-le}

@@ -13,16 +13,18 @@ use lib.Ieee.{Float}
 use borrow.Author.Tests.{ne-eqb, lt-ltb, ltb-false, leb-true, le-leb}
 use Rattle.lists.specs.Sort.{tabulate, itself, consIf, bucket, start}
 use Rattle.lists.proofs.Laws.{lt-or-le, start-suc, start-zero, getD-tab, length-tab, tab-add}
-use Rattle.sheet.specs.Quads.{quad, isEdge}
-use Rattle.sheet.specs.Flat.{from, to, quadAt, quadsOf}
-use Rattle.sheet.specs.Edges.{Pair, pair, joinTo, joinOf, edgeIf, edgesFrom, edgesOf, smaller, larger, allCorners, edgeCorners}
+use Rattle.rule_sheet.specs.Quads.{quad, isEdge}
+use Rattle.sheet.specs.Flat.{from, to}
+use Rattle.rule_sheet.specs.Flat.{quadAt, quadsOf}
+use Rattle.rule_sheet.specs.Edges.{Pair, pair, joinTo, joinOf, edgeIf, edgesFrom, edgesOf}
+use Rattle.sheet.specs.Edges.{smaller, larger, allCorners, edgeCorners}
 use Rattle.sheet.proofs.Edges.{join-to, join-ext, edge-corners, edge-flat}
 use Rattle.sheet.proofs.Tests.{length-points}
 use Rattle.incidence.specs.Corners.{edgeOrder}
-use Rattle.census.proofs.Blocks.{block, byLarger, off, off-suc, row-length, at-off, key-smaller, key-larger}
-use Rattle.census.proofs.EdgeKinds.{kindOf, kind-first, kind-later}
-use Rattle.smoothed.specs.Steps.{flatSheet}
-use Rattle.rows.specs.Rows.{Side, side, lowOf, highOf, fourSides, sidesOf, edgeSides, twoLabels, rowSides}
+use Rattle.quality_counts.proofs.Blocks.{block, byLarger, off, off-suc, row-length, at-off, key-smaller, key-larger}
+use Rattle.quality_counts.proofs.EdgeKinds.{kindOf, kind-first, kind-later}
+use Rattle.subdivide_points.specs.Steps.{flatSheet}
+use Rattle.rule_rows.specs.Rows.{Side, side, lowOf, highOf, fourSides, sidesOf, edgeSides, twoLabels, rowSides}
 use Rattle.rows.specs.Steps.{cornerLabel, isTwo, seamAt, seamCorners, seamsTo, seamsOf}
 
 -- ---- joins

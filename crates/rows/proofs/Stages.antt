@@ -8,8 +8,8 @@ use lib.ListN.{length, getD, length-append}
 use Rattle.lists.specs.Sort.{tabulate}
 use Rattle.lists.specs.Regions.{part, Part, Out, Out3, Apart, Kept, Three}
 use Rattle.lists.proofs.Regions.{part-kept, part-of}
-use Rattle.sheet.specs.declared.Counts.{Counts}
-use Rattle.sheet.specs.Edges.{joinTo}
+use Rattle.rule_sheet.specs.declared.Counts.{Counts}
+use Rattle.rule_sheet.specs.Edges.{joinTo}
 use Rattle.incidence.specs.Corners.{edgeOrder, cornersAt, firstAt}
 use Rattle.refine.specs.Loops.{orderAt}
 use Rattle.rows.specs.Steps.{numberIn, seamAt, seamCorners, seamsTo, seamsOf, startsAt, listAt, masksAt, numbersAt, seamsAt, countsAfter, Worked, Seaming, Gathering}

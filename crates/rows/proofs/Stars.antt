@@ -11,12 +11,12 @@ use Rattle.points.specs.Points.{one}
 use Rattle.lists.specs.Sort.{tabulate, bucket}
 use Rattle.lists.specs.Every.{countTo}
 use Rattle.band.specs.declared.Band.{Band}
-use Rattle.sheet.specs.Quads.{all}
-use Rattle.sheet.specs.Edges.{joinTo, joinOf, edgesOf}
-use Rattle.sheet.specs.Sheet.{Sheet}
+use Rattle.rule_sheet.specs.Quads.{all}
+use Rattle.rule_sheet.specs.Edges.{joinTo, joinOf, edgesOf}
+use Rattle.rule_sheet.specs.Sheet.{Sheet}
 use Rattle.refine.proofs.Stars.{cube, Row}
-use Rattle.smoothed.specs.Smoothed.{those, labelCount}
-use Rattle.rows.specs.Rows.{isCopied, copies, copiedQuads, sidesOf, edgeSides, rowSides, rowsSheet}
+use Rattle.rule_finer.specs.Smoothed.{those, labelCount}
+use Rattle.rule_rows.specs.Rows.{isCopied, copies, copiedQuads, sidesOf, edgeSides, rowSides, rowsSheet}
 
 abbrev corner : Float → Float → Float → Point
 corner x y z = record { x = x; y = y; z = z }

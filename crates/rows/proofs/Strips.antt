@@ -16,18 +16,19 @@ use Rattle.lists.proofs.Every.{and-left}
 use Rattle.lists.proofs.Regions.{part-len, part-get, part-set-out, part-as, kept-refl, kept-set, kept-then, elementOf, tab-own}
 use Rattle.points.specs.declared.Point.{Point}
 use Rattle.points.specs.Points.{pointAt, subP}
-use Rattle.sheet.specs.Quads.{quad}
+use Rattle.rule_sheet.specs.Quads.{quad}
 use Rattle.sheet.specs.Flat.{from, to, withQuad}
-use Rattle.sheet.specs.Edges.{joinTo}
+use Rattle.rule_sheet.specs.Edges.{joinTo}
 use Rattle.incidence.specs.Corners.{Cornered, edgeOrder}
-use Rattle.census.specs.Places.{linked, goesOn, sameStart, kindAt}
+use Rattle.quality_counts.specs.Places.{linked, goesOn, sameStart, kindAt}
 use Rattle.smoothing.specs.Smooth.{mean}
 use Rattle.smoothing.specs.Rounded.{pointwise}
 use Rattle.refine.specs.Loops.{orderAt}
 use Rattle.refine.proofs.Edges.{sorted}
 use Rattle.lists.proofs.Laws.{map-tab}
-use Rattle.smoothed.specs.Steps.{keep, Spans}
-use Rattle.smoothed.proofs.Sums.{part-suc}
+use Rattle.rule_finer.specs.Smoothed.{keep}
+use Rattle.subdivide_points.specs.Steps.{Spans}
+use Rattle.subdivide_points.proofs.Sums.{part-suc}
 use Rattle.rows.specs.declared.Centres.{Centres}
 use Rattle.rows.specs.Steps.{copiedIn, ofLabel, centresOf, inwardAt, cornerIn, isTwo, seamAt, seamCorners, seamsTo, seamsOf, stripIn, numbersAt, seamsAt, Gathered, Seaming}
 use Rattle.rows.proofs.Put.{number-read}

@@ -13,26 +13,28 @@ use Rattle.points.specs.declared.Point.{Point}
 use Rattle.points.specs.Points.{addP, subP, pointAt, withPoint}
 use Rattle.band.specs.declared.Band.{Band}
 use Rattle.projection.specs.declared.Projected.{Projected}
-use Rattle.sheet.specs.declared.Counts.{Counts}
-use Rattle.sheet.specs.declared.Verdict.{Verdict}
-use Rattle.sheet.specs.declared.Verdict.the-variants.{Accepted, Refused}
-use Rattle.results.specs.declared.Made.{Made}
-use Rattle.results.specs.declared.Made.the-variants.{Done, Refused as RefusedMade}
-use Rattle.sheet.specs.Quads.{Quad, quad, all}
-use Rattle.sheet.specs.Flat.{from, to, quadsOf}
-use Rattle.sheet.specs.Edges.{joinTo, pointCorners}
+use Rattle.rule_sheet.specs.declared.Counts.{Counts}
+use Rattle.rule_sheet.specs.declared.Verdict.{Verdict}
+use Rattle.rule_sheet.specs.declared.Verdict.the-variants.{Accepted, Refused}
+use Rattle.rule_sheet.specs.declared.Made.{Made}
+use Rattle.rule_sheet.specs.declared.Made.the-variants.{Done, Refused as RefusedMade}
+use Rattle.rule_sheet.specs.Quads.{Quad, quad, all}
+use Rattle.sheet.specs.Flat.{from, to}
+use Rattle.rule_sheet.specs.Flat.{quadsOf}
+use Rattle.rule_sheet.specs.Edges.{joinTo}
+use Rattle.sheet.specs.Edges.{pointCorners}
 use Rattle.sheet.specs.Sheet.{LentSheet, masksOf}
-use Rattle.sheet.specs.Tests.{proper}
+use Rattle.rule_sheet.specs.Tests.{proper}
 use Rattle.incidence.specs.Corners.{Cornered, edgeOrder}
 use Rattle.incidence.specs.Marks.{Incident}
-use Rattle.census.specs.Places.{kindAt}
+use Rattle.quality_counts.specs.Places.{kindAt}
 use Rattle.smoothing.specs.Smooth.{mean, sumOf}
 use Rattle.smoothing.specs.Rounded.{pointwise}
 use Rattle.refine.specs.Loops.{Held, orderAt}
-use Rattle.smoothed.specs.Smoothed.{those}
-use Rattle.smoothed.specs.Steps.{onesOf, cornerCentre, keep}
+use Rattle.rule_finer.specs.Smoothed.{those, keep}
+use Rattle.subdivide_points.specs.Steps.{onesOf, cornerCentre}
 use Rattle.rows.specs.declared.Centres.{Centres}
-use Rattle.rows.specs.Rows.{keyOf, pointIn, labelIn, firstStep, tryCount, tryFrom}
+use Rattle.rule_rows.specs.Rows.{keyOf, pointIn, labelIn, firstStep, tryCount, tryFrom}
 use Rattle.projection.specs.Project.{isOnto, ontoOf}
 
 -- ---- the copies

@@ -6,9 +6,9 @@ use points::Point;
 use projection::LONGEST_MOVE;
 use projection::LOOKS;
 use projection::Projected;
-use results::Made;
-use sheet::Counts;
-use sheet::Verdict;
+use rule_sheet::Counts;
+use rule_sheet::Made;
+use rule_sheet::Verdict;
 ghost use mathlib.Core.Path.{_≡_};
 ghost use mathlib.Core.Bool.{true, cond};
 ghost use mathlib.Core.List.{_++_, map};
@@ -19,47 +19,19 @@ ghost use Rattle.lists.specs.Sort.{tabulate};
 ghost use Rattle.lists.specs.Every.{every};
 ghost use Rattle.lists.specs.Regions.{part, Part, Out, Apart, Kept};
 ghost use Rattle.band.specs.Bands.{lengthOf};
-ghost use Rattle.sheet.specs.Flat.{flatQuads, withQuad};
-ghost use Rattle.sheet.specs.Sheet.{pointsOf, flatPoints, sheetOf, sheetVerdict, LentSheet};
-ghost use Rattle.results.specs.Results.{Front, Fills, Leaves};
+ghost use Rattle.rule_sheet.specs.Flat.{flatQuads};
+ghost use Rattle.sheet.specs.Flat.{withQuad};
+ghost use Rattle.rule_sheet.specs.Sheet.{pointsOf, flatPoints, sheetOf, sheetVerdict};
+ghost use Rattle.sheet.specs.Sheet.{LentSheet};
+ghost use Rattle.sheet.specs.Results.{Front, Fills};
+ghost use Rattle.rule_sheet.specs.Results.{Leaves};
 ghost use Rattle.incidence.specs.Corners.{Cornered, edgeOrder};
 ghost use Rattle.incidence.specs.Marks.{Incident};
 ghost use Rattle.refine.specs.Loops.{Held, orderAt};
-ghost use Rattle.smoothed.specs.Steps.{Below, keep, flatSheet};
-ghost use Rattle.rows.specs.Rows.{firstStep, tryCount, tryFrom, rowsMade, rowed, rowsRule};
-ghost use Rattle.rows.specs.Steps.{
-  copiedBy,
-  copiedIn,
-  numberIn,
-  pointsAfter,
-  ofLabel,
-  centresOf,
-  withCentre,
-  inwardAt,
-  copyAt,
-  foundAt,
-  putCopy,
-  copiesTo,
-  cornerIn,
-  startsAt,
-  listAt,
-  masksAt,
-  seamsAt,
-  seamAt,
-  seamsTo,
-  seamsOf,
-  stripIn,
-  cornerLabel,
-  countsAfter,
-  madeBy,
-  Labelled,
-  Worked,
-  Gathered,
-  Seaming,
-  Gathering,
-  Finished,
-  Tested,
-};
+ghost use Rattle.subdivide_points.specs.Steps.{Below, flatSheet};
+ghost use Rattle.rule_finer.specs.Smoothed.{keep};
+ghost use Rattle.rule_rows.specs.Rows.{firstStep, tryCount, tryFrom, rowsMade, rowed, rowsRule};
+ghost use Rattle.rows.specs.Steps.{copiedBy, copiedIn, numberIn, pointsAfter, ofLabel, centresOf, withCentre, inwardAt, copyAt, foundAt, putCopy, copiesTo, cornerIn, startsAt, listAt, masksAt, seamsAt, seamAt, seamsTo, seamsOf, stripIn, cornerLabel, countsAfter, madeBy, Labelled, Worked, Gathered, Seaming, Gathering, Finished, Tested};
 
 // The number of a refusal: a copy for which all steps fail.
 pub const ROW: u32 = 10;
@@ -93,7 +65,7 @@ fn has_copy(m: u32, l: u32) -> bool
     ensures { λ r. ⌜ r ≡ copiedBy m l ⌝ }
 {
     let p = 1u32 << l;
-    let several = smoothed::ones(m) > 1;
+    let several = subdivide_points::ones(m) > 1;
     several & (m / p % 2 == 1)
 }
 
@@ -120,7 +92,7 @@ fn number_copies(np: usize, masks: usize, num: usize, w: &mut [u32]) -> usize
     let mut k = 0;
     while k < 8 * np {
         w[num + k] = next as u32;
-        next += census::one_if(is_copied(np, masks, k, w));
+        next += quality_counts::one_if(is_copied(np, masks, k, w));
         k += 1;
     }
     next
@@ -165,7 +137,7 @@ fn centres_at(
     let mut j = 0;
     while j < m {
         let q = lists::at(w, from + j) / 4;
-        let p = smoothed::centre_at(points, quads, np, nq, q);
+        let p = subdivide_points::centre_at(points, quads, np, nq, q);
         c = with_centre(c, lists::byte_at(labels, q) == l, p);
         j += 1;
     }
@@ -208,7 +180,7 @@ fn inward_at(
     ensures { λ r. ⌜ r ≡ inwardAt nq (now (points .entry)) (now (quads .entry)) (now (labels .entry)) v l ⌝ }
 {
     let n = np + nq;
-    let s = smoothed::span_at(np, nq, quads, STARTS * n, LIST * n, v, w);
+    let s = subdivide_points::span_at(np, nq, quads, STARTS * n, LIST * n, v, w);
     let c = centres_at(points, quads, labels, np, nq, s.from, s.size, l, w);
     let mean = smoothing::mean(c.sum, c.count);
     points::sub(mean, points::point_at(points, v))
@@ -364,8 +336,8 @@ fn is_seam(quads: &[u32], labels: &[u8], np: usize, nq: usize, i: usize, w: &[u3
     ensures { λ r. ⌜ r ≡ seamAt (now (quads .entry)) (now (labels .entry)) (4 * nq) (edgeOrder np nq (now (quads .entry))) i ⌝ }
 {
     let order = refine::ORDER * (np + nq);
-    let kind = census::kind_at(quads, order, 4 * nq, i, w);
-    if (kind == census::OPPOSITE) | (kind == census::TURNED) {
+    let kind = quality_counts::kind_at(quads, order, 4 * nq, i, w);
+    if (kind == quality_counts::OPPOSITE) | (kind == quality_counts::TURNED) {
         let a = lists::byte_at(labels, lists::at(w, order + i) / 4);
         let b = lists::byte_at(labels, lists::at(w, order + (i + 1)) / 4);
         return a != b;
@@ -438,7 +410,7 @@ fn put_strip(
     let b = quads[c / 4 * 4 + (c + 1) % 4];
     let e = w[num + (8 * b as usize + l)];
     let f = w[num + (8 * a as usize + l)];
-    results::put_quad(out, i, a, b, e, f);
+    sheet::put_quad(out, i, a, b, e, f);
 }
 
 // Puts the m strips.
@@ -577,7 +549,7 @@ fn put_sheet(
     if !put_copies(b, points, quads, labels, np, nq, w, new_points) {
         return Made::Refused(ROW);
     }
-    if !smoothed::is_paired(np, nq, quads, w) {
+    if !subdivide_points::is_paired(np, nq, quads, w) {
         return Made::Refused(sheet::EDGE);
     }
     put_quads(
@@ -694,7 +666,7 @@ pub fn boundary_rows(
         work,
         floats.len(),
     );
-    results::clear_unused(results::shown_counts(r), new_points, new_quads, new_labels);
-    results::clear_work(work, floats);
+    sheet::clear_unused(sheet::shown_counts(r), new_points, new_quads, new_labels);
+    sheet::clear_work(work, floats);
     r
 }

@@ -12,10 +12,13 @@ use Rattle.lists.specs.Sort.{tabulate, bucket, sortBy, consIf, countOf, itself}
 use Rattle.lists.proofs.Laws.{lt-or-le, bucket-append}
 use Rattle.lists.proofs.Every.{bool-iff}
 use Rattle.lists.proofs.Order.{bucket-key, each-bucket, bucket-sort}
-use Rattle.sheet.specs.Quads.{num, is, at, side, isEdge}
-use Rattle.sheet.specs.Flat.{quadsOf, from, to}
-use Rattle.sheet.specs.Edges.{pair, joinTo, joinOf, edgeIf, edgesFrom, edgesOf, smaller, larger, allCorners, pointCorners, edgeCorners}
-use Rattle.sheet.proofs.Flat.{upto, upto-ext, total-flat}
+use Rattle.rule_sheet.specs.Quads.{num, is, at, side, isEdge}
+use Rattle.rule_sheet.specs.Flat.{quadsOf}
+use Rattle.sheet.specs.Flat.{from, to}
+use Rattle.rule_sheet.specs.Edges.{pair, joinTo, joinOf, edgeIf, edgesFrom, edgesOf}
+use Rattle.sheet.specs.Edges.{smaller, larger, allCorners, pointCorners, edgeCorners}
+use Rattle.rule_sheet.proofs.Sums.{upto, upto-ext}
+use Rattle.sheet.proofs.Flat.{total-flat}
 
 -- ---- the numbers below n with two keys, counted
 

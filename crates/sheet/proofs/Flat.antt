@@ -9,27 +9,10 @@ use lib.Seq.{take-suc, length-take-le}
 use lib.Dec.{eqb}
 use Rattle.lists.specs.Sort.{tabulate, bucket, consIf, countOf, itself}
 use Rattle.lists.proofs.Laws.{tab-suc, length-tab, bucket-append}
-use Rattle.sheet.specs.Quads.{Quad, num, is, sum, corners, total, at, uses, valence, labelSum, touches}
-use Rattle.sheet.specs.Flat.{quadAt, quadsOf, from, before, to}
-
--- the sum of a weight over the numbers below n
-abbrev pub upto : ℕ → (ℕ → ℕ) → ℕ
-upto zero f = 0
-upto (suc n) f = f n + upto n f
-
--- a sum over two lists, one after the other
-pub sum-append : {A : Type 0} (f : A → ℕ) (l m : List A) → sum f (l ++ m) ≡ sum f l + sum f m
-sum-append f [] m = omega arith
-sum-append f (x ∷ l) m = omega (arith, sum-append f l m)
-
-pub sum-tab : {A : Type 0} (f : A → ℕ) (g : ℕ → A) (n : ℕ) → sum f (tabulate g n) ≡ upto n (λ i. f (g i))
-unfolding tabulate
-sum-tab f g zero = refl
-sum-tab f g (suc n) = omega (arith, sum-append f (tabulate g n) (g n ∷ []), sum-tab f g n)
-
-pub upto-ext : (f g : ℕ → ℕ) (n : ℕ) → ((i : ℕ) → i < n → f i ≡ g i) → upto n f ≡ upto n g
-upto-ext f g zero h = refl
-upto-ext f g (suc n) h = rw (h n (omega arith), upto-ext f g n (λ i b. h i (omega arith)))
+use Rattle.rule_sheet.specs.Quads.{Quad, num, is, corners, total, at, uses, valence, labelSum, touches}
+use Rattle.rule_sheet.specs.Flat.{quadAt, quadsOf}
+use Rattle.sheet.specs.Flat.{from, before, to}
+use Rattle.rule_sheet.proofs.Sums.{upto, sum-tab, upto-ext}
 
 -- four at a time
 upto-four : (f : ℕ → ℕ) (n : ℕ) → upto (4 * n) f ≡ upto n (λ q. f (4 * q) + (f (4 * q + 1) + (f (4 * q + 2) + f (4 * q + 3))))

@@ -13,9 +13,11 @@ use Rattle.lists.specs.Sort.{tabulate}
 use native.Mathlib.Numerals.{add-one}
 use Rattle.lists.proofs.Every.{and-left, and-right, every-at}
 use Rattle.lists.proofs.Laws.{eq-or-ne, is-tab, length-tab, getD-tab, tab-set, tab-ext}
-use Rattle.sheet.specs.Quads.{quad, num, packTo, pack, at, uses, maskOf, touches}
-use Rattle.sheet.specs.Flat.{corner, quadAt, quadsOf, seen, maskIn, Holds}
-use Rattle.sheet.specs.Tests.{inRange, goodQuadAt, withBit, marked}
+use Rattle.rule_sheet.specs.Quads.{quad, num, packTo, pack, at, uses, maskOf, touches}
+use Rattle.rule_sheet.specs.Flat.{corner, quadAt, quadsOf}
+use Rattle.sheet.specs.Flat.{seen, maskIn, Holds}
+use Rattle.rule_sheet.specs.Tests.{inRange}
+use Rattle.sheet.specs.Tests.{goodQuadAt, withBit, marked}
 use Rattle.sheet.proofs.Flat.{touches-suc}
 use Rattle.lists.specs.Every.{every}
 

@@ -15,18 +15,21 @@ use Rattle.lists.specs.Every.{every}
 use Rattle.lists.proofs.Laws.{eq-or-ne, length-tab, getD-tab, tab-take}
 use Rattle.lists.proofs.Every.{and-left, and-right, every-ext}
 use Rattle.points.specs.Points.{pointAt, finiteP}
-use Rattle.sheet.specs.declared.Counts.{Counts}
-use Rattle.sheet.specs.declared.Verdict.{Verdict}
-use Rattle.sheet.specs.declared.Verdict.the-variants.{Accepted, Refused}
+use Rattle.rule_sheet.specs.declared.Counts.{Counts}
+use Rattle.rule_sheet.specs.declared.Verdict.{Verdict}
+use Rattle.rule_sheet.specs.declared.Verdict.the-variants.{Accepted, Refused}
 use Rattle.band.specs.declared.Band.{Band}
 use Rattle.band.specs.Bands.{validOf}
-use Rattle.sheet.specs.Numbers.{box, bare, large, short, corner, clash}
-use Rattle.sheet.specs.Quads.{Quad, all}
-use Rattle.sheet.specs.Flat.{quadAt, quadsOf, maskIn, Holds}
-use Rattle.sheet.specs.Tests.{proper, lowLabel, goodCorners, goodMask, goodPoint, goodMasks, goodQuadAt, goodMaskAt}
-use Rattle.sheet.specs.Sheet.{Sheet, sheetOf, sheetVerdict, pointsOf, isLarge, Few, isShort, isShortWork, lentVerdict, isBare, bareBy, quadsVerdict, LentSheet, LentWork, masksOf, MasksIf}
+use Rattle.rule_sheet.specs.Numbers.{box, bare, large, short, corner, clash}
+use Rattle.rule_sheet.specs.Quads.{Quad, all}
+use Rattle.rule_sheet.specs.Flat.{quadAt, quadsOf}
+use Rattle.sheet.specs.Flat.{maskIn, Holds}
+use Rattle.rule_sheet.specs.Tests.{proper, lowLabel, goodCorners, goodMask, goodPoint, goodMasks}
+use Rattle.sheet.specs.Tests.{goodQuadAt, goodMaskAt}
+use Rattle.rule_sheet.specs.Sheet.{Sheet, sheetOf, sheetVerdict, pointsOf, isLarge, isShort, isShortWork, lentVerdict, isBare, quadsVerdict}
+use Rattle.sheet.specs.Sheet.{Few, bareBy, LentSheet, LentWork, masksOf, MasksIf}
 use Rattle.sheet.proofs.Flat.{length-quads}
-use Rattle.sheet.proofs.All.{all-append}
+use Rattle.rule_sheet.proofs.All.{all-append}
 
 -- ---- 12 and 13
 

@@ -1,26 +1,10 @@
--- Quads in a list of point numbers, four to a quad, as a lent slice has them. Corner c is corner c % 4 of quad c / 4.
+-- Quads in a list of point numbers, four to a quad, as the code reads and writes them. Corner c is corner c % 4 of quad c / 4.
 use Prim.Native.Nat.{ℕ, _+_, _*_, _/_, _%_, _≤_}
 use mathlib.Core.Bool.{Bool}
-use mathlib.Core.List.{List, [], _∷_}
+use mathlib.Core.List.{List}
 use lib.ListN.{getD, set, length, take}
-use Rattle.lists.specs.Sort.{tabulate}
-use Rattle.sheet.specs.Quads.{Quad, quad, hasLabel, maskOf}
-
--- corner j of quad q
-abbrev pub corner : List ℕ → ℕ → ℕ → ℕ
-corner Q q j = getD Q (4 * q + j) 0
-
-abbrev pub quadAt : List ℕ → ℕ → Quad
-quadAt Q q = quad (corner Q q 0) (corner Q q 1) (corner Q q 2) (corner Q q 3)
-
--- the first n quads
-unfoldable pub quadsOf : ℕ → List ℕ → List Quad
-quadsOf n Q = tabulate (quadAt Q) n
-
--- the corners of quads, one after the other
-unfoldable pub flatQuads : List Quad → List ℕ
-flatQuads [] = []
-flatQuads (quad a b c d ∷ S) = a ∷ b ∷ c ∷ d ∷ flatQuads S
+use Rattle.rule_sheet.specs.Quads.{Quad, quad, hasLabel, maskOf}
+use Rattle.rule_sheet.specs.Flat.{quadsOf}
 
 -- the list with the quad at place i
 abbrev pub withQuad : List ℕ → ℕ → Quad → List ℕ

@@ -1,8 +1,5 @@
-pub mod Quads
 pub mod Flat
 pub mod Edges
 pub mod Tests
-pub mod Numbers
 pub mod Sheet
-pub mod Closed
-pub mod FirstUse
+pub mod Results

@@ -1,6 +1,9 @@
 // A lent sheet: its counts and limits, and the tests 12, 13, 1, 5, 6 and 7 with the masks of its points.
 
 use band::Band;
+use rule_sheet::Counts;
+use rule_sheet::Made;
+use rule_sheet::Verdict;
 ghost use mathlib.Core.Path.{_≡_};
 ghost use mathlib.Core.Bool.{Bool, true, false, _||_};
 ghost use Prim.Native.Nat.{ℕ, _+_, _*_, _<_, _≤_};
@@ -8,10 +11,16 @@ ghost use lib.ListN.{length, getD, take, replicate};
 ghost use Rattle.lists.specs.Every.{every};
 ghost use Rattle.lists.specs.Sort.{tabulate};
 ghost use Rattle.points.specs.Points.{pointAt, finiteP};
-ghost use Rattle.sheet.specs.Quads.{quad};
-ghost use Rattle.sheet.specs.Flat.{corner, quadsOf, maskIn, Holds};
-ghost use Rattle.sheet.specs.Tests.{inRange, distinct, goodQuadAt, goodMask, goodMaskAt, withBit, marked};
-ghost use Rattle.sheet.specs.Sheet.{sheetOf, Few, isLarge, isShort, isShortWork, lentVerdict, quadsVerdict, sheetVerdict, masksOf, MasksIf, LentSheet, finiteAt, bareBy};
+ghost use Rattle.rule_sheet.specs.Quads.{quad};
+ghost use Rattle.rule_sheet.specs.Flat.{corner, quadsOf};
+ghost use Rattle.sheet.specs.Flat.{maskIn, Holds, withQuad};
+ghost use Rattle.rule_sheet.specs.Tests.{inRange, distinct, goodMask};
+ghost use Rattle.sheet.specs.Tests.{goodQuadAt, goodMaskAt, withBit, marked};
+ghost use Rattle.rule_sheet.specs.Sheet.{sheetOf, isLarge, isShort, isShortWork, lentVerdict, quadsVerdict, sheetVerdict};
+ghost use Rattle.sheet.specs.Sheet.{Few, masksOf, MasksIf, LentSheet, finiteAt, bareBy};
+ghost use Rattle.numeric.specs.Num.{zeroF};
+ghost use Rattle.sheet.specs.Results.{cleared, Room};
+ghost use Rattle.rule_sheet.specs.Results.{shownCounts};
 
 // The most points, quads or labels of a sheet.
 pub const LIMIT: usize = 1048576;
@@ -30,19 +39,6 @@ pub const EDGE: u32 = 8;
 pub const LARGE: u32 = 12;
 
 pub const SHORT: u32 = 13;
-
-// How many points, quads and labels a sheet has.
-pub struct Counts {
-    pub points: usize,
-    pub quads: usize,
-    pub labels: usize,
-}
-
-// What a test answers.
-pub enum Verdict {
-    Accepted,
-    Refused(u32),
-}
 
 // 12: more than the limit.
 pub fn is_large(c: Counts) -> bool
@@ -288,4 +284,76 @@ pub fn constraints(
         return quads_tested(c.quads, quads, labels, masks);
     }
     Verdict::Refused(BOX)
+}
+
+// What an operation that makes a sheet leaves behind: its answer, result slices with zeros behind the sheet, work slices of zeros.
+
+// The counts of a made sheet; a refusal shows none.
+pub fn shown_counts(r: Made) -> Counts
+    ensures { λ c. ⌜ c ≡ shownCounts r ⌝ }
+{
+    match r {
+        Made::Done(c) => c,
+        Made::Refused(_) => Counts {
+            points: 0,
+            quads: 0,
+            labels: 0,
+        },
+    }
+}
+
+// Puts a quad at place i.
+pub fn put_quad(quads: &mut [u32], i: usize, a: u32, b: u32, c: u32, d: u32)
+    requires { ⌜ 4 * i + 4 ≤ length (now quads) ⌝ }
+    ensures { λ _. ⌜ now (quads .exit) ≡ withQuad (now (quads .entry)) i (quad a b c d) ⌝ }
+{
+    quads[4 * i] = a;
+    quads[4 * i + 1] = b;
+    quads[4 * i + 2] = c;
+    quads[4 * i + 3] = d;
+}
+
+// Clears what lies behind the first n elements.
+pub fn clear_behind(n: usize, s: &mut [u32])
+    requires { ⌜ n ≤ length (now s) ⌝ }
+    ensures { λ _. ⌜ now (s .exit) ≡ cleared 0 n (now (s .entry)) ⌝ }
+{
+    lists::clear(&mut s[n..]);
+}
+
+// The same for f64.
+pub fn clear_behind_f64(n: usize, s: &mut [f64])
+    requires { ⌜ n ≤ length (now s) ⌝ }
+    ensures { λ _. ⌜ now (s .exit) ≡ cleared zeroF n (now (s .entry)) ⌝ }
+{
+    lists::clear_f64(&mut s[n..]);
+}
+
+// The same for bytes.
+pub fn clear_behind_u8(n: usize, s: &mut [u8])
+    requires { ⌜ n ≤ length (now s) ⌝ }
+    ensures { λ _. ⌜ now (s .exit) ≡ cleared 0 n (now (s .entry)) ⌝ }
+{
+    lists::clear_u8(&mut s[n..]);
+}
+
+// Clears the result slices behind a sheet of these counts.
+pub fn clear_unused(c: Counts, points: &mut [f64], quads: &mut [u32], labels: &mut [u8])
+    requires { ⌜ Room c (length (now points)) (length (now quads)) (length (now labels)) ⌝ }
+    ensures { λ _. ⌜ now (points .exit) ≡ cleared zeroF (3 * c .points) (now (points .entry)) ⌝ }
+    ensures { λ _. ⌜ now (quads .exit) ≡ cleared 0 (4 * c .quads) (now (quads .entry)) ⌝ }
+    ensures { λ _. ⌜ now (labels .exit) ≡ cleared 0 (c .labels) (now (labels .entry)) ⌝ }
+{
+    clear_behind_f64(3 * c.points, points);
+    clear_behind(4 * c.quads, quads);
+    clear_behind_u8(c.labels, labels);
+}
+
+// Clears both work slices.
+pub fn clear_work(work: &mut [u32], floats: &mut [f64])
+    ensures { λ _. ⌜ now (work .exit) ≡ replicate (length (now (work .entry))) 0 ⌝ }
+    ensures { λ _. ⌜ now (floats .exit) ≡ replicate (length (now (floats .entry))) zeroF ⌝ }
+{
+    lists::clear(work);
+    lists::clear_f64(floats);
 }

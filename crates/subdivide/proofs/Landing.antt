@@ -19,9 +19,9 @@ use Rattle.band.specs.Bands.{lengthOf}
 use Rattle.projection.specs.declared.Projected.{Projected}
 use Rattle.projection.specs.declared.Projected.the-variants.{Onto, Refused}
 use Rattle.projection.specs.Project.{longestMove, lookCount, projectWith, projectOf, ontoOf}
-use Rattle.sheet.specs.Sheet.{flatPoints}
-use Rattle.results.specs.Results.{Front}
-use Rattle.results.proofs.Fronts.{front-none, front-point, length-with}
+use Rattle.rule_sheet.specs.Sheet.{flatPoints}
+use Rattle.sheet.specs.Results.{Front}
+use Rattle.sheet.proofs.Fronts.{front-none, front-point, length-with}
 use Rattle.subdivide.specs.Steps.{landAt, landsOf, landedTo}
 
 -- a point put elsewhere leaves this one

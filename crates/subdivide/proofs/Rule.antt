@@ -16,32 +16,34 @@ use Rattle.lists.proofs.Laws.{length-tab, getD-tab, tab-ext}
 use Rattle.lists.proofs.Every.{every-ext, count-le}
 use Rattle.lists.proofs.Regions.{part-as, part-kept, lent}
 use Rattle.band.specs.declared.Band.{Band}
-use Rattle.sheet.specs.declared.Counts.{Counts}
-use Rattle.sheet.specs.declared.Verdict.the-variants.{Accepted, Refused}
-use Rattle.sheet.specs.Quads.{hasLabel, maskOf}
-use Rattle.sheet.specs.Flat.{quadsOf, flatQuads}
-use Rattle.sheet.specs.Tests.{goodCorners}
-use Rattle.sheet.specs.Sheet.{Sheet, sheetOf, pointsOf, flatPoints, isLarge, isShort, lentVerdict, sheetVerdict, masksOf, LentSheet}
+use Rattle.rule_sheet.specs.declared.Counts.{Counts}
+use Rattle.rule_sheet.specs.declared.Verdict.the-variants.{Accepted, Refused}
+use Rattle.rule_sheet.specs.Quads.{hasLabel, maskOf}
+use Rattle.rule_sheet.specs.Flat.{quadsOf, flatQuads}
+use Rattle.rule_sheet.specs.Tests.{goodCorners}
+use Rattle.rule_sheet.specs.Sheet.{Sheet, sheetOf, pointsOf, flatPoints, isLarge, isShort, lentVerdict, sheetVerdict}
+use Rattle.sheet.specs.Sheet.{masksOf, LentSheet}
 use Rattle.sheet.proofs.Flat.{length-quads}
 use Rattle.sheet.proofs.Masks.{pack-lt}
 use Rattle.sheet.proofs.Tests.{or-left, or-right, holds-of, lent-is, length-points, bare-is, labels-match, tested, some-quad, proper-of}
-use Rattle.results.specs.declared.Made.{Made}
-use Rattle.results.specs.Outcomes.{Outcome, refuses, afterTest}
-use Rattle.results.specs.Results.{answerOf, countsOf, Front, Fills}
-use Rattle.results.proofs.Results.{refused-fills}
+use Rattle.rule_sheet.specs.declared.Made.{Made}
+use Rattle.rule_sheet.specs.Outcomes.{Outcome, refuses, afterTest}
+use Rattle.rule_sheet.specs.Results.{answerOf, countsOf}
+use Rattle.sheet.specs.Results.{Front, Fills}
+use Rattle.sheet.proofs.Results.{refused-fills}
 use Rattle.incidence.proofs.Corners.{cornered}
-use Rattle.refine.specs.Finer.{asked, finerSheet}
+use Rattle.rule_finer.specs.Finer.{asked, finerSheet}
 use Rattle.refine.specs.Requests.{firstsOf, own}
 use Rattle.refine.specs.Loops.{pointsAfter, Behind, Worked, Finished}
 use Rattle.refine.proofs.Rule.{countsAfter, tested-finished}
 use Rattle.refine.proofs.Sheet.{count-is, finer-counts}
-use Rattle.smoothed.specs.Smoothed.{paired, newPlace, oldPoint, smoothSheet}
-use Rattle.smoothed.specs.Steps.{masksAt, flatSheet, Smoothable}
-use Rattle.results.proofs.Fronts.{front-quads, points-front, quads-front}
-use Rattle.subdivide.specs.Subdivide.{landing, landsAt, projectedSheet, projected, subdivided, subdivideRule}
+use Rattle.rule_finer.specs.Smoothed.{paired, newPlace, oldPoint, smoothSheet}
+use Rattle.subdivide_points.specs.Steps.{masksAt, flatSheet, Smoothable}
+use Rattle.sheet.proofs.Fronts.{front-quads, points-front, quads-front}
+use Rattle.rule_finer.specs.Subdivide.{landing, landsAt, projectedSheet, projected, subdivided, subdivideRule}
 use Rattle.projection.specs.Project.{ontoOf}
 use Rattle.subdivide.specs.Steps.{Masked, landAt, landsOf, landedTo, Tested}
-use Rattle.results.specs.declared.Made.the-variants as made
+use Rattle.rule_sheet.specs.declared.Made.the-variants as made
 
 -- ---- the tests and the projection of the smoothed sheet
 

@@ -12,13 +12,13 @@ use Rattle.points.specs.Points.{pointAt}
 use Rattle.band.specs.declared.Band.{Band}
 use Rattle.projection.specs.declared.Projected.{Projected}
 use Rattle.projection.specs.Project.{projectOf, isOnto, ontoOf}
-use Rattle.sheet.specs.declared.Counts.{Counts}
-use Rattle.sheet.specs.Quads.{all}
-use Rattle.sheet.specs.Flat.{quadsOf}
+use Rattle.rule_sheet.specs.declared.Counts.{Counts}
+use Rattle.rule_sheet.specs.Quads.{all}
+use Rattle.rule_sheet.specs.Flat.{quadsOf}
 use Rattle.sheet.specs.Sheet.{masksOf}
-use Rattle.sheet.specs.Tests.{proper}
+use Rattle.rule_sheet.specs.Tests.{proper}
 use Rattle.refine.specs.Loops.{Refinable}
-use Rattle.smoothed.specs.Steps.{masksAt}
+use Rattle.subdivide_points.specs.Steps.{masksAt}
 
 -- M has the masks of n points
 pub record Masked (n : ℕ) (M : List ℕ) : Type 0 where

@@ -4,19 +4,21 @@ use band::Band;
 use projection::LONGEST_MOVE;
 use projection::LOOKS;
 use projection::Projected;
-use results::Made;
-use sheet::Counts;
-use sheet::Verdict;
+use rule_sheet::Counts;
+use rule_sheet::Made;
+use rule_sheet::Verdict;
 ghost use mathlib.Core.Path.{_≡_};
 ghost use mathlib.Core.Bool.{true};
 ghost use Prim.Native.Nat.{_*_, _≤_};
 ghost use lib.ListN.{length, replicate};
 ghost use Rattle.numeric.specs.Num.{zeroF};
 ghost use Rattle.lists.specs.Every.{every};
-ghost use Rattle.sheet.specs.Sheet.{flatPoints, sheetOf, sheetVerdict, LentSheet};
-ghost use Rattle.results.specs.Outcomes.{afterTest};
-ghost use Rattle.results.specs.Results.{Leaves, Fills, Front};
-ghost use Rattle.subdivide.specs.Subdivide.{projected, subdivided, subdivideRule};
+ghost use Rattle.rule_sheet.specs.Sheet.{flatPoints, sheetOf, sheetVerdict};
+ghost use Rattle.sheet.specs.Sheet.{LentSheet};
+ghost use Rattle.rule_sheet.specs.Outcomes.{afterTest};
+ghost use Rattle.rule_sheet.specs.Results.{Leaves};
+ghost use Rattle.sheet.specs.Results.{Fills, Front};
+ghost use Rattle.rule_finer.specs.Subdivide.{projected, subdivided, subdivideRule};
 ghost use Rattle.subdivide.specs.Steps.{Masked, landsOf, landedTo, Tested};
 
 // The number of a refusal: a point whose projection fails.
@@ -92,8 +94,8 @@ fn subdivide_tested(
     if sheet::is_over(made, new_points.len(), new_quads.len(), new_labels.len()) {
         return Made::Refused(sheet::SHORT);
     }
-    if smoothed::is_paired(np, nq, quads, w) {
-        smoothed::put_smoothed(
+    if subdivide_points::is_paired(np, nq, quads, w) {
+        subdivide_points::put_smoothed(
             np,
             nq,
             points,
@@ -128,7 +130,7 @@ fn subdivide_or_refusal(
     if let Verdict::Refused(n) = v {
         return Made::Refused(n);
     }
-    let m = smoothed::MASKS * (c.points + c.quads);
+    let m = subdivide_points::MASKS * (c.points + c.quads);
     let t = sheet::constraints(b, c, points, quads, labels, &mut w[m..m + c.points]);
     if let Verdict::Refused(n) = t {
         return Made::Refused(n);
@@ -175,7 +177,7 @@ pub fn subdivide(
         work,
         floats.len(),
     );
-    results::clear_unused(results::shown_counts(r), new_points, new_quads, new_labels);
-    results::clear_work(work, floats);
+    sheet::clear_unused(sheet::shown_counts(r), new_points, new_quads, new_labels);
+    sheet::clear_work(work, floats);
     r
 }

@@ -1,4 +1,4 @@
-//! The exports of the static library `leaves`, and its answer to a call.
+//! The exports of the static library `export_leaves`, and its answer to a call.
 use oracle::Point;
 use oracle::call::{Answer, Call, Operation};
 use oracle::quads::QuadMesh;

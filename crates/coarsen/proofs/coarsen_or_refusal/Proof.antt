@@ -4,8 +4,8 @@ use native.Mathlib.Omega.{arith}
 use borrow.Author.Needs.{needs}
 use lib.ListN.{length}
 use lib.Seq.{length-take-le, length-front}
-use Rattle.sheet.specs.declared.Verdict.the-variants.{Accepted}
-use Rattle.sheet.specs.Sheet.{sheetOf, sheetVerdict}
+use Rattle.rule_sheet.specs.declared.Verdict.the-variants.{Accepted}
+use Rattle.rule_sheet.specs.Sheet.{sheetOf, sheetVerdict}
 use Rattle.coarsen.proofs.Rule.{rule-lent, Lent, sheet-fits, points-fit, rule-zero, rule-sheet, coarsenable, rule-done}
 use Rattle.coarsen.proofs.coarsen_or_refusal.Statement.{statement}
 use Rattle.coarsen.proofs.coarsen_or_refusal.Tie as tie

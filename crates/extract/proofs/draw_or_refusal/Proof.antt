@@ -3,7 +3,7 @@ use borrow.Author.Needs.{needs}
 use mathlib.Core.Path.{_≡_, sym, _∙_}
 use mathlib.Core.Bool.{false}
 use lib.ListN.{length}
-use Rattle.sheet.specs.Sheet.{isLarge, isShort}
+use Rattle.rule_sheet.specs.Sheet.{isLarge, isShort}
 use Rattle.sheet.proofs.Tests.{few-of}
 use Rattle.extract.proofs.Stages.{drawn-large, drawn-short, drawn-room, tested-ready, drawn-tested}
 use Rattle.extract.proofs.draw_or_refusal.Statement.{statement}

@@ -1,6 +1,6 @@
 -- `extract::draw_sheet` meets its contract. Assumes nothing.
 use borrow.Author.Needs.{needs}
-use Rattle.drawing.specs.Drawing.{drawnSheet}
+use Rattle.rule_extract.specs.Drawing.{drawnSheet}
 use Rattle.extract.proofs.draw_sheet.Statement.{statement}
 use Rattle.extract.proofs.draw_sheet.Tie as tie
 

@@ -1,7 +1,7 @@
 -- `extract::extract_candidate` meets its contract. Assumes nothing.
 use borrow.Author.Needs.{needs}
 use mathlib.Core.Path.{_∙_}
-use Rattle.results.proofs.Results.{shown-room, leaves-of}
+use Rattle.sheet.proofs.Results.{shown-room, leaves-of}
 use Rattle.extract.proofs.extract_candidate.Statement.{statement}
 use Rattle.extract.proofs.extract_candidate.Tie as tie
 

@@ -9,7 +9,7 @@ use lib.Seq.{length-take-le}
 use lib.ListN.{length}
 use Rattle.numeric.specs.Num.{finiteOf}
 use Rattle.band.specs.Bands.{validOf}
-use Rattle.drawing.specs.Drawing.{goodCells}
+use Rattle.rule_extract.specs.Drawing.{goodCells}
 use Rattle.extract.proofs.Stages.{cube, rule-box, rule-bottomless, rule-cells, rule-short, rule-sampled, few-cells, Room, room-of, sample-ready}
 use Rattle.extract.proofs.extract_or_refusal.Statement.{statement}
 use Rattle.extract.proofs.extract_or_refusal.Tie as tie

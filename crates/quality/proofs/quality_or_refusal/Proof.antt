@@ -3,8 +3,8 @@ use borrow.Author.Needs.{needs}
 use mathlib.Core.Path.{_≡_, refl, sym, _∙_}
 use lib.ListN.{length}
 use lib.Seq.{length-front}
-use Rattle.sheet.specs.declared.Verdict.the-variants.{Accepted}
-use Rattle.sheet.specs.Sheet.{lentVerdict}
+use Rattle.rule_sheet.specs.declared.Verdict.the-variants.{Accepted}
+use Rattle.rule_sheet.specs.Sheet.{lentVerdict}
 use Rattle.quality.proofs.Accepted.{accepted}
 use Rattle.quality.proofs.Rule.{rule-lent, rule-sheet, masks-length, rule-tested, rule-assessed}
 use Rattle.quality.proofs.quality_or_refusal.Statement.{statement}

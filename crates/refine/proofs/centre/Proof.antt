@@ -1,6 +1,6 @@
 -- `refine::centre` meets its contract. Assumes nothing.
 use borrow.Author.Needs.{needs}
-use Rattle.refine.specs.Finer.{centreP}
+use Rattle.rule_finer.specs.Finer.{centreP}
 use Rattle.refine.proofs.centre.Statement.{statement}
 use Rattle.refine.proofs.centre.Tie as tie
 

@@ -2,7 +2,7 @@
 use native.Mathlib.Omega.{arith}
 use Prim.Native.Nat.{_-_}
 use Rattle.points.specs.Points.{pointAt}
-use Rattle.sheet.specs.Sheet.{pointsOf}
+use Rattle.rule_sheet.specs.Sheet.{pointsOf}
 use Rattle.refine.proofs.Loops.{OldLoop, old-start, old-turn, old-end}
 use Rattle.refine.proofs.copy_points.Statement.{statement}
 use Rattle.refine.proofs.copy_points.Tie as tie

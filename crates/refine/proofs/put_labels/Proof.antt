@@ -4,7 +4,7 @@ use mathlib.Core.Path.{refl}
 use Prim.Native.Nat.{_*_, _-_}
 use Rattle.lists.proofs.Laws.{Filled, filled-start, filled-turn}
 use Rattle.refine.specs.Requests.{labelAt}
-use Rattle.results.proofs.Fronts.{front-filled}
+use Rattle.sheet.proofs.Fronts.{front-filled}
 use Rattle.refine.proofs.put_labels.Statement.{statement}
 use Rattle.refine.proofs.put_labels.Tie as tie
 

@@ -3,7 +3,7 @@ use native.Mathlib.Omega.{arith}
 use Prim.Native.Nat.{_*_, _-_}
 use Rattle.points.specs.Points.{pointAt}
 use Rattle.lists.specs.Regions.{part}
-use Rattle.sheet.specs.Sheet.{pointsOf}
+use Rattle.rule_sheet.specs.Sheet.{pointsOf}
 use Rattle.sheet.proofs.Tests.{length-points}
 use Rattle.refine.specs.Requests.{positionAt}
 use Rattle.refine.proofs.Loops.{PointLoop, points-start, points-turn, points-end, writing-same}

@@ -1,6 +1,6 @@
 -- `refine::refine` meets its contract. Assumes nothing.
 use borrow.Author.Needs.{needs}
-use Rattle.results.proofs.Results.{shown-room, leaves-of}
+use Rattle.sheet.proofs.Results.{shown-room, leaves-of}
 use mathlib.Core.Path.{_∙_}
 use Rattle.refine.proofs.refine.Statement.{statement}
 use Rattle.refine.proofs.refine.Tie as tie

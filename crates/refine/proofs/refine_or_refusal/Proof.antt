@@ -3,8 +3,8 @@ use native.Mathlib.Omega.{arith}
 use borrow.Author.Needs.{needs}
 use mathlib.Core.Path.{_≡_, sym, _∙_}
 use lib.ListN.{length}
-use Rattle.sheet.specs.declared.Verdict.the-variants.{Accepted}
-use Rattle.sheet.specs.Sheet.{lentVerdict}
+use Rattle.rule_sheet.specs.declared.Verdict.the-variants.{Accepted}
+use Rattle.rule_sheet.specs.Sheet.{lentVerdict}
 use Rattle.refine.proofs.Rule.{rule-lent, rule-few, rule-bare, rule-corner, rule-refinable, rule-tested}
 use Rattle.refine.proofs.refine_or_refusal.Statement.{statement}
 use Rattle.refine.proofs.refine_or_refusal.Tie as tie

@@ -3,8 +3,8 @@ use borrow.Author.Needs.{needs}
 use mathlib.Core.Path.{_≡_, sym, _∙_}
 use lib.ListN.{length}
 use lib.Seq.{length-take-le, length-front}
-use Rattle.sheet.specs.declared.Verdict.the-variants.{Accepted}
-use Rattle.sheet.specs.Sheet.{sheetOf, lentVerdict, sheetVerdict}
+use Rattle.rule_sheet.specs.declared.Verdict.the-variants.{Accepted}
+use Rattle.rule_sheet.specs.Sheet.{sheetOf, lentVerdict, sheetVerdict}
 use Rattle.regularize.proofs.Rule.{rule-lent, rule-sheet, rule-cleans, cleanable, points-fit, sheet-fits}
 use Rattle.regularize.proofs.clean_or_refusal.Statement.{statement}
 use Rattle.regularize.proofs.clean_or_refusal.Tie as tie

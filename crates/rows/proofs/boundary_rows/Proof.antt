@@ -1,7 +1,7 @@
 -- `rows::boundary_rows` meets its contract. Assumes nothing.
 use borrow.Author.Needs.{needs}
 use mathlib.Core.Path.{_∙_}
-use Rattle.results.proofs.Results.{shown-room, leaves-of}
+use Rattle.sheet.proofs.Results.{shown-room, leaves-of}
 use Rattle.rows.proofs.boundary_rows.Statement.{statement}
 use Rattle.rows.proofs.boundary_rows.Tie as tie
 

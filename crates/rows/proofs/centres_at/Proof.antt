@@ -4,8 +4,8 @@ use borrow.Author.Needs.{needs}
 use mathlib.Core.Path.{ap}
 use Prim.Native.Nat.{ℕ, _-_}
 use lib.Dec.{eqb}
-use Rattle.smoothed.specs.Steps.{cornerCentre}
-use Rattle.smoothed.proofs.Sums.{below-at}
+use Rattle.subdivide_points.specs.Steps.{cornerCentre}
+use Rattle.subdivide_points.proofs.Sums.{below-at}
 use Rattle.rows.proofs.Copies.{CentreLoop, centres-start, centres-few, centres-turn, centres-end}
 use Rattle.rows.proofs.centres_at.Statement.{statement}
 use Rattle.rows.proofs.centres_at.Tie as tie

@@ -4,7 +4,7 @@ use mathlib.Core.Path.{refl}
 use Prim.Native.Nat.{_-_}
 use lib.ListN.{getD}
 use Rattle.lists.proofs.Laws.{Filled, filled-start, filled-turn, tab-take}
-use Rattle.results.proofs.Fronts.{front-filled}
+use Rattle.sheet.proofs.Fronts.{front-filled}
 use Rattle.rows.proofs.copy_labels.Statement.{statement}
 use Rattle.rows.proofs.copy_labels.Tie as tie
 

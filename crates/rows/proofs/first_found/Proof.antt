@@ -2,7 +2,7 @@
 use native.Mathlib.Omega.{arith}
 use borrow.Author.Needs.{needs}
 use mathlib.Core.Path.{_≡_, refl, sym, _∙_}
-use Rattle.rows.specs.Rows.{tryFrom}
+use Rattle.rule_rows.specs.Rows.{tryFrom}
 use Rattle.rows.proofs.Copies.{try-none, try-found, try-again}
 use Rattle.rows.proofs.first_found.Statement.{statement}
 use Rattle.rows.proofs.first_found.Tie as tie

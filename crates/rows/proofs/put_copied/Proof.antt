@@ -4,7 +4,7 @@ use borrow.Author.Needs.{needs}
 use Prim.Native.Nat.{_-_, _*_}
 use Rattle.lists.specs.Regions.{part}
 use Rattle.lists.proofs.Laws.{Filled, filled-start, filled-turn}
-use Rattle.results.proofs.Fronts.{front-filled}
+use Rattle.sheet.proofs.Fronts.{front-filled}
 use Rattle.rows.specs.Steps.{cornerIn, masksAt}
 use Rattle.rows.proofs.put_copied.Statement.{statement}
 use Rattle.rows.proofs.put_copied.Tie as tie

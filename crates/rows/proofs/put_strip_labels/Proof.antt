@@ -5,7 +5,7 @@ use mathlib.Core.Path.{ap}
 use Prim.Native.Nat.{ℕ, _-_, _/_}
 use lib.ListN.{getD}
 use Rattle.lists.proofs.Laws.{Filled, filled-start, filled-turn}
-use Rattle.results.proofs.Fronts.{front-filled}
+use Rattle.sheet.proofs.Fronts.{front-filled}
 use Rattle.rows.specs.Steps.{seamsOf, cornerLabel}
 use Rattle.rows.proofs.Strips.{seam-read, seam-low, map-own}
 use Rattle.rows.proofs.put_strip_labels.Statement.{statement}

@@ -5,8 +5,9 @@ use Prim.Native.Nat.{_+_, _*_, _≤_}
 use mathlib.Core.Path.{_≡_, refl, sym, _∙_}
 use lib.ListN.{length}
 use Rattle.lists.proofs.Regions.{length-lent}
-use Rattle.sheet.specs.declared.Verdict.the-variants.{Accepted}
-use Rattle.sheet.specs.Sheet.{lentVerdict, LentSheet}
+use Rattle.rule_sheet.specs.declared.Verdict.the-variants.{Accepted}
+use Rattle.rule_sheet.specs.Sheet.{lentVerdict}
+use Rattle.sheet.specs.Sheet.{LentSheet}
 use Rattle.rows.proofs.Rule.{rule-lent, rule-sheet, rule-work, rule-refused, rule-done, rule-tested}
 use Rattle.sheet.proofs.Tests.{masks-told}
 use Rattle.rows.specs.Steps.{masksAt}

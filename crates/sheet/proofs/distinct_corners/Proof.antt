@@ -1,5 +1,5 @@
 -- `sheet::distinct_corners` meets its contract. Assumes nothing.
-use Rattle.sheet.specs.Tests.{distinct}
+use Rattle.rule_sheet.specs.Tests.{distinct}
 use borrow.Author.Needs.{needs}
 use Rattle.sheet.proofs.distinct_corners.Statement.{statement}
 use Rattle.sheet.proofs.distinct_corners.Tie as tie

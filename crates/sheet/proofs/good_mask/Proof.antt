@@ -1,5 +1,5 @@
 -- `sheet::good_mask` meets its contract. Assumes nothing.
-use Rattle.sheet.specs.Tests.{goodMask}
+use Rattle.rule_sheet.specs.Tests.{goodMask}
 use borrow.Author.Needs.{needs}
 use Rattle.sheet.proofs.good_mask.Statement.{statement}
 use Rattle.sheet.proofs.good_mask.Tie as tie

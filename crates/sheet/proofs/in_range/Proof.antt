@@ -1,5 +1,5 @@
 -- `sheet::in_range` meets its contract. Assumes nothing.
-use Rattle.sheet.specs.Tests.{inRange}
+use Rattle.rule_sheet.specs.Tests.{inRange}
 use borrow.Author.Needs.{needs}
 use Rattle.sheet.proofs.in_range.Statement.{statement}
 use Rattle.sheet.proofs.in_range.Tie as tie

@@ -3,8 +3,9 @@ use borrow.Author.Needs.{needs}
 use mathlib.Core.Path.{_≡_, sym, _∙_}
 use lib.ListN.{length, take}
 use Rattle.lists.specs.Sort.{tabulate}
-use Rattle.sheet.specs.Flat.{quadsOf, maskIn}
-use Rattle.sheet.specs.Tests.{goodCorners}
+use Rattle.rule_sheet.specs.Flat.{quadsOf}
+use Rattle.sheet.specs.Flat.{maskIn}
+use Rattle.rule_sheet.specs.Tests.{goodCorners}
 use Rattle.sheet.specs.Sheet.{masksOf}
 use Rattle.sheet.proofs.Tests.{corners-tested, masks-tested, verdict-corner, verdict-clash, verdict-accepted}
 use Rattle.sheet.proofs.quads_tested.Statement.{statement}

@@ -1,7 +1,7 @@
 -- `subdivide::subdivide` meets its contract. Assumes nothing.
 use borrow.Author.Needs.{needs}
 use mathlib.Core.Path.{_∙_}
-use Rattle.results.proofs.Results.{shown-room, leaves-of}
+use Rattle.sheet.proofs.Results.{shown-room, leaves-of}
 use Rattle.subdivide.proofs.subdivide.Statement.{statement}
 use Rattle.subdivide.proofs.subdivide.Tie as tie
 

@@ -5,11 +5,12 @@ use Prim.Native.Nat.{_+_, _*_, _≤_}
 use mathlib.Core.Path.{_≡_, refl, sym, _∙_}
 use lib.ListN.{length}
 use Rattle.lists.proofs.Regions.{length-lent}
-use Rattle.sheet.specs.declared.Verdict.the-variants.{Accepted}
-use Rattle.sheet.specs.Sheet.{lentVerdict, LentSheet}
+use Rattle.rule_sheet.specs.declared.Verdict.the-variants.{Accepted}
+use Rattle.rule_sheet.specs.Sheet.{lentVerdict}
+use Rattle.sheet.specs.Sheet.{LentSheet}
 use Rattle.subdivide.proofs.Rule.{rule-lent, rule-sheet, rule-work, rule-refused, rule-done, rule-tested}
 use Rattle.sheet.proofs.Tests.{masks-told}
-use Rattle.smoothed.specs.Steps.{masksAt}
+use Rattle.subdivide_points.specs.Steps.{masksAt}
 use Rattle.subdivide.proofs.subdivide_or_refusal.Statement.{statement}
 use Rattle.subdivide.proofs.subdivide_or_refusal.Tie as tie
 

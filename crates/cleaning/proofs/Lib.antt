@@ -1,2 +1,0 @@
--- `Cleanings` has the laws of the definitions of the same name.
-pub mod Cleanings

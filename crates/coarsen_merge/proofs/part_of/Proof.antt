@@ -1,0 +1,12 @@
+-- `coarsen_merge::part_of` meets its contract. Assumes nothing.
+use borrow.Author.Needs.{needs}
+use Rattle.coarsen_merge.specs.Tests.{partOf}
+use Rattle.coarsen_merge.proofs.part_of.Statement.{statement}
+use Rattle.coarsen_merge.proofs.part_of.Tie as tie
+
+returns : tie.Need-returns
+unfolding partOf
+returns c = search needs
+
+pub part-of-spec : {M : Type 1} → statement M
+part-of-spec = tie.close (tie.spec returns)

@@ -1,0 +1,89 @@
+-- The tests of a tried diagonal as the code makes them: masks as numbers, and loops over the corners of a point.
+use Prim.Native.Nat.{ℕ, _+_, _-_, _*_, _/_, _%_, _≤_, _<_}
+use mathlib.Core.Bool.{Bool, not, _&&_, _||_}
+use mathlib.Core.List.{List}
+use lib.Dec.{eqb, leb}
+use lib.ListN.{length, getD}
+use Rattle.lists.specs.Every.{every}
+use Rattle.rule_sheet.specs.Flat.{corner, quadAt, quadsOf}
+use Rattle.sheet.specs.Flat.{to, before}
+use Rattle.sheet.specs.Edges.{pointCorners}
+use Rattle.rule_sheet.specs.Quads.{Quad, isEdge}
+use Rattle.rule_sheet.specs.Squared.{sq}
+use Rattle.rule_coarsen.specs.Coarse.{hasCorner}
+use Rattle.incidence.specs.Corners.{Cornered}
+
+-- ---- masks
+
+-- the masks a and c together have no opposite pair: no bit of one pair, or none of the other
+unfoldable pub noOpposite : ℕ → ℕ → Bool
+noOpposite a c =
+    (eqb (a % 2 + c % 2) 0 || eqb (a / 2 % 2 + c / 2 % 2) 0) && (eqb (a / 4 % 2 + c / 4 % 2) 0 || eqb (a / 8 % 2 + c / 8 % 2) 0)
+    && (eqb (a / 16 % 2 + c / 16 % 2) 0 || eqb (a / 32 % 2 + c / 32 % 2) 0) && (eqb (a / 64 % 2 + c / 64 % 2) 0 || eqb (a / 128 % 2 + c / 128 % 2) 0)
+
+-- every bit of the mask a is one of c
+unfoldable pub partOf : ℕ → ℕ → Bool
+partOf a c =
+    leb (a % 2) (c % 2) && leb (a / 2 % 2) (c / 2 % 2) && leb (a / 4 % 2) (c / 4 % 2) && leb (a / 8 % 2) (c / 8 % 2)
+    && leb (a / 16 % 2) (c / 16 % 2) && leb (a / 32 % 2) (c / 32 % 2) && leb (a / 64 % 2) (c / 64 % 2) && leb (a / 128 % 2) (c / 128 % 2)
+
+-- "The joined mask has no opposite pair and equals one of the two."
+unfoldable pub masksJoined : ℕ → ℕ → Bool
+masksJoined a c = noOpposite a c && (partOf c a || partOf a c)
+
+-- ---- gain
+
+-- the sum over four corners before a merge, by how many quads each has
+unfoldable pub sumOfFour : ℕ → ℕ → ℕ → ℕ → ℕ
+sumOfFour a b c d = sq a + (sq b + (sq c + sq d))
+
+-- and after it
+unfoldable pub sumOfThree : ℕ → ℕ → ℕ → ℕ → ℕ
+sumOfThree a b c d = sq (a + c - 2) + (sq (b - 1) + sq (d - 1))
+
+-- ---- corners
+
+-- m is no mark
+abbrev pub unmarked : List ℕ → ℕ → Bool
+unmarked U v = eqb (getD U v 0) 0
+
+-- no corner of quad q is marked
+unfoldable pub quadFree : List ℕ → List ℕ → ℕ → Bool
+quadFree Q U q = unmarked U (corner Q q 0) && unmarked U (corner Q q 1) && unmarked U (corner Q q 2) && unmarked U (corner Q q 3)
+
+-- no corner of the quad of corner t of a list is marked
+abbrev pub freeAt : List ℕ → List ℕ → List ℕ → ℕ → Bool
+freeAt cs Q U t = quadFree Q U (getD cs t 0 / 4)
+
+-- the quad of corner t of a list is f, or has not the corner v
+abbrev pub notFurther : List ℕ → List ℕ → ℕ → ℕ → ℕ → Bool
+notFurther cs Q f v t = eqb (getD cs t 0 / 4) f || not (hasCorner (quadAt Q (getD cs t 0 / 4)) v)
+
+-- the neighbour x is one of the other two corners, or no neighbour of v
+abbrev pub apartFrom : List Quad → ℕ → ℕ → ℕ → ℕ → Bool
+apartFrom S b d v x = eqb x b || eqb x d || not (isEdge S v x)
+
+-- both neighbours at corner c are
+abbrev pub sharesAt : List ℕ → List Quad → ℕ → ℕ → ℕ → ℕ → Bool
+sharesAt Q S b d v c = apartFrom S b d v (before Q c) && apartFrom S b d v (to Q c)
+
+-- both neighbours at corner t of a list are
+abbrev pub sharesNone : List ℕ → List ℕ → List Quad → ℕ → ℕ → ℕ → ℕ → Bool
+sharesNone cs Q S b d v t = sharesAt Q S b d v (getD cs t 0)
+
+-- no quad at v has a marked corner
+unfoldable pub freeAround : List ℕ → List ℕ → ℕ → ℕ → Bool
+freeAround Q U n v = every (freeAt (pointCorners Q n v) Q U) (length (pointCorners Q n v))
+
+-- no quad at v has the corner u, but quad f
+unfoldable pub noneFurther : List ℕ → ℕ → ℕ → ℕ → ℕ → Bool
+noneFurther Q n f v u = every (notFurther (pointCorners Q n v) Q f u) (length (pointCorners Q n v))
+
+-- v and u share only the neighbours b and d
+unfoldable pub sharedOnly : List ℕ → ℕ → ℕ → ℕ → ℕ → ℕ → Bool
+sharedOnly Q n v b u d = every (sharesNone (pointCorners Q n v) Q (quadsOf n Q) b d u) (length (pointCorners Q n v))
+
+-- a list of corners of nq quads
+pub record Listed (np nq : ℕ) (cs Q : List ℕ) : Type 0 where
+  pub sheet : Cornered np nq Q
+  pub known : (t : ℕ) → t < length cs → getD cs t 0 < 4 * nq

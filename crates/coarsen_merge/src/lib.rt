@@ -1,0 +1,499 @@
+// The merge of two opposite corners of a quad: the tests of a tried diagonal, and what the merge changes.
+
+use points::Point;
+ghost use mathlib.Core.Path.{_≡_};
+ghost use Prim.Native.Nat.{ℕ, _+_, _*_, _/_, _<_, _≤_};
+ghost use lib.ListN.{length, set};
+ghost use Rattle.lists.specs.Every.{every};
+ghost use Rattle.lists.specs.Sort.{tabulate};
+ghost use Rattle.lists.specs.Regions.{part, Part, Out, Kept};
+ghost use Rattle.points.specs.Points.{withPoint};
+ghost use Rattle.rule_sheet.specs.Quads.{valence};
+ghost use Rattle.rule_sheet.specs.Flat.{corner, quadAt};
+ghost use Rattle.rule_sheet.specs.Squared.{sq};
+ghost use Rattle.rule_coarsen.specs.Coarse.{hasCorner};
+ghost use Rattle.incidence.specs.Corners.{Cornered};
+ghost use Rattle.coarsen_merge.specs.Tests.{noOpposite, partOf, masksJoined, sumOfFour, sumOfThree, unmarked, quadFree, notFurther, apartFrom, sharesAt, sharesNone, freeAround, noneFurther, sharedOnly, Listed};
+ghost use Rattle.coarsen_merge.specs.Layout.{touchedAt, flatStart, startOf, usedIn, touchedIn, Grounds, Touched, Spanned, Face, meetOnly, gainOf, worthIt, allowedIn};
+ghost use Rattle.coarsen_merge.specs.Marks.{markedBy, markedIn, markedNear, renamedAt, Marking, Nameable, renamedQuads, Merging, Barred, Joined};
+
+// Regions of the work slice in a pass, in units of points and quads together, behind the masks: the quads at the pass's start, work of the sorts,
+// where the corners by edge begin and the corners, the same by point, how many quads each point has, the barred points, the quads that are out,
+// the touched points, those at which a quad has a barred corner, and where the last walk round each point ended. The unit before the touched points
+// is the renumbering's.
+pub const WAS: usize = 1;
+
+pub const FIRST: usize = 5;
+
+pub const EDGE_STARTS: usize = 9;
+
+pub const EDGES: usize = 11;
+
+pub const STARTS: usize = 15;
+
+pub const ORDER: usize = 17;
+
+pub const VALENCES: usize = 21;
+
+pub const USED: usize = 22;
+
+pub const REMOVED: usize = 23;
+
+pub const TOUCHED: usize = 25;
+
+pub const ENDED: usize = 26;
+
+// A part of the work slice, from one place to another.
+pub struct Span {
+    pub from: usize,
+    pub to: usize,
+}
+
+// The sums over the corners of a quad before a merge and after it.
+pub struct Sums {
+    pub before: usize,
+    pub after: usize,
+}
+
+// ---- masks
+
+// Two masks together have no opposite pair.
+fn no_opposite(a: u32, c: u32) -> bool
+    ensures { λ r. ⌜ r ≡ noOpposite a c ⌝ }
+{
+    ((a % 2 + c % 2 == 0) | (a / 2 % 2 + c / 2 % 2 == 0))
+        & ((a / 4 % 2 + c / 4 % 2 == 0) | (a / 8 % 2 + c / 8 % 2 == 0))
+        & ((a / 16 % 2 + c / 16 % 2 == 0) | (a / 32 % 2 + c / 32 % 2 == 0))
+        & ((a / 64 % 2 + c / 64 % 2 == 0) | (a / 128 % 2 + c / 128 % 2 == 0))
+}
+
+// Every bit of one mask is one of the other.
+fn part_of(a: u32, c: u32) -> bool
+    ensures { λ r. ⌜ r ≡ partOf a c ⌝ }
+{
+    (a % 2 <= c % 2)
+        & (a / 2 % 2 <= c / 2 % 2)
+        & (a / 4 % 2 <= c / 4 % 2)
+        & (a / 8 % 2 <= c / 8 % 2)
+        & (a / 16 % 2 <= c / 16 % 2)
+        & (a / 32 % 2 <= c / 32 % 2)
+        & (a / 64 % 2 <= c / 64 % 2)
+        & (a / 128 % 2 <= c / 128 % 2)
+}
+
+// Two masks together have no opposite pair and are one of the two.
+pub fn masks_join(a: u32, c: u32) -> bool
+    ensures { λ r. ⌜ r ≡ masksJoined a c ⌝ }
+{
+    no_opposite(a, c) & (part_of(c, a) | part_of(a, c))
+}
+
+// ---- gain
+
+// How far a number of quads is from 4, squared.
+fn square(k: usize) -> usize
+    requires { ⌜ k ≤ 16777216 ⌝ }
+    ensures { λ r. ⌜ r ≡ sq k ⌝ }
+{
+    if k < 4 {
+        return (4 - k) * (4 - k);
+    }
+    (k - 4) * (k - 4)
+}
+
+// The sum over the four corners of a quad, by how many quads each has.
+pub fn sum_before(a: usize, b: usize, c: usize, d: usize) -> usize
+    requires { ⌜ a + b + c + d ≤ 16777216 ⌝ }
+    ensures { λ r. ⌜ r ≡ sumOfFour a b c d ⌝ }
+{
+    square(a) + (square(b) + (square(c) + square(d)))
+}
+
+// The sum over the merged point and the other two corners.
+pub fn sum_after(a: usize, b: usize, c: usize, d: usize) -> usize
+    requires { ⌜ a + b + c + d ≤ 16777216 ⌝ }
+    requires { ⌜ 2 ≤ a + c ⌝ }
+    requires { ⌜ 1 ≤ b ⌝ }
+    requires { ⌜ 1 ≤ d ⌝ }
+    ensures { λ r. ⌜ r ≡ sumOfThree a b c d ⌝ }
+{
+    square(a + c - 2) + (square(b - 1) + square(d - 1))
+}
+
+// ---- corners
+
+// Quad q has the corner v.
+fn has_corner(quads: &[u32], q: usize, v: usize) -> bool
+    requires { ⌜ 4 * q + 3 < length (now quads) ⌝ }
+    ensures { λ r. ⌜ r ≡ hasCorner (quadAt (now (quads .entry)) q) v ⌝ }
+{
+    let a = sheet::corner_at(quads, q, 0);
+    let b = sheet::corner_at(quads, q, 1);
+    let c = sheet::corner_at(quads, q, 2);
+    let d = sheet::corner_at(quads, q, 3);
+    (a == v) | (b == v) | (c == v) | (d == v)
+}
+
+// Corner j of quad q is not marked.
+fn corner_free(np: usize, nq: usize, quads: &[u32], used: &[u32], q: usize, j: usize) -> bool
+    requires { ⌜ Cornered np nq (now quads) ⌝ }
+    requires { ⌜ length (now used) ≡ np ⌝ }
+    requires { ⌜ q < nq ⌝ }
+    requires { ⌜ j < 4 ⌝ }
+    ensures { λ r. ⌜ r ≡ unmarked (now (used .entry)) (corner (now (quads .entry)) q j) ⌝ }
+{
+    lists::at(used, sheet::corner_at(quads, q, j)) == 0
+}
+
+// No corner of quad q is marked.
+pub fn quad_free(np: usize, nq: usize, quads: &[u32], used: &[u32], q: usize) -> bool
+    requires { ⌜ Cornered np nq (now quads) ⌝ }
+    requires { ⌜ length (now used) ≡ np ⌝ }
+    requires { ⌜ q < nq ⌝ }
+    ensures { λ r. ⌜ r ≡ quadFree (now (quads .entry)) (now (used .entry)) q ⌝ }
+{
+    corner_free(np, nq, quads, used, q, 0)
+        & corner_free(np, nq, quads, used, q, 1)
+        & corner_free(np, nq, quads, used, q, 2)
+        & corner_free(np, nq, quads, used, q, 3)
+}
+
+// No quad of the corners of a list has the corner v, but quad f.
+fn none_further(np: usize, nq: usize, cs: &[u32], quads: &[u32], f: usize, v: usize) -> bool
+    requires { ⌜ Listed np nq (now cs) (now quads) ⌝ }
+    ensures { λ r. ⌜ r ≡ every (notFurther (now (cs .entry)) (now (quads .entry)) f v) (length (now (cs .entry))) ⌝ }
+{
+    let mut t = 0;
+    while t < cs.len() {
+        let q = lists::at(cs, t) / 4;
+        let has = has_corner(quads, q, v);
+        if (q == f) | !has {
+            t += 1;
+        } else {
+            return false;
+        }
+    }
+    true
+}
+
+// ---- the corners of a point
+
+// Where the corners of point v stand.
+fn corners_of(np: usize, nq: usize, v: usize, w: &[u32]) -> Span
+    requires { ⌜ Grounds np nq (now w) ⌝ }
+    requires { ⌜ v < np ⌝ }
+    ensures { λ r. ⌜ Spanned np nq v r (now (w .entry)) ⌝ }
+{
+    let n = np + nq;
+    let from = ORDER * n + lists::at(w, STARTS * n + v);
+    let to = ORDER * n + lists::at(w, STARTS * n + v + 1);
+    Span { from, to }
+}
+
+// No quad at point v has a barred corner.
+fn near_free(np: usize, nq: usize, v: usize, w: &[u32]) -> bool
+    requires { ⌜ Grounds np nq (now w) ⌝ }
+    requires { ⌜ Touched np nq (now w) ⌝ }
+    requires { ⌜ v < np ⌝ }
+    ensures { λ r. ⌜ r ≡ freeAround (flatStart np nq (now (w .entry))) (usedIn np nq (now (w .entry))) nq v ⌝ }
+{
+    lists::at(w, TOUCHED * (np + nq) + v) == 0
+}
+
+// No quad at point v has the corner u, but quad f.
+fn no_further(np: usize, nq: usize, f: usize, v: usize, u: usize, w: &[u32]) -> bool
+    requires { ⌜ Grounds np nq (now w) ⌝ }
+    requires { ⌜ v < np ⌝ }
+    ensures { λ r. ⌜ r ≡ noneFurther (flatStart np nq (now (w .entry))) nq f v u ⌝ }
+{
+    let s = corners_of(np, nq, v, w);
+    let from = s.from;
+    let to = s.to;
+    let was = WAS * (np + nq);
+    none_further(np, nq, &w[from..to], &w[was..was + 4 * nq], f, u)
+}
+
+// The point x is one of two corners, or no neighbour of v.
+fn apart_from(np: usize, nq: usize, b: usize, d: usize, v: usize, x: usize, w: &[u32]) -> bool
+    requires { ⌜ Grounds np nq (now w) ⌝ }
+    requires { ⌜ v < np ⌝ }
+    requires { ⌜ x < np ⌝ }
+    ensures { λ r. ⌜ r ≡ apartFrom (startOf np nq (now (w .entry))) b d v x ⌝ }
+{
+    if x == b {
+        return true;
+    }
+    if x == d {
+        return true;
+    }
+    let n = np + nq;
+    !edges::is_edge(np, nq, WAS * n, EDGE_STARTS * n, EDGES * n, v, x, w)
+}
+
+// Both neighbours at corner c are one of two corners, or no neighbours of v.
+fn shares_none(np: usize, nq: usize, b: usize, d: usize, v: usize, c: usize, w: &[u32]) -> bool
+    requires { ⌜ Grounds np nq (now w) ⌝ }
+    requires { ⌜ v < np ⌝ }
+    requires { ⌜ c < 4 * nq ⌝ }
+    ensures { λ r. ⌜ r ≡ sharesAt (flatStart np nq (now (w .entry))) (startOf np nq (now (w .entry))) b d v c ⌝ }
+{
+    let was = WAS * (np + nq);
+    let x = lists::at(w, was + (c / 4 * 4 + (c + 3) % 4));
+    let y = lists::at(w, was + (c / 4 * 4 + (c + 1) % 4));
+    apart_from(np, nq, b, d, v, x, w) & apart_from(np, nq, b, d, v, y, w)
+}
+
+// The same at every corner of a list.
+fn none_shared(np: usize, nq: usize, cs: &[u32], b: usize, d: usize, v: usize, w: &[u32]) -> bool
+    requires { ⌜ Grounds np nq (now w) ⌝ }
+    requires { ⌜ v < np ⌝ }
+    requires { ⌜ Listed np nq (now cs) (flatStart np nq (now w)) ⌝ }
+    ensures { λ r. ⌜ r ≡ every (sharesNone (now (cs .entry)) (flatStart np nq (now (w .entry))) (startOf np nq (now (w .entry))) b d v) (length (now (cs .entry))) ⌝ }
+{
+    let mut t = 0;
+    while t < cs.len() {
+        if shares_none(np, nq, b, d, v, lists::at(cs, t), w) {
+            t += 1;
+        } else {
+            return false;
+        }
+    }
+    true
+}
+
+// The points v and u share only the two corners b and d as neighbours.
+fn share_only(np: usize, nq: usize, v: usize, b: usize, u: usize, d: usize, w: &[u32]) -> bool
+    requires { ⌜ Grounds np nq (now w) ⌝ }
+    requires { ⌜ v < np ⌝ }
+    requires { ⌜ u < np ⌝ }
+    ensures { λ r. ⌜ r ≡ sharedOnly (flatStart np nq (now (w .entry))) nq v b u d ⌝ }
+{
+    let s = corners_of(np, nq, v, w);
+    let from = s.from;
+    let to = s.to;
+    none_shared(np, nq, &w[from..to], b, d, u, w)
+}
+
+// How many quads point v has.
+fn valence_at(np: usize, nq: usize, v: usize, w: &[u32]) -> usize
+    requires { ⌜ Grounds np nq (now w) ⌝ }
+    requires { ⌜ v < np ⌝ }
+    ensures { λ r. ⌜ r ≡ valence (startOf np nq (now (w .entry))) v ⌝ }
+{
+    lists::at(w, VALENCES * (np + nq) + v)
+}
+
+// The points a and c have no further quad than f in common, and only the two corners b and d as neighbours; the walk is round the point with fewer quads.
+fn meet_only(
+    np: usize,
+    nq: usize,
+    f: usize,
+    a: usize,
+    b: usize,
+    c: usize,
+    d: usize,
+    w: &[u32],
+) -> bool
+    requires { ⌜ Grounds np nq (now w) ⌝ }
+    requires { ⌜ a < np ⌝ }
+    requires { ⌜ c < np ⌝ }
+    ensures { λ r. ⌜ r ≡ meetOnly np nq f a b c d (now (w .entry)) ⌝ }
+{
+    if valence_at(np, nq, c, w) < valence_at(np, nq, a, w) {
+        return share_only(np, nq, c, b, a, d, w) & no_further(np, nq, f, c, a, w);
+    }
+    share_only(np, nq, a, b, c, d, w) & no_further(np, nq, f, a, c, w)
+}
+
+// The sums before and after a merge of the corners a and c of a quad.
+pub fn sums_of(np: usize, nq: usize, a: usize, b: usize, c: usize, d: usize, w: &[u32]) -> Sums
+    requires { ⌜ Grounds np nq (now w) ⌝ }
+    requires { ⌜ Face np nq a b c d (now w) ⌝ }
+    ensures { λ r. ⌜ r ≡ gainOf np nq a b c d (now (w .entry)) ⌝ }
+{
+    let va = valence_at(np, nq, a, w);
+    let vb = valence_at(np, nq, b, w);
+    let vc = valence_at(np, nq, c, w);
+    let vd = valence_at(np, nq, d, w);
+    let before = sum_before(va, vb, vc, vd);
+    let after = sum_after(va, vb, vc, vd);
+    Sums { before, after }
+}
+
+// What the masks and the numbers of quads at the corners a, b, c and d say of a merge of a and c.
+fn worth(np: usize, nq: usize, a: usize, b: usize, c: usize, d: usize, w: &[u32]) -> bool
+    requires { ⌜ Grounds np nq (now w) ⌝ }
+    requires { ⌜ Face np nq a b c d (now w) ⌝ }
+    ensures { λ r. ⌜ r ≡ worthIt np nq a b c d (now (w .entry)) ⌝ }
+{
+    let vb = valence_at(np, nq, b, w);
+    let vd = valence_at(np, nq, d, w);
+    let s = sums_of(np, nq, a, b, c, d, w);
+    masks_join(w[a], w[c]) & (4 <= vb) & (4 <= vd) & (s.after <= s.before)
+}
+
+// Whether the rule allows the merge of the corners a and c of quad f = (a, b, c, d), as far as it does not read the points.
+pub fn allowed(
+    np: usize,
+    nq: usize,
+    f: usize,
+    a: usize,
+    b: usize,
+    c: usize,
+    d: usize,
+    w: &[u32],
+) -> bool
+    requires { ⌜ Grounds np nq (now w) ⌝ }
+    requires { ⌜ Face np nq a b c d (now w) ⌝ }
+    requires { ⌜ Touched np nq (now w) ⌝ }
+    ensures { λ r. ⌜ r ≡ allowedIn np nq f a b c d (now (w .entry)) ⌝ }
+{
+    if worth(np, nq, a, b, c, d, w) {
+        if meet_only(np, nq, f, a, b, c, d, w) {
+            return near_free(np, nq, a, w) & near_free(np, nq, c, w);
+        }
+    }
+    false
+}
+
+// ---- what a merge changes
+
+// Marks, in the np elements at to, the m points at from.
+fn mark_points(from: usize, m: usize, to: usize, np: usize, w: &mut [u32])
+    requires { ⌜ Marking from m to np (part from m (now w)) (now w) ⌝ }
+    ensures { λ _. ⌜ Part to np (tabulate (markedBy (part from m (now (w .entry))) (part to np (now (w .entry))) m) np) (now (w .exit)) ⌝ }
+    ensures { λ _. ⌜ Kept (Out to np) (now (w .entry)) (now (w .exit)) ⌝ }
+{
+    let mut j = 0;
+    while j < m {
+        let v = w[from + j] as usize;
+        w[to + v] = 1;
+        j += 1;
+    }
+}
+
+// Touches the corners of quad q.
+fn touch_quad(np: usize, nq: usize, q: usize, w: &mut [u32])
+    requires { ⌜ Grounds np nq (now w) ⌝ }
+    requires { ⌜ q < nq ⌝ }
+    ensures { λ _. ⌜ Part (touchedAt np nq) np (tabulate (markedIn (flatStart np nq (now (w .entry))) (touchedIn np nq (now (w .entry))) q) np) (now (w .exit)) ⌝ }
+    ensures { λ _. ⌜ Kept (Out (touchedAt np nq) np) (now (w .entry)) (now (w .exit)) ⌝ }
+{
+    let n = np + nq;
+    mark_points(WAS * n + 4 * q, 4, TOUCHED * n, np, w);
+}
+
+// Touches the corners of all quads at point x.
+fn touch_around(np: usize, nq: usize, x: usize, w: &mut [u32])
+    requires { ⌜ Grounds np nq (now w) ⌝ }
+    requires { ⌜ x < np ⌝ }
+    ensures { λ _. ⌜ Part (touchedAt np nq) np (tabulate (markedNear (flatStart np nq (now (w .entry))) (touchedIn np nq (now (w .entry))) nq x) np) (now (w .exit)) ⌝ }
+    ensures { λ _. ⌜ Kept (Out (touchedAt np nq) np) (now (w .entry)) (now (w .exit)) ⌝ }
+{
+    let s = corners_of(np, nq, x, w);
+    let from = s.from;
+    let m = s.to - from;
+    let mut t = 0;
+    while t < m {
+        touch_quad(np, nq, lists::at(w, from + t) / 4, w);
+        t += 1;
+    }
+}
+
+// Bars the point x. The first time, the corners of all quads at it are touched, so a quad is touched at most four times a pass.
+fn bar_point(np: usize, nq: usize, x: usize, w: &mut [u32])
+    requires { ⌜ Grounds np nq (now w) ⌝ }
+    requires { ⌜ Touched np nq (now w) ⌝ }
+    requires { ⌜ x < np ⌝ }
+    ensures { λ _. ⌜ Barred np nq (set (usedIn np nq (now (w .entry))) x 1) (now (w .entry)) (now (w .exit)) ⌝ }
+{
+    let at = USED * (np + nq) + x;
+    let first = w[at] == 0;
+    w[at] = 1;
+    if first {
+        touch_around(np, nq, x, w);
+    }
+}
+
+// Bars the corners of quad q.
+fn bar_quad(np: usize, nq: usize, q: usize, w: &mut [u32])
+    requires { ⌜ Grounds np nq (now w) ⌝ }
+    requires { ⌜ Touched np nq (now w) ⌝ }
+    requires { ⌜ q < nq ⌝ }
+    ensures { λ _. ⌜ Barred np nq (tabulate (markedIn (flatStart np nq (now (w .entry))) (usedIn np nq (now (w .entry))) q) np) (now (w .entry)) (now (w .exit)) ⌝ }
+{
+    let from = WAS * (np + nq) + 4 * q;
+    let mut j = 0;
+    while j < 4 {
+        bar_point(np, nq, lists::at(w, from + j), w);
+        j += 1;
+    }
+}
+
+// Bars the corners of all quads at point v.
+fn bar_around(np: usize, nq: usize, v: usize, w: &mut [u32])
+    requires { ⌜ Grounds np nq (now w) ⌝ }
+    requires { ⌜ Touched np nq (now w) ⌝ }
+    requires { ⌜ v < np ⌝ }
+    ensures { λ _. ⌜ Barred np nq (tabulate (markedNear (flatStart np nq (now (w .entry))) (usedIn np nq (now (w .entry))) nq v) np) (now (w .entry)) (now (w .exit)) ⌝ }
+{
+    let s = corners_of(np, nq, v, w);
+    let from = s.from;
+    let m = s.to - from;
+    let mut t = 0;
+    while t < m {
+        bar_quad(np, nq, lists::at(w, from + t) / 4, w);
+        t += 1;
+    }
+}
+
+// The corners of a list become the point a.
+fn rename_corners(cs: &[u32], a: u32, quads: &mut [u32])
+    requires { ⌜ Nameable (now cs) (length (now quads)) ⌝ }
+    ensures { λ _. ⌜ now (quads .exit) ≡ tabulate (renamedAt (now (cs .entry)) (now (quads .entry)) a (length (now (cs .entry)))) (length (now (quads .entry))) ⌝ }
+{
+    let mut t = 0;
+    while t < cs.len() {
+        quads[cs[t] as usize] = a;
+        t += 1;
+    }
+}
+
+// The corners at c become the point a.
+fn rename(np: usize, nq: usize, c: usize, a: usize, quads: &mut [u32], w: &[u32])
+    requires { ⌜ Grounds np nq (now w) ⌝ }
+    requires { ⌜ c < np ⌝ }
+    requires { ⌜ a < np ⌝ }
+    requires { ⌜ 4 * nq ≤ length (now quads) ⌝ }
+    ensures { λ _. ⌜ now (quads .exit) ≡ renamedQuads (flatStart np nq (now (w .entry))) nq c a (now (quads .entry)) ⌝ }
+{
+    let s = corners_of(np, nq, c, w);
+    let from = s.from;
+    let to = s.to;
+    rename_corners(&w[from..to], a as u32, quads);
+}
+
+// The merge of the corners a and c of quad f at the point p.
+pub fn merge(
+    np: usize,
+    nq: usize,
+    f: usize,
+    a: usize,
+    c: usize,
+    p: Point,
+    points: &mut [f64],
+    quads: &mut [u32],
+    w: &mut [u32],
+)
+    requires { ⌜ Grounds np nq (now w) ⌝ }
+    requires { ⌜ Merging np nq f a c (length (now points)) (length (now quads)) ⌝ }
+    requires { ⌜ Touched np nq (now w) ⌝ }
+    ensures { λ _. ⌜ now (points .exit) ≡ withPoint (now (points .entry)) a p ⌝ }
+    ensures { λ _. ⌜ Joined np nq f a c (now (quads .entry)) (now (w .entry)) (now (quads .exit)) (now (w .exit)) ⌝ }
+{
+    points::put_point(points, a, p);
+    rename(np, nq, c, a, quads, w);
+    bar_around(np, nq, a, w);
+    bar_around(np, nq, c, w);
+    w[REMOVED * (np + nq) + f] = 1;
+}

@@ -1,2 +1,0 @@
--- `Coarsenings` has the laws of the definitions of the same name.
-pub mod Coarsenings

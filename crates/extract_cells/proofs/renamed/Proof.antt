@@ -1,0 +1,13 @@
+-- `extract_cells::renamed` meets its contract. Assumes nothing.
+use borrow.Author.Tests.{eq-eqb, ne-eqb}
+use Rattle.extract_cells.proofs.renamed.Statement.{statement}
+use Rattle.extract_cells.proofs.renamed.Tie as tie
+
+returns : tie.Need-returns
+returns c = simp (eq-eqb _ _ (c .if1 .taken))
+
+returns-2 : tie.Need-returns-2
+returns-2 c = simp (ne-eqb _ _ (c .if1 .left))
+
+pub renamed-spec : {M : Type 1} → statement M
+renamed-spec = tie.close (tie.spec returns returns-2)

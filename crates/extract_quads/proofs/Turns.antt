@@ -1,0 +1,196 @@
+-- The turns of the loops over the inner edges: their quads are counted, and put one behind the other. Assumes nothing.
+use Prim.Native.Nat.{ℕ, zero, suc, _+_, _-_, _*_, _≤_, _<_}
+use mathlib.Core.Path.{_≡_, refl, sym, ap, _∙_}
+use mathlib.Core.Bool.{Bool, true, false, not, Bool·beq}
+use mathlib.Core.List.{List, [], _∷_, _++_, append-nil}
+use native.Mathlib.Omega.{arith}
+use native.Mathlib.Numerals.{add-one}
+use native.Mathlib.Nat.{mul-le-mul-right}
+use lib.ListN.{length, set, length-set, length-append}
+use Rattle.lists.specs.Sort.{consIf}
+use Rattle.rule_sheet.specs.Edges.{joinTo}
+use Rattle.rule_sheet.specs.Flat.{flatQuads}
+use Rattle.sheet.specs.Flat.{withQuad}
+use Rattle.sheet.specs.Results.{Front}
+use Rattle.sheet.proofs.Fronts.{front-none, front-next, front-quad, length-with-quad}
+use Rattle.rule_extract.specs.declared.Grid.{Grid}
+use Rattle.rule_extract.specs.Crossings.{nextSite, crossedLabel}
+use Rattle.rule_extract.specs.Lattice.{insideAt}
+use Rattle.rule_extract.specs.Paths.{crossedAt}
+use Rattle.rule_extract.specs.Drawing.{innerCount, innerAt, innerSite, innerQuad, innerCrosses, quadIf, labelIf}
+use Rattle.extract_points.proofs.Putting.{join-below}
+use Rattle.extract_quads.specs.declared.Row.{Row}
+use Rattle.extract_quads.specs.Faces.{edgeIn, rowCount, edgeNumber, RowAt, Counted, Drawn}
+
+-- ---- one edge
+
+-- an edge crosses where the signs at its ends differ
+pub edge-crosses : (g : Grid) {n r : ℕ} {row : Row} {a b : Bool} (j : ℕ) (s : Bool) → RowAt n r row → j < n - 1 → a ≡ insideAt g (innerSite (edgeIn row j)) → b ≡ insideAt g (nextSite (innerSite (edgeIn row j)) (row .axis))
+    → Bool·beq a b ≡ s → (crossedAt g (innerSite (edgeIn row j)) (row .axis) ≡ not s) × (innerCrosses g n (edgeNumber n r j) ≡ not s)
+unfolding crossedAt
+edge-crosses g {n} {r} {row} {a} {b} j s R h e f q =
+    let x : not (Bool·beq (insideAt g (innerSite (edgeIn row j))) (insideAt g (nextSite (innerSite (edgeIn row j)) (row .axis)))) ≡ not s = rw (← e, ← f, q) refl in
+    (x, rw (R .edges j h) x)
+
+join-suc : {A : Type 0} (f : ℕ → List A) (t : ℕ) → joinTo f (t + 1) ≡ joinTo f t ++ f t
+unfolding joinTo
+join-suc f t = rw (add-one t)
+
+module _ (g : Grid) (n t : ℕ) where
+  quads-same : innerCrosses g n t ≡ false → joinTo (quadIf g n) (t + 1) ≡ joinTo (quadIf g n) t
+  quads-same x = join-suc (quadIf g n) t ∙ (rw x (append-nil (joinTo (quadIf g n) t)))
+
+  quads-more : innerCrosses g n t ≡ true → joinTo (quadIf g n) (t + 1) ≡ joinTo (quadIf g n) t ++ (innerQuad g n (innerAt n t) ∷ [])
+  quads-more x = join-suc (quadIf g n) t ∙ (rw x refl)
+
+  labels-same : innerCrosses g n t ≡ false → joinTo (labelIf g n) (t + 1) ≡ joinTo (labelIf g n) t
+  labels-same x = join-suc (labelIf g n) t ∙ (rw x (append-nil (joinTo (labelIf g n) t)))
+
+  labels-more : innerCrosses g n t ≡ true → joinTo (labelIf g n) (t + 1) ≡ joinTo (labelIf g n) t ++ (crossedLabel g (innerSite (innerAt n t)) (innerAt n t .axis) ∷ [])
+  labels-more x = join-suc (labelIf g n) t ∙ (rw x refl)
+
+-- there are as many labels as quads
+pub labels-many : (g : Grid) (n t : ℕ) → length (joinTo (labelIf g n) t) ≡ length (joinTo (quadIf g n) t)
+unfolding joinTo
+labels-many g n zero = refl
+labels-many g n (suc t) =
+    length-append (joinTo (labelIf g n) t) (labelIf g n t) ∙ rw (labels-many g n t, one (innerCrosses g n t)) (sym (length-append (joinTo (quadIf g n) t) (quadIf g n t)))
+  where
+    one : (b : Bool) → length (consIf b (crossedLabel g (innerSite (innerAt n t)) (innerAt n t .axis)) []) ≡ length (consIf b (innerQuad g n (innerAt n t)) [])
+    one true = refl
+    one false = refl
+
+-- ---- counts
+
+-- no edge is before the first one of the first row
+none : (n : ℕ) → edgeNumber n 0 0 ≡ 0
+none n = omega arith
+
+pub counted-start : (g : Grid) (n : ℕ) → Counted g n (edgeNumber n 0 0) 0
+unfolding joinTo
+counted-start g n = rw (none n) (record { is = refl; count≤ = omega arith })
+
+pub counted-same : {g : Grid} {n t count : ℕ} → Counted g n t count → innerCrosses g n t ≡ false → Counted g n (t + 1) count
+counted-same {g} {n} {t} C x = record { is = C .is ∙ ap length (sym (quads-same g n t x)); count≤ = omega (arith, C .count≤) }
+
+pub counted-more : {g : Grid} {n t count : ℕ} → Counted g n t count → innerCrosses g n t ≡ true → Counted g n (t + 1) (count + 1)
+counted-more {g} {n} {t} C x = record {
+  is = let q = ap length (quads-more g n t x) ∙ length-append (joinTo (quadIf g n) t) _ in omega (arith, C .is);
+  count≤ = omega (arith, C .count≤);
+}
+
+-- ---- numbers of edges
+
+-- an edge of a row is one of all
+pub edge-lt : (n r j : ℕ) → r < rowCount n → j < n - 1 → edgeNumber n r j < innerCount n
+edge-lt n r j h l =
+    let b : suc r * (n - 1) ≤ 3 * (n * (n - 1)) * (n - 1) = mul-le-mul-right (n - 1) h in
+    omega arith
+
+pub edges-few : (n : ℕ) → n ≤ 130 → innerCount n ≤ 6489990
+edges-few n h =
+    let a : (n - 1) * (n - 1) ≤ 129 * (n - 1) = mul-le-mul-right (n - 1) (omega arith) in
+    let b : n * ((n - 1) * (n - 1)) ≤ 130 * ((n - 1) * (n - 1)) = mul-le-mul-right ((n - 1) * (n - 1)) h in
+    omega arith
+
+-- ---- quads and labels
+
+pub drawn-start : {g : Grid} {n : ℕ} {Q labels : List ℕ} → 4 * length (joinTo (quadIf g n) (innerCount n)) ≤ length Q → length (joinTo (labelIf g n) (innerCount n)) ≤ length labels → Drawn g n (edgeNumber n 0 0) 0 Q labels
+unfolding joinTo flatQuads
+drawn-start {g} {n} {Q} {labels} h l = record { counted = counted-start g n; quads = rw (none n) (front-none Q); labelled = rw (none n) (front-none labels); quads≤ = h; labels≤ = l }
+
+pub drawn-same : {g : Grid} {n t count : ℕ} {Q labels : List ℕ} → Drawn g n t count Q labels → innerCrosses g n t ≡ false → Drawn g n (t + 1) count Q labels
+drawn-same {g} {n} {t} D x = record {
+  counted = counted-same (D .counted) x;
+  quads = rw (quads-same g n t x) (D .quads);
+  labelled = rw (labels-same g n t x) (D .labelled);
+  quads≤ = D .quads≤;
+  labels≤ = D .labels≤;
+}
+
+-- one quad more fits
+pub record Fits (count : ℕ) (Q labels : List ℕ) : Type 0 where
+  pub quads : 4 * count + 4 ≤ length Q
+  pub labels< : count < length labels
+
+pub drawn-fits : {g : Grid} {n r count : ℕ} {row : Row} {Q labels : List ℕ} (j : ℕ) → Drawn g n (edgeNumber n r j) count Q labels → RowAt n r row → j < n - 1 → innerCrosses g n (edgeNumber n r j) ≡ true
+    → Fits count Q labels
+drawn-fits {g} {n} {r} j D R h x =
+    let q : length (quadIf g n (edgeNumber n r j)) ≡ 1 = rw x refl in
+    let b = join-below (quadIf g n) (edgeNumber n r j) (innerCount n) (edge-lt n r j (R .r<) h) in
+    let m = labels-many g n (innerCount n) in
+    record { quads = omega (arith, D .counted .is, D .quads≤); labels< = omega (arith, D .counted .is, D .labels≤) }
+
+pub drawn-more : {g : Grid} {n r count : ℕ} {row : Row} {Q labels Q′ labels′ : List ℕ} (j : ℕ) → Drawn g n (edgeNumber n r j) count Q labels → RowAt n r row → j < n - 1
+    → innerCrosses g n (edgeNumber n r j) ≡ true
+    → (Q′ ≡ withQuad Q count (innerQuad g n (edgeIn row j))) × (labels′ ≡ set labels count (crossedLabel g (innerSite (edgeIn row j)) (row .axis)))
+    → Drawn g n (edgeNumber n r j + 1) (count + 1) Q′ labels′
+drawn-more {g} {n} {r} {count} {row} {Q} {labels} j D R h x E =
+    let t = edgeNumber n r j in
+    let i = edgeIn row j in
+    let F = drawn-fits j D R h x in
+    let q : joinTo (quadIf g n) (t + 1) ≡ joinTo (quadIf g n) t ++ (innerQuad g n i ∷ []) = rw (R .edges j h) at (quads-more g n t x) in
+    let l : joinTo (labelIf g n) (t + 1) ≡ joinTo (labelIf g n) t ++ (crossedLabel g (innerSite i) (row .axis) ∷ []) = rw (R .edges j h) at (labels-more g n t x) in
+    record {
+      counted = counted-more (D .counted) x;
+      quads = rw (E .0, q) (front-quad (joinTo (quadIf g n) t) count (innerQuad g n i) (D .quads) (D .counted .is) (F .quads));
+      labelled = rw (E .1, l) (front-next count (crossedLabel g (innerSite i) (row .axis)) (D .labelled) (D .counted .is ∙ sym (labels-many g n t)) (F .labels<));
+      quads≤ = rw (E .0, length-with-quad Q count (innerQuad g n i)) (D .quads≤);
+      labels≤ = rw (E .1, length-set labels count (crossedLabel g (innerSite i) (row .axis))) (D .labels≤);
+    }
+
+-- ---- rows
+
+-- the row after begins behind the last edge
+row-after : (n r j : ℕ) → j ≡ n - 1 → edgeNumber n r j ≡ edgeNumber n (r + 1) 0
+row-after n r j e = rw e (omega arith)
+
+rows-all : (n r : ℕ) → r ≡ rowCount n → edgeNumber n r 0 ≡ innerCount n
+rows-all n r e = rw e (omega arith)
+
+pub counted-next : {g : Grid} {n count : ℕ} (r j : ℕ) → Counted g n (edgeNumber n r j + 1) count → Counted g n (edgeNumber n r (j + 1)) count
+counted-next {n = n} r j C = let e : edgeNumber n r j + 1 ≡ edgeNumber n r (j + 1) = omega arith in rw e at C
+
+pub counted-row : {g : Grid} {n count : ℕ} (r j : ℕ) → Counted g n (edgeNumber n r j) count → j ≡ n - 1 → Counted g n (edgeNumber n (r + 1) 0) count
+counted-row {n = n} r j C e = rw (row-after n r j e) at C
+
+pub counted-all : {g : Grid} {n count : ℕ} (r : ℕ) → Counted g n (edgeNumber n r 0) count → r ≡ rowCount n → (count ≡ length (joinTo (quadIf g n) (innerCount n))) × (count ≤ innerCount n)
+counted-all {g} {n} {count} r C e = let K : Counted g n (innerCount n) count = rw (rows-all n r e) at C in (K .is, K .count≤)
+
+-- the slices as they came, of the same lengths, and what is drawn
+pub record Drawing (g : Grid) (n t count : ℕ) (u v Q labels : List ℕ) : Type 0 where
+  pub quads-len : length Q ≡ length u
+  pub labels-len : length labels ≡ length v
+  pub drawn : Drawn g n t count Q labels
+
+pub drawing-next : {g : Grid} {n t count r : ℕ} {u v Q labels Q′ labels′ : List ℕ} (s : ℕ) → Drawing g n t count u v Q labels → length Q′ ≡ length Q → length labels′ ≡ length labels → Drawn g n s r Q′ labels′
+    → Drawing g n s r u v Q′ labels′
+drawing-next s D e f K = record { quads-len = e ∙ D .quads-len; labels-len = f ∙ D .labels-len; drawn = K }
+
+pub drawn-next : {g : Grid} {n count : ℕ} {Q labels : List ℕ} (r j : ℕ) → Drawn g n (edgeNumber n r j + 1) count Q labels → Drawn g n (edgeNumber n r (j + 1)) count Q labels
+drawn-next {n = n} r j D = let e : edgeNumber n r j + 1 ≡ edgeNumber n r (j + 1) = omega arith in rw e at D
+
+pub drawn-row : {g : Grid} {n count : ℕ} {Q labels : List ℕ} (r j : ℕ) → Drawn g n (edgeNumber n r j) count Q labels → j ≡ n - 1 → Drawn g n (edgeNumber n (r + 1) 0) count Q labels
+drawn-row {n = n} r j D e = rw (row-after n r j e) at D
+
+pub drawn-all : {g : Grid} {n count : ℕ} {Q labels : List ℕ} (r : ℕ) → Drawn g n (edgeNumber n r 0) count Q labels → r ≡ rowCount n
+    → Front (flatQuads (joinTo (quadIf g n) (innerCount n))) Q × Front (joinTo (labelIf g n) (innerCount n)) labels
+drawn-all {g} {n} {count} {Q} {labels} r D e = let K : Drawn g n (innerCount n) count Q labels = rw (rows-all n r e) at D in (K .quads, K .labelled)
+
+-- the count of the rows, and the numbers on the way to it
+pub rows-are : (n : ℕ) → 3 * (n * n - n) ≡ rowCount n
+rows-are zero = refl
+rows-are (suc n) =
+    let e : n + 1 - 1 ≡ n = omega arith in
+    rw (← add-one n, e) (omega arith)
+
+square-from : (n : ℕ) → n ≤ n * n
+square-from zero = omega arith
+square-from (suc n) = rw (← add-one n) (omega arith)
+
+pub record RowsRoom (n : ℕ) : Type 0 where
+  pub from : n ≤ n * n
+  pub to : n * n ≤ 16900
+
+pub rows-room : (n : ℕ) → n ≤ 130 → RowsRoom n
+rows-room n h = let a : n * n ≤ 130 * n = mul-le-mul-right n h in record { from = square-from n; to = omega arith }

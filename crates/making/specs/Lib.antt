@@ -1,2 +1,0 @@
-pub mod Making
-pub mod Exports

@@ -1,9 +1,0 @@
--- `Joins` has the merges as a relation, `Merge` one merge, `MergePass` a pass of merges, `Renumber` the numbers by first use, `Visits` the rule's own
--- pass, `Points` the points of a pass, `Slots` the quads of a pass in slices.
-pub mod Joins
-pub mod Merge
-pub mod MergePass
-pub mod Renumber
-pub mod Visits
-pub mod Points
-pub mod Slots

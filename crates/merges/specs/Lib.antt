@@ -1,4 +1,0 @@
-pub mod Merges
-pub mod Coarse
-pub mod Slots
-pub mod Invariant

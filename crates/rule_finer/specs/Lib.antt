@@ -1,0 +1,3 @@
+pub mod Finer
+pub mod Smoothed
+pub mod Subdivide

@@ -1,0 +1,1 @@
+// The rules of `refine` and `subdivide`: definitions only, see specs/.

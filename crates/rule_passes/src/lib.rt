@@ -1,0 +1,1 @@
+// What the rules of swaps and of merges share: definitions only, see specs/.

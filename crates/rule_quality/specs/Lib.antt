@@ -1,0 +1,5 @@
+pub mod Census
+pub mod Cells
+pub mod Floats
+pub mod Measure
+pub mod Quality

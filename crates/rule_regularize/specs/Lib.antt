@@ -1,0 +1,3 @@
+pub mod Swaps
+pub mod SwapFits
+pub mod Rule

@@ -1,0 +1,1 @@
+// The rule of `boundary_rows`: definitions only, see specs/.

@@ -1,0 +1,12 @@
+pub mod Quads
+pub mod Flat
+pub mod Edges
+pub mod Tests
+pub mod Numbers
+pub mod Sheet
+pub mod Closed
+pub mod FirstUse
+pub mod Outcomes
+pub mod Results
+pub mod Squared
+pub mod Claims

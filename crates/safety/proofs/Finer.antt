@@ -1,0 +1,66 @@
+-- The sheet that an accepted `subdivide` makes is the finer sheet with finite points, so it keeps what demand 3 claims. Assumes nothing.
+use Prim.Native.Nat.{ℕ, _+_}
+use mathlib.Core.Bool.{true, false}
+use mathlib.Core.Path.{_≡_, sym, ap, _∙_}
+use mathlib.Core.List.{List, [], map}
+use native.Mathlib.Omega.{arith}
+use lib.ListN.{length, length-append, length-map}
+use Rattle.lists.specs.Sort.{tabulate}
+use Rattle.lists.specs.Every.{every}
+use Rattle.lists.proofs.Laws.{length-tab}
+use Rattle.lists.proofs.Every.{every-at, every-on, every-zero}
+use Rattle.points.specs.declared.Point.{Point}
+use Rattle.points.specs.Points.{finiteP}
+use Rattle.band.specs.declared.Band.{Band}
+use Rattle.rule_sheet.specs.Quads.{Quad, all, maskOf}
+use Rattle.rule_sheet.specs.Sheet.{Sheet, isLarge}
+use Rattle.sheet.proofs.Tests.{few-of, all-tab}
+use Rattle.rule_sheet.specs.Results.{countsOf}
+use Rattle.rule_finer.specs.Finer.{asked, finer, fourLabels, finerSheet, pointIn, newPoints, positionOf, made, requests}
+use Rattle.refine.specs.Finer.{finerCount, keyOf}
+use Rattle.refine.proofs.Requests.{asked-made}
+use Rattle.rule_finer.specs.Smoothed.{oldPoint, newPlace, pointOf, smoothSheet}
+use Rattle.rule_finer.specs.Subdivide.{landing, landsAt, projectedSheet}
+use Rattle.projection.specs.Project.{ontoOf}
+use Rattle.projection.proofs.Finite.{onto-finite}
+use Rattle.safety_rules.specs.Clean.{refined}
+use Rattle.safety_rules.proofs.Numbers.{finer-length}
+use Rattle.safety_rules.proofs.Demand.{Good, Keeps, finer-kept}
+
+module _ (b : Band) (s : Sheet) where
+  abbrev n : ℕ
+  n = length (s .points)
+
+  abbrev S : List Quad
+  S = s .quads
+
+  -- where the points of the finer sheet come to
+  abbrev placed : ℕ → Point
+  placed v = ontoOf (landing b (smoothSheet s) v)
+
+  pub smooth-count : length (smoothSheet s .points) ≡ finerCount n S
+  unfolding smoothSheet finerCount
+  smooth-count = length-append (tabulate (oldPoint s) n) (map (newPlace s) (asked n S)) ∙ rw (length-tab (oldPoint s) n, length-map (asked n S) (newPlace s))
+
+  finer-count : length (finerSheet s .points) ≡ finerCount n S
+  unfolding finerSheet newPoints finerCount
+  finer-count =
+      let l = made [] (requests (pointIn (s .points)) n 0 S) in
+      length-append (s .points) (map positionOf l) ∙ ap (λ (k : ℕ). n + k) (length-map l positionOf ∙ sym (length-map l keyOf) ∙ ap length (asked-made (pointIn (s .points)) n S))
+
+  made-is : projectedSheet b (smoothSheet s) ≡ refined s placed
+  unfolding projectedSheet smoothSheet finerSheet
+  made-is = ap {B = Sheet} (λ (k : ℕ). record { points = tabulate placed k; quads = finer n S; labels = fourLabels (s .labels) }) smooth-count
+
+  made-finite : every (landsAt b (smoothSheet s)) (length (smoothSheet s .points)) ≡ true → all finiteP (refined s placed .points) ≡ true
+  unfolding landing
+  made-finite e =
+      all-tab finiteP placed (finerCount n S)
+      ∙ every-on (λ v. finiteP (placed v)) 0 (finerCount n S) (every-zero (λ v. finiteP (placed v))) (omega arith)
+      (λ v z l. onto-finite b (pointOf (smoothSheet s) v) (maskOf (smoothSheet s .quads) (smoothSheet s .labels) v) (every-at (landsAt b (smoothSheet s)) _ v e (omega (arith, smooth-count))))
+
+  pub made-kept : Good s → isLarge (countsOf (finerSheet s)) ≡ false → every (landsAt b (smoothSheet s)) (length (smoothSheet s .points)) ≡ true → Keeps s (projectedSheet b (smoothSheet s)) 0
+  unfolding finerSheet
+  made-kept a e f =
+      let F = few-of (countsOf (finerSheet s)) e in
+      rw made-is (finer-kept s placed (omega (arith, finer-count, F .points≤)) (omega (arith, finer-length n S (a .fine .in-range) (a .fine .differ), F .quads≤)) (made-finite f) a)

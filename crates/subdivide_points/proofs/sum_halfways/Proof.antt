@@ -1,0 +1,69 @@
+-- `subdivide_points::sum_halfways` meets its contract. Assumes nothing.
+use native.Mathlib.Omega.{arith}
+use borrow.Author.Needs.{needs}
+use Prim.Native.Nat.{_-_}
+use Rattle.subdivide_points.specs.Steps.{halfwayTo}
+use Rattle.subdivide_points.proofs.Sums.{below-at, other-low, halfway-is, Sum, sum-start, sum-turn, sum-end}
+use Rattle.subdivide_points.proofs.sum_halfways.Statement.{statement}
+use Rattle.subdivide_points.proofs.sum_halfways.Tie as tie
+
+abbrev Inv-loop : tie.InvT-loop
+Inv-loop p points ends np nq from m w sum₀ j₀ sum j = Sum (halfwayTo p points ends) from m w sum j
+
+abbrev μ-loop : tie.MeasureT-loop
+μ-loop p points ends np nq from m w sum₀ j₀ sum j = m - j
+
+origin-requires : tie.Need-origin-requires Inv-loop μ-loop
+origin-requires c κs = search needs
+
+loop-holds : tie.Need-loop-holds Inv-loop μ-loop
+loop-holds c = sum-start _ _ _ _ _ (c .origin .ensures)
+
+add-at : tie.Need-add-at Inv-loop μ-loop
+add-at c = omega arith
+
+at-requires : tie.Need-at-requires Inv-loop μ-loop
+at-requires c κs = omega arith
+
+other-end-requires : tie.Need-other-end-requires Inv-loop μ-loop
+other-end-requires c κs = let s = c .before .before .before .before .before .before .before in let h = below-at _ _ (s .pre .1) (c .before .loop-test .taken) (c .at .ensures) in omega (arith, s .pre .0 .cornered .quads)
+
+point-at-requires : tie.Need-point-at-requires Inv-loop μ-loop
+point-at-requires c κs = let s = c .before .before .before .before .before .before .before .before in other-low _ _ (s .pre .0) (below-at _ _ (s .pre .1) (c .before .before .loop-test .taken) (c .before .at .ensures)) (c .other-end .ensures)
+
+halfway-requires : tie.Need-halfway-requires Inv-loop μ-loop
+halfway-requires c κs = tt
+
+add-requires : tie.Need-add-requires Inv-loop μ-loop
+add-requires c κs = tt
+
+add-j : tie.Need-add-j Inv-loop μ-loop
+add-j c = omega arith
+
+loop-less : tie.Need-loop-less Inv-loop μ-loop
+loop-less c = omega arith
+
+loop-again : tie.Need-loop-again Inv-loop μ-loop
+loop-again c = let t = c .before .before .before .before .before in sum-turn _ _ _ (t .before .loop .inv) (t .loop-test .taken) (c .before .before .before .before .before .before .before .before .before .before .before .pre .1 .fits) (c .before .before .before .before .at .ensures) (halfway-is _ _ _ _ _ _ _ (c .before .before .before .other-end .ensures) (c .before .before .point-at .ensures) (c .before .halfway .ensures)) (c .add .ensures)
+
+returns : tie.Need-returns Inv-loop μ-loop
+returns c = sum-end (c .before .loop .inv) (omega arith)
+
+pub sum-halfways-spec : {M : Type 1} → statement M
+sum-halfways-spec =
+    tie.close
+    (tie.spec
+    Inv-loop
+    μ-loop
+    origin-requires
+    loop-holds
+    add-at
+    at-requires
+    other-end-requires
+    point-at-requires
+    halfway-requires
+    add-requires
+    add-j
+    loop-less
+    loop-again
+    returns)
