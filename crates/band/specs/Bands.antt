@@ -43,10 +43,6 @@ ownOr Missing q = q
 unfoldable pub gradientWith : Field → Float → Point → Point
 gradientWith f len p = ownOr (fieldGradientOf f p) (centralOf f p (len ⊗ step))
 
--- the gradient of the band's field at p
-unfoldable pub gradientOf : Band → Point → Point
-gradientOf b p = gradientWith (b .field) (lengthOf b) p
-
 -- ---- normals
 
 -- -1 on a low face, 1 on a high one

@@ -9,7 +9,8 @@ use lib.ListN.{length, getD, take, set}
 use lib.Seq.{getD-take, getD-set-same, length-take-le}
 use lib.Dec.{eqb, ltb}
 use borrow.Author.Tests.{eq-eqb, ne-eqb, lt-ltb, le-ltb}
-use Rattle.lists.specs.Sort.{tabulate, bucket, sortBy, start, endOf, countOf}
+use Rattle.lists.specs.Sort.{tabulate, bucket, sortBy}
+use Rattle.lists.specs.Steps.{start, endOf, countOf}
 use Rattle.lists.specs.Regions.{part, Part, Out, Out3, Kept, Three}
 use Rattle.lists.proofs.Laws.{lt-or-le, getD-tab, tab-take, tab-ext, start-zero, start-suc, start-mono}
 use Rattle.lists.proofs.Order.{Each, sort-ext, each-sort, each-bucket, bucket-key, bucket-sort, bucket-of-sort, ascends, part-bucket, in-bucket, below-tab}

@@ -2,7 +2,8 @@
 use Prim.Native.Nat.{ℕ, _+_, _*_, _≤_, _<_}
 use mathlib.Core.List.{List}
 use lib.ListN.{length, getD}
-use Rattle.lists.specs.Sort.{tabulate, sortBy, start}
+use Rattle.lists.specs.Sort.{tabulate, sortBy}
+use Rattle.lists.specs.Steps.{start}
 use Rattle.lists.specs.Regions.{part, Part}
 use Rattle.sheet.specs.Edges.{smaller, larger, allCorners}
 use Rattle.incidence.specs.Corners.{Known, Cornered, edgeOrder, cornersAt, firstAt}

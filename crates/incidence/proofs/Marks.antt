@@ -8,7 +8,8 @@ use native.Mathlib.Numerals.{add-one}
 use lib.ListN.{length, getD, set}
 use lib.Dec.{eqb, ltb}
 use borrow.Author.Tests.{eq-eqb, ne-eqb, eqb-true, lt-ltb, ltb-true}
-use Rattle.lists.specs.Sort.{tabulate, bucket, sortBy, start, itself}
+use Rattle.lists.specs.Sort.{tabulate, bucket, sortBy, itself}
+use Rattle.lists.specs.Steps.{start}
 use Rattle.lists.specs.Every.{some}
 use Rattle.lists.specs.Regions.{part, Part, Out, Kept}
 use Rattle.lists.proofs.Laws.{length-tab, getD-tab, is-tab, tab-ext, tab-set, start-suc, start-mono}

@@ -1,25 +1,15 @@
 -- What a slice holds when a part of it, `&mut s[a..e]` or `&mut s[a..]`, has come back: `putMid a (e - a) s y`. Assumes nothing.
 use Prim.Native.Nat.{ℕ, _+_, _-_, _≤_}
-use mathlib.Core.Path.{_≡_, sym, ap, _∙_}
-use mathlib.Core.List.{List, _++_, append-assoc, append-nil}
+use mathlib.Core.Path.{_≡_, ap, _∙_}
+use mathlib.Core.List.{List, _++_, append-nil}
 use native.Mathlib.Omega.{arith}
 use lib.ListN.{length, take, drop, replicate, length-append, length-drop}
-use lib.Seq.{take-at, length-take-le, drop-length}
-use borrow.Rule.Slice.PartMut.{midOf, postOf, putMid, post-is, mid-len, same-len-mid}
+use lib.Seq.{take-at, drop-length}
+use borrow.Rule.Slice.PartMut.{midOf, putMid, post-is, mid-len}
 
 -- the part to the end: what was before it, and the part's last value
 pub put-end : {A : Type 0} (a : ℕ) (s y : List A) → a ≤ length s → putMid a (length s - a) s y ≡ take a s ++ y
 put-end {A} a s y h = ap (λ (l : List A). take a s ++ (y ++ l)) (post-is a (length s) s h ∙ drop-length s) ∙ ap (λ (l : List A). take a s ++ l) (append-nil y)
-
--- the front up to the part's end
-pub take-put-end : {A : Type 0} (a e : ℕ) (s y : List A) → a ≤ e → e ≤ length s → length y ≡ e - a → take e (putMid a (e - a) s y) ≡ take a s ++ y
-take-put-end {A} a e s y h k l =
-    let t : length (take a s) ≡ a = length-take-le a s (omega arith) in
-    let n : length (take a s ++ y) ≡ e = length-append (take a s) y ∙ omega arith in
-    ap (take e) (sym (append-assoc (take a s) y (postOf a (e - a) s))) ∙ take-at (take a s ++ y) (postOf a (e - a) s) e n
-
-pub length-put : {A : Type 0} (a e : ℕ) (s y : List A) → e ≤ length s → length y ≡ e - a → length (putMid a (e - a) s y) ≡ length s
-length-put a e s y k l = same-len-mid a (e - a) s y (l ∙ sym (mid-len a e s k))
 
 pub length-end : {A : Type 0} (a : ℕ) (s : List A) → length (midOf a (length s - a) s) ≡ length s - a
 length-end a s = mid-len a (length s) s (omega arith)
@@ -32,7 +22,3 @@ tail-same x n p s a z lp h ea ez =
     let f : take n a ≡ p = ap (take n) ea ∙ take-at p (drop n s) n lp in
     let m : length (midOf n (length a - n) a) ≡ length s - n = length-end n a ∙ omega arith in
     put-end n a z (omega arith) ∙ rw (f, ez, m)
-
-pub tail-zero : (n : ℕ) (p s a z : List ℕ) → length p ≡ n → n ≤ length s → a ≡ p ++ drop n s → z ≡ replicate (length (midOf n (length a - n) a)) 0
-    → putMid n (length a - n) a z ≡ p ++ replicate (length s - n) 0
-tail-zero = tail-same 0

@@ -218,13 +218,3 @@ module _ {A : Type 0} (d : A) where
   -- the table of a list's own elements
   pub tab-own : (l : List A) (n : ℕ) → length l ≡ n → tabulate (elementOf l) n ≡ l
   tab-own l n e = sym (is-table d l (elementOf l) n e (λ k h. refl))
-
-  pub copy-turn : (from : ℕ) {to n : ℕ} {v w : List A} {i : ℕ} → RegionFilled (elementOf (part from n v)) to n v w i → from + n ≤ length v → Apart from n to n → i < n
-      → RegionFilled (elementOf (part from n v)) to n v (set w (to + i) (getD w (from + i) d)) (i + 1)
-  copy-turn from {to} {n} {v} {w} {i} F h a l = region-turn _ F l (part-get d i (region-other F (part-of from n v h) a) l)
-
-  pub copy-end : (from : ℕ) {to n : ℕ} {v w : List A} {i : ℕ} → RegionFilled (elementOf (part from n v)) to n v w i → from + n ≤ length v → n ≤ i
-      → Part to n (part from n v) w × Kept (Out to n) v w
-  copy-end from {to} {n} {v} {w} {i} F h l =
-      let E = region-end F l in
-      (part-as (E .0) (tab-own (part from n v) n (part-len (part-of from n v h))), E .1)

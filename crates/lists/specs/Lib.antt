@@ -1,4 +1,5 @@
 pub mod Sort
 pub mod Every
 pub mod Regions
-pub mod Placing
+pub mod Steps
+pub mod Contracts

@@ -11,7 +11,8 @@ use native.Mathlib.Nat.{le-of-suc-le-suc, mul-add-mod-self-right, mul-add-div-ri
 use lib.ListN.{length, getD, set}
 use lib.Dec.{eqb}
 use borrow.Author.Tests.{eq-eqb, ne-eqb, eqb-true}
-use Rattle.lists.specs.Sort.{tabulate, bucket, sortBy, start, consIf, itself}
+use Rattle.lists.specs.Sort.{tabulate, bucket, sortBy, consIf, itself}
+use Rattle.lists.specs.Steps.{start}
 use Rattle.lists.specs.Every.{some}
 use Rattle.lists.proofs.Laws.{eq-or-ne, lt-or-le, length-tab, getD-tab, start-mono, getD-sort, Place, place, tab-ext, tab-set}
 use Rattle.lists.proofs.Every.{some-at, or-split, and-left, and-right}

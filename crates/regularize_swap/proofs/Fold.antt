@@ -10,7 +10,8 @@ use native.Mathlib.Numerals.{add-one}
 use lib.Dec.{eqb}
 use lib.ListN.{length, getD}
 use borrow.Author.Tests.{le-leb, lt-leb, lt-ltb, ltb-false, ne-eqb}
-use Rattle.lists.specs.Sort.{consIf, bucket, start}
+use Rattle.lists.specs.Sort.{consIf, bucket}
+use Rattle.lists.specs.Steps.{start}
 use Rattle.lists.proofs.Laws.{lt-or-le, start-zero, start-suc}
 use Rattle.rule_sheet.specs.Quads.{Quad, side, isEdge}
 use Rattle.sheet.specs.Flat.{from}

@@ -11,7 +11,8 @@ use lib.ListN.{length, getD}
 use lib.Seq.{getD-take}
 use lib.Ieee.{Float}
 use borrow.Author.Tests.{ne-eqb, lt-ltb, ltb-false, leb-true, le-leb}
-use Rattle.lists.specs.Sort.{tabulate, itself, consIf, bucket, start}
+use Rattle.lists.specs.Sort.{tabulate, itself, consIf, bucket}
+use Rattle.lists.specs.Steps.{start}
 use Rattle.lists.proofs.Laws.{lt-or-le, start-suc, start-zero, getD-tab, length-tab, tab-add}
 use Rattle.rule_sheet.specs.Quads.{quad, isEdge}
 use Rattle.sheet.specs.Flat.{from, to}

@@ -9,7 +9,7 @@ use native.Mathlib.Decide.{decLt}
 use lib.Dec.{eqb, leb, ltb}
 use lib.ListN.{length}
 use borrow.Author.Tests.{eq-eqb, ne-eqb, ltb-true, lt-ltb, le-ltb, le-leb}
-use Rattle.lists.proofs.Every.{and-left, and-right, every-at, every-on, every-zero}
+use Rattle.lists.proofs.Every.{and-left, and-right, every-at, every-each}
 use Rattle.points.specs.Points.{finiteP}
 use Rattle.rule_sheet.specs.Quads.{Quad, quad, num, all, at, uses, valence, touches, packTo, pack, hasLabel, maskOf}
 use Rattle.rule_sheet.specs.Tests.{inRange, distinct, proper, lowLabel, goodCorners, goodMask, goodPoint, goodMasks}
@@ -215,7 +215,7 @@ no-clash-of n S labels low b e v j h = go (decLt v n)
 
 masks-good : (n : ℕ) (S : List Quad) (labels : List ℕ) → length labels ≡ length S → Low labels → ((v : ℕ) → v < n → 0 < valence S v) → NoClash S labels → goodMasks n S labels ≡ true
 unfolding NoClash goodMasks maskOf
-masks-good n S labels e low used nc = every-on (goodPoint S labels) 0 n (every-zero (goodPoint S labels)) (omega arith) (λ v z l. bits-good (hasLabel S labels v) (bits v (touched v S labels e low (used v l))))
+masks-good n S labels e low used nc = every-each (goodPoint S labels) n (λ v l. bits-good (hasLabel S labels v) (bits v (touched v S labels e low (used v l))))
   where
     bits : (v : ℕ) → (l : ℕ) × (l ≤ 7) × (0 < touches S labels v l) → GoodBits (hasLabel S labels v)
     bits v (l, p, h) = record {

@@ -8,7 +8,8 @@ use native.Mathlib.Omega.{arith}
 use lib.ListN.{length, getD, length-append}
 use lib.Dec.{eqb, ltb, leb}
 use borrow.Author.Tests.{eq-eqb, eqb-true, lt-ltb, ltb-false, le-leb, leb-true}
-use Rattle.lists.specs.Sort.{tabulate, bucket, sortBy, consIf, countOf, itself}
+use Rattle.lists.specs.Sort.{tabulate, bucket, sortBy, consIf, itself}
+use Rattle.lists.specs.Steps.{countOf}
 use Rattle.lists.proofs.Laws.{lt-or-le, bucket-append}
 use Rattle.lists.proofs.Every.{bool-iff}
 use Rattle.lists.proofs.Order.{bucket-key, each-bucket, bucket-sort}

@@ -7,7 +7,8 @@ use native.Mathlib.Omega.{arith}
 use lib.ListN.{length, getD, take, length-append}
 use lib.Seq.{take-suc, length-take-le}
 use lib.Dec.{eqb}
-use Rattle.lists.specs.Sort.{tabulate, bucket, consIf, countOf, itself}
+use Rattle.lists.specs.Sort.{tabulate, bucket, consIf, itself}
+use Rattle.lists.specs.Steps.{countOf}
 use Rattle.lists.proofs.Laws.{tab-suc, length-tab, bucket-append}
 use Rattle.rule_sheet.specs.Quads.{Quad, num, is, corners, total, at, uses, valence, labelSum, touches}
 use Rattle.rule_sheet.specs.Flat.{quadAt, quadsOf}
