@@ -14,7 +14,8 @@ use Rattle.lists.specs.Sort.{tabulate}
 use Rattle.lists.specs.Regions.{Part, Out, Kept}
 use Rattle.lists.proofs.Laws.{eq-or-ne, lt-or-le, getD-tab, tab-ext, tab-set, tab-same, always, Filled, filled-start, filled-turn, filled-rest}
 use Rattle.lists.proofs.Regions.{part-get, part-set, part-as, kept-refl, kept-set}
-use Rattle.points.specs.Points.{pointAt, withPoint}
+use Rattle.points.specs.Points.{pointAt}
+use Rattle.points.specs.Steps.{withPoint}
 use Rattle.rule_sheet.specs.Quads.{num, is, sum}
 use Rattle.rule_sheet.specs.FirstUse.{firsts, place}
 use Rattle.rule_sheet.specs.Sheet.{flatPoints}

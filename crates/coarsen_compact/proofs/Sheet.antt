@@ -11,7 +11,7 @@ use lib.Ieee.{Float}
 use Rattle.lists.specs.Sort.{tabulate}
 use Rattle.lists.specs.Regions.{part, Part}
 use Rattle.lists.proofs.Laws.{lt-or-le, getD-tab, tab-suc, tab-take, map-tab}
-use Rattle.points.specs.Points.{pointAt}
+use Rattle.points.specs.Points.{pointAt, origin}
 use Rattle.rule_sheet.specs.declared.Counts.{Counts}
 use Rattle.rule_sheet.specs.Quads.{Quad, quad, is, sum}
 use Rattle.rule_sheet.specs.Flat.{corner, quadAt, flatQuads}
@@ -21,7 +21,6 @@ use Rattle.rule_sheet.specs.Sheet.{pointsOf, flatPoints}
 use Rattle.sheet.specs.Results.{Front}
 use Rattle.sheet.proofs.Results.{length-flat-points}
 use Rattle.rule_coarsen.specs.Merges.{Slot, out, slot, live, liveLabels, renameQuad, order, renumber, gathered}
-use Rattle.rule_passes.specs.Choices.{nonePoint}
 use Rattle.rule_coarsen.proofs.MergePass.{live-length}
 use Rattle.rule_coarsen.proofs.Renumber.{renumber-length}
 use Rattle.coarsen_compact.specs.Compact.{compacted, Begins, Compacting, quadStays, cornerStays, packed, nth, usedIn, numberIn, pointsIn, Numbering}
@@ -129,7 +128,7 @@ gathered-is : (np : ℕ) (P : List Float) (l : List ℕ) → ((x : ℕ) → 0 < 
 unfolding pointsOf
 gathered-is np P [] h = refl
 gathered-is np P (v ∷ l) h =
-    ap₂ _∷_ (sym (getD-tab (pointAt P) np v nonePoint (h v (omega (arith, is-same v v refl))))) (gathered-is np P l (λ x k. h x (omega arith)))
+    ap₂ _∷_ (sym (getD-tab (pointAt P) np v origin (h v (omega (arith, is-same v v refl))))) (gathered-is np P l (λ x k. h x (omega arith)))
 
 -- every corner that stays is one of the corners that came
 packed-below : (p : ℕ → Bool) (l : List ℕ) (np n : ℕ) → ((i : ℕ) → i < n → getD l i 0 < np) → (i : ℕ) → i < length (packed p l n) → getD (packed p l n) i 0 < np
@@ -187,7 +186,7 @@ module _ {np nq : ℕ} (P : List Float) {Q : List ℕ} (labels : List ℕ) {remo
         let g : pointsIn P (usedIn s m) ≡ gathered (pointsOf np P) (order rest) = gathered-is np P (usedIn s m) (used-below np m s corner-below) ∙ ap (gathered (pointsOf np P)) o in
         let n : length (flatPoints (pointsIn P (usedIn s m))) ≡ 3 * used = length-flat-points (pointsIn P (usedIn s m)) ∙ ap (λ j. 3 * j) (length-map (usedIn s m) (pointAt P) ∙ sym eu) in
         let t : take (3 * used) h ≡ flatPoints (gathered (pointsOf np P) (order rest)) = rw (n, g) at (H .is) in
-        let a : used ≡ length (gathered (pointsOf np P) (order rest)) = eu ∙ ap length o ∙ sym (length-map (order rest) (λ v. getD (pointsOf np P) v nonePoint)) in
+        let a : used ≡ length (gathered (pointsOf np P) (order rest)) = eu ∙ ap length o ∙ sym (length-map (order rest) (λ v. getD (pointsOf np P) v origin)) in
         let kl : k ≡ length (liveLabels (slotsOf nq Q marks) (take nq labels)) = ek ∙ ap length l in
         let kq : k ≡ length (renumber rest) = kl ∙ live-length (slotsOf nq Q marks) (take nq labels) (length-take-le nq labels (C .labels) ∙ sym (length-slots nq Q marks)) ∙ sym (renumber-length rest) in
         record {

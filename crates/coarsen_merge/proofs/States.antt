@@ -19,7 +19,8 @@ use Rattle.lists.proofs.Laws.{eq-or-ne, length-tab, getD-tab, is-table, tab-ext
 use Rattle.lists.proofs.Order.{bucket-key, in-bucket}
 use Rattle.lists.proofs.Regions.{part-of, part-len}
 use Rattle.points.specs.declared.Point.{Point}
-use Rattle.points.specs.Points.{pointAt, withPoint}
+use Rattle.points.specs.Points.{pointAt}
+use Rattle.points.specs.Steps.{withPoint}
 use Rattle.rule_sheet.specs.Quads.{Quad, quad, uses}
 use Rattle.rule_sheet.specs.Flat.{corner, quadAt, quadsOf}
 use Rattle.sheet.specs.Flat.{from}

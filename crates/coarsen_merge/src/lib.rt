@@ -7,7 +7,7 @@ ghost use lib.ListN.{length, set};
 ghost use Rattle.lists.specs.Every.{every};
 ghost use Rattle.lists.specs.Sort.{tabulate};
 ghost use Rattle.lists.specs.Regions.{part, Part, Out, Kept};
-ghost use Rattle.points.specs.Points.{withPoint};
+ghost use Rattle.points.specs.Steps.{withPoint};
 ghost use Rattle.rule_sheet.specs.Quads.{valence};
 ghost use Rattle.rule_sheet.specs.Flat.{corner, quadAt};
 ghost use Rattle.rule_sheet.specs.Squared.{sq};

@@ -18,7 +18,7 @@ use Rattle.lists.proofs.Every.{and-left, and-right}
 use Rattle.lists.proofs.Laws.{getD-tab, length-tab}
 use Rattle.lists.proofs.Regions.{part-kept, part-get, part-of, kept-refl, kept-then, kept-less}
 use Rattle.points.specs.declared.Point.{Point}
-use Rattle.points.specs.Points.{withPoint}
+use Rattle.points.specs.Steps.{withPoint}
 use Rattle.band.specs.declared.Band.{Band}
 use Rattle.band.specs.Bands.{lengthOf}
 use Rattle.rule_sheet.specs.Quads.{Quad, uses, valence, maskOf}

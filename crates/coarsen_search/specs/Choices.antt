@@ -10,7 +10,8 @@ use lib.Ieee.{Float}
 use lib.ListN.{length, getD, take}
 use Rattle.lists.specs.Every.{every}
 use Rattle.points.specs.declared.Point.{Point}
-use Rattle.points.specs.Points.{pointAt, withPoint, halfwayP}
+use Rattle.points.specs.Points.{pointAt, halfwayP}
+use Rattle.points.specs.Steps.{withPoint}
 use Rattle.field.specs.declared.Field.{Field}
 use Rattle.band.specs.declared.Band.{Band}
 use Rattle.projection.specs.declared.Projected.{Projected}

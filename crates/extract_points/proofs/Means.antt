@@ -14,7 +14,7 @@ use Rattle.points.specs.declared.Point.{Point}
 use Rattle.points.specs.Points.{one, addP, mulP, origin}
 use Rattle.rule_extract.specs.declared.Grid.{Grid}
 use Rattle.rule_extract.specs.declared.Site.{Site}
-use Rattle.rule_extract.specs.Grids.{float}
+use Rattle.numeric.specs.Num.{float}
 use Rattle.extract_crossings.specs.Crossings.{replayFrom}
 use Rattle.rule_extract.specs.Crossings.{edgeSpan, halvings}
 use Rattle.extract_crossings.proofs.Paths.{replay-crossing}
@@ -62,9 +62,9 @@ pub record Summing (g : Grid) (c : Site) (k : ℕ) (s : Sum) (e : ℕ) : Type 0 
   pub point-is : s .point ≡ foldl addP origin (partTo g c k e)
   pub count-is : s .count ≡ length (partTo g c k e)
 
-pub summing-start : (g : Grid) (c : Site) (k : ℕ) → Summing g c k (record { point = origin; count = 0 }) 0
+pub summing-start : (g : Grid) (c : Site) (k : ℕ) {p : Point} → p ≡ origin → Summing g c k (record { point = p; count = 0 }) 0
 unfolding partTo those tabulate
-summing-start g c k = record { e≤ = omega arith; count≤ = omega arith; point-is = refl; count-is = refl }
+summing-start g c k o = record { e≤ = omega arith; count≤ = omega arith; point-is = o; count-is = refl }
 
 turn-by : (g : Grid) (c : Site) (k e : ℕ) (s : Sum) → Summing g c k s e → e < 12 → (b : Bool) → isMember g c k e ≡ b → Summing g c k (addedIf b s (crossingAt g c e)) (e + 1)
 unfolding addedIf

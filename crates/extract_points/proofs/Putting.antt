@@ -11,7 +11,7 @@ use lib.Ieee.{Float}
 use Rattle.lists.specs.Every.{some}
 use Rattle.lists.proofs.Laws.{eq-or-ne}
 use Rattle.points.specs.declared.Point.{Point}
-use Rattle.points.specs.Points.{withPoint}
+use Rattle.points.specs.Steps.{withPoint}
 use Rattle.rule_sheet.specs.Edges.{joinTo}
 use Rattle.rule_sheet.specs.Sheet.{flatPoints}
 use Rattle.sheet.specs.Results.{Front}

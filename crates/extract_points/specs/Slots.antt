@@ -8,7 +8,8 @@ use lib.ListN.{length, getD, set}
 use Rattle.lists.specs.Every.{some, countTo}
 use Rattle.points.specs.declared.Point.{Point}
 use lib.Ieee.{Float}
-use Rattle.points.specs.Points.{addP, withPoint}
+use Rattle.points.specs.Points.{addP}
+use Rattle.points.specs.Steps.{withPoint}
 use Rattle.rule_extract.specs.declared.Grid.{Grid}
 use Rattle.rule_extract.specs.declared.Site.{Site}
 use Rattle.rule_extract.specs.Cells.{bitOf}

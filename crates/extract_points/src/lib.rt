@@ -6,7 +6,7 @@ use rule_extract::Site;
 ghost use mathlib.Core.Path.{_≡_};
 ghost use mathlib.Core.Bool.{true, cond};
 ghost use mathlib.Core.List.{map};
-ghost use Prim.Native.Nat.{ℕ, _+_, _*_, _^_, _≤_, _<_};
+ghost use Prim.Native.Nat.{_+_, _*_, _^_, _≤_, _<_};
 ghost use lib.ListN.{length, getD};
 ghost use Rattle.rule_extract.specs.Lattice.{siteAt, caseOf};
 ghost use Rattle.extract_grid.specs.Lattice.{Samples};
@@ -169,13 +169,8 @@ fn group_mean(
     requires { ⌜ Known g c kind groups ⌝ }
     ensures { λ r. ⌜ r ≡ meanOf (map (crossingAt g c) (membersOf g c k)) ⌝ }
 {
-    let origin = Point {
-        x: 0.0,
-        y: 0.0,
-        z: 0.0,
-    };
     let mut s = Sum {
-        point: origin,
+        point: points::origin(),
         count: 0,
     };
     let mut e = 0;
@@ -183,7 +178,7 @@ fn group_mean(
         s = add_member(g, n, c, i, kind, groups[e], k, e, w, s);
         e += 1;
     }
-    points::mul(s.point, 1.0 / std::num::nearest_u64_to_f64(s.count as u64))
+    points::mul(s.point, 1.0 / numeric::float(s.count))
 }
 
 // Puts the point of the group k to place `place` if it has one; the next place.

@@ -66,7 +66,7 @@ pub fn inside(g: Grid, p: Point) -> bool
 fn coordinate(start: f64, step: f64, c: usize) -> f64
     ensures { λ r. ⌜ r ≡ coordinateOf start step c ⌝ }
 {
-    start + std::num::nearest_u64_to_f64(c as u64) * step
+    start + numeric::float(c) * step
 }
 
 // A point of the grid.
@@ -86,7 +86,7 @@ fn middle(start: f64, step: f64, c: usize, own: bool) -> f64
     if own {
         return coordinate(start, step, c);
     }
-    start + (std::num::nearest_u64_to_f64(c as u64) + 0.5) * step
+    start + (numeric::float(c) + 0.5) * step
 }
 
 // The centre of the face of a cell that is square to an axis and begins at the place c.
@@ -103,7 +103,7 @@ pub fn face_centre(g: Grid, c: Site, axis: usize) -> Point
 fn step(low: f64, high: f64, cells: usize) -> f64
     ensures { λ r. ⌜ r ≡ stepOf low high cells ⌝ }
 {
-    (high - low) / std::num::nearest_u64_to_f64(cells as u64)
+    (high - low) / numeric::float(cells)
 }
 
 // Where the grid starts on an axis: 0.513 of its step below the box.

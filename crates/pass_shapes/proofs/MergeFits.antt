@@ -10,7 +10,7 @@ use lib.Seq.{getD-take}
 use lib.Dec.{eqb}
 use lib.Ieee.{Float}
 use Rattle.points.specs.declared.Point.{Point}
-use Rattle.points.specs.Points.{halfwayP, finiteP, pointAt}
+use Rattle.points.specs.Points.{halfwayP, finiteP, pointAt, pointIn}
 use Rattle.field.specs.declared.Field.{Field}
 use Rattle.band.specs.declared.Band.{Band}
 use Rattle.band.specs.Bands.{lengthOf, normalWith}
@@ -32,7 +32,7 @@ use Rattle.rule_coarsen.specs.Merges.{Slot}
 use Rattle.rule_coarsen.specs.Coarse.{hasCorner, masksJoin}
 use Rattle.pass_shapes.specs.declared.Four.{Four}
 use Rattle.rule_coarsen.specs.declared.Merge.{Merge}
-use Rattle.rule_passes.specs.Shapes.{pointIn, centreOf}
+use Rattle.rule_sheet.specs.Places.{centreOf}
 use Rattle.pass_shapes.specs.Shaped.{quadIs, fourAt, FourBelow}
 use Rattle.rule_coarsen.specs.MergeFits.{joinedMask, movedTo, movedAt, quadStays, mergeAt, fitsAt, mergeFits, mergePosition}
 use Rattle.pass_shapes.specs.MergeFits.{staysAt}

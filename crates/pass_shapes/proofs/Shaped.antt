@@ -5,20 +5,20 @@ use mathlib.Core.List.{List}
 use native.Mathlib.Omega.{arith}
 use lib.Ieee.{Float}
 use Rattle.points.specs.declared.Point.{Point}
-use Rattle.points.specs.Points.{pointAt}
+use Rattle.points.specs.Points.{pointAt, origin, pointIn}
 use Rattle.lists.proofs.Laws.{getD-tab}
 use Rattle.rule_sheet.specs.Flat.{corner, quadAt}
 use Rattle.rule_sheet.specs.Sheet.{pointsOf}
 use Rattle.incidence.specs.Corners.{Cornered}
-use Rattle.rule_passes.specs.Choices.{nonePoint}
 use Rattle.pass_shapes.specs.declared.Four.{Four}
-use Rattle.rule_passes.specs.Shapes.{pointIn, centreOf, quadShape}
+use Rattle.rule_passes.specs.Shapes.{quadShape}
+use Rattle.rule_sheet.specs.Places.{centreOf}
 use Rattle.pass_shapes.specs.Shaped.{quadIs, fourAt, FourBelow}
 
 -- the point of a number below np
 pub point-there : (np : ℕ) (P : List Float) (v : ℕ) → v < np → pointAt P v ≡ pointIn (pointsOf np P) v
 unfolding pointsOf
-point-there np P v h = sym (getD-tab (pointAt P) np v nonePoint h)
+point-there np P v h = sym (getD-tab (pointAt P) np v origin h)
 
 -- the corners of a quad are points
 pub four-below : {np nq : ℕ} (Q : List ℕ) (q : ℕ) → Cornered np nq Q → q < nq → FourBelow np (fourAt Q q)

@@ -6,7 +6,7 @@ use mathlib.Core.List.{List}
 use lib.ListN.{getD}
 use lib.Ieee.{Float}
 use Rattle.points.specs.declared.Point.{Point}
-use Rattle.points.specs.Points.{pointAt}
+use Rattle.points.specs.Points.{pointAt, pointIn}
 use Rattle.field.specs.declared.Field.{Field}
 use Rattle.band.specs.Bands.{normalWith}
 use Rattle.lists.proofs.Laws.{getD-tab}
@@ -18,7 +18,6 @@ use Rattle.rule_passes.specs.Choices.{noneQuad}
 use Rattle.pass_shapes.specs.declared.Four.{Four}
 use Rattle.pass_shapes.specs.declared.Six.{Six}
 use Rattle.rule_regularize.specs.declared.Held.{Held}
-use Rattle.rule_passes.specs.Shapes.{pointIn}
 use Rattle.pass_shapes.specs.Shaped.{quadIs, fourAt, FourBelow}
 use Rattle.rule_regularize.specs.SwapFits.{hexCentre, lesserShape, heldOf, nextShape, nextFits, fitsWith}
 use Rattle.pass_shapes.specs.SwapFits.{hexOf, SixBelow}

@@ -18,7 +18,8 @@ ghost use Rattle.lists.specs.Regions.{part};
 ghost use Rattle.rule_sheet.specs.Flat.{quadAt};
 ghost use Rattle.incidence.specs.Corners.{Cornered};
 ghost use Rattle.edges.specs.Maps.{Standing};
-ghost use Rattle.rule_passes.specs.Shapes.{centreOf, quadShape, noWorse};
+ghost use Rattle.rule_passes.specs.Shapes.{quadShape, noWorse};
+ghost use Rattle.rule_sheet.specs.Places.{centreOf};
 ghost use Rattle.pass_shapes.specs.Shaped.{quadIs, fourAt, FourBelow, Positioned};
 ghost use Rattle.rule_regularize.specs.SwapFits.{hexCentre, lesserShape, heldOf, nextShape, shapeFits, nextFits};
 ghost use Rattle.pass_shapes.specs.SwapFits.{hexOf, SixBelow};
@@ -83,15 +84,11 @@ fn centre(np: usize, points: &[f64], q: Four) -> Point
     requires { ⌜ FourBelow np q ⌝ }
     ensures { λ r. ⌜ r ≡ centreOf (pointAt (now (points .entry))) (quadIs q) ⌝ }
 {
-    let origin = Point {
-        x: 0.0,
-        y: 0.0,
-        z: 0.0,
-    };
-    let s0 = added(np, points, origin, q.a);
-    let s1 = added(np, points, s0, q.b);
-    let s2 = added(np, points, s1, q.c);
-    points::mul(added(np, points, s2, q.d), 0.25)
+    let a = points::point_at(points, q.a);
+    let b = points::point_at(points, q.b);
+    let c = points::point_at(points, q.c);
+    let d = points::point_at(points, q.d);
+    points::centre(a, b, c, d)
 }
 
 // The shape of a quad with the normal n.
@@ -120,12 +117,7 @@ fn hex_centre(np: usize, points: &[f64], h: Six) -> Point
     requires { ⌜ SixBelow np h ⌝ }
     ensures { λ r. ⌜ r ≡ hexCentre (pointAt (now (points .entry))) (hexOf h) ⌝ }
 {
-    let origin = Point {
-        x: 0.0,
-        y: 0.0,
-        z: 0.0,
-    };
-    let s0 = added(np, points, origin, h.h0);
+    let s0 = added(np, points, points::origin(), h.h0);
     let s1 = added(np, points, s0, h.h1);
     let s2 = added(np, points, s1, h.h2);
     let s3 = added(np, points, s2, h.h3);

@@ -1,7 +1,8 @@
 -- For finite ends of magnitude at most 2 ^ 1022, each coordinate of a halfway point lies between its two ends. Assumes nothing.
 use lib.Dec.{T}
 use lib.Ieee.{binary64, fits}
-use Rattle.numeric.specs.Num.{Small, Between, halfwayOf}
+use Rattle.numeric.specs.Num.{halfwayOf}
+use Rattle.numeric.specs.Contracts.{Small, Between}
 use Rattle.numeric.proofs.Midpoint.{midpoint-between}
 use Rattle.points.specs.declared.Point.{Point}
 use Rattle.points.specs.Points.{halfwayP}

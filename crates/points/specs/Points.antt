@@ -2,10 +2,10 @@
 use Prim.Native.Nat.{ℕ, _+_, _*_}
 use mathlib.Core.Bool.{Bool, _&&_}
 use mathlib.Core.List.{List}
-use lib.ListN.{getD, set}
+use lib.ListN.{getD}
 use lib.Ieee.{Float, nan, binary64, add, sub, mul, div, neg, ofBits}
 use Rattle.numeric.specs.Root.{sqrtOf}
-use Rattle.numeric.specs.Num.{zeroF, maxOf, finiteOf, halfwayOf}
+use Rattle.numeric.specs.Num.{zeroF, quarter, maxOf, finiteOf, halfwayOf}
 use Rattle.points.specs.declared.Point.{Point}
 
 -- ---- rounded operations and constants of binary64, by their bit patterns as the code's literals are read
@@ -86,16 +86,22 @@ halfwayP a b = record { x = halfwayOf (a .x) (b .x); y = halfwayOf (a .y) (b .y)
 abbrev pub origin : Point
 origin = record { x = zeroF; y = zeroF; z = zeroF }
 
+-- the centre of four points: their sum in order, from 0.0 on, times 0.25
+unfoldable pub centreP : Point → Point → Point → Point → Point
+centreP p q r s = mulP (addP (addP (addP (addP origin p) q) r) s) quarter
+
 -- all three coordinates are finite
 unfoldable pub finiteP : Point → Bool
 finiteP p = finiteOf (p .x) && finiteOf (p .y) && finiteOf (p .z)
+
+-- ---- points in lists
+
+-- the point of a number in a list of points
+abbrev pub pointIn : List Point → ℕ → Point
+pointIn ps v = getD ps v origin
 
 -- ---- points in a list of coordinates
 
 -- the point at place i
 unfoldable pub pointAt : List Float → ℕ → Point
 pointAt l i = record { x = getD l (i * 3) nan; y = getD l (i * 3 + 1) nan; z = getD l (i * 3 + 2) nan }
-
--- the list with the point p at place i
-unfoldable pub withPoint : List Float → ℕ → Point → List Float
-withPoint l i p = set (set (set l (i * 3) (p .x)) (i * 3 + 1) (p .y)) (i * 3 + 2) (p .z)

@@ -3,7 +3,9 @@
 ghost use mathlib.Core.Path.{_≡_};
 ghost use Prim.Native.Nat.{_+_, _*_, _≤_};
 ghost use lib.ListN.{length};
-ghost use Rattle.points.specs.Points.{addP, subP, mulP, timesP, dotP, crossP, normP, unitBy, unitP, halfwayP, finiteP, pointAt, withPoint};
+ghost use Rattle.points.specs.Points.{addP, subP, mulP, timesP, dotP, crossP, normP, unitBy, unitP, halfwayP};
+ghost use Rattle.points.specs.Points.{origin as originP, centreP, finiteP, pointAt};
+ghost use Rattle.points.specs.Steps.{withPoint};
 
 // A point in space, or a vector.
 pub struct Point {
@@ -103,6 +105,24 @@ pub fn halfway(a: Point, b: Point) -> Point
     let y = numeric::halfway(a.y, b.y);
     let z = numeric::halfway(a.z, b.z);
     Point { x, y, z }
+}
+
+// The point from which sums of points start.
+pub fn origin() -> Point
+    ensures { λ r. ⌜ r ≡ originP ⌝ }
+{
+    Point {
+        x: 0.0,
+        y: 0.0,
+        z: 0.0,
+    }
+}
+
+// The centre of four points.
+pub fn centre(p: Point, q: Point, r: Point, s: Point) -> Point
+    ensures { λ c. ⌜ c ≡ centreP p q r s ⌝ }
+{
+    mul(add(add(add(add(origin(), p), q), r), s), 0.25)
 }
 
 // Whether all three coordinates are finite.

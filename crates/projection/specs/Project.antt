@@ -3,7 +3,7 @@ use Prim.Native.Nat.{ℕ, zero, suc, _/_, _%_}
 use mathlib.Core.Bool.{Bool, true, false, not, _&&_, _||_, cond}
 use lib.Dec.{eqb, leb}
 use lib.Ieee.{Float, binary64, div, neg, lt, le, ofBits}
-use Rattle.numeric.specs.Num.{zeroF, finiteOf, absOf, clampOf}
+use Rattle.numeric.specs.Num.{zeroF, twentieth, finiteOf, absOf, clampOf}
 use Rattle.points.specs.declared.Point.{Point}
 use Rattle.points.specs.Points.{_⊕_, _⊖_, _⊗_, one, subP, mulP, timesP, normP, unitBy, origin}
 use Rattle.field.specs.declared.Field.{Field}
@@ -19,7 +19,7 @@ use Rattle.projection.specs.declared.Projected.the-variants.{Onto, Refus
 
 -- 0.05: a move is at most length × 0.05
 abbrev pub longestMove : Float
-longestMove = ofBits binary64 0x3fa9_9999_9999_999a
+longestMove = twentieth
 
 -- it looks up to 20 times
 abbrev pub lookCount : ℕ

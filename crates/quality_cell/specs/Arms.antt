@@ -1,11 +1,11 @@
 -- The least Jacobian with ten norms, not fifty: du depends on v alone and dv on u alone, so each norm is worked out once.
 use lib.Ieee.{Float}
-use Rattle.numeric.specs.Num.{zeroF, half, minOf}
+use Rattle.numeric.specs.Num.{zeroF, half, minOf, quarter}
 use Rattle.points.specs.declared.Point.{Point}
 use Rattle.points.specs.Points.{_⊗_, one, dotP, crossP, normP}
 use Rattle.quality_cell.specs.declared.Arm.{Arm}
 use Rattle.quality_cell.specs.declared.Arms.{Arms}
-use Rattle.rule_quality.specs.Cells.{quotientOf, quarter, threeQuarters, betweenOf}
+use Rattle.rule_quality.specs.Cells.{quotientOf, threeQuarters, betweenOf}
 
 -- a direction and its norm
 unfoldable pub armOf : Point → Arm

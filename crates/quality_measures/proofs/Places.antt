@@ -12,14 +12,14 @@ use lib.Ieee.Fits.{down-pos}
 use lib.Ieee.Order.{round-mono}
 use lib.Ieee.Nearest.{div-mono}
 use lib.Ieee.Positive.{positive, own-value, positive-of-value, values-of-le, mul-at}
-use Rattle.numeric.specs.Num.{zeroF, floorOf}
+use Rattle.numeric.specs.Num.{zeroF, floorOf, float, twentieth}
 use Rattle.points.specs.Points.{_⊗_}
 use Rattle.rule_sheet.specs.Sheet.{limit}
-use Rattle.rule_quality.specs.Measure.{float, twentieth, fractOf, ceilOf}
+use Rattle.rule_quality.specs.Measure.{fractOf, ceilOf}
 
 -- a whole number of at most 2 ^ 53 is a float's value
 whole-value : (n : ℕ) → n ≤ 2 ^ 53 → HasValue (float n) false n 1
-unfolding ofInt
+unfolding float ofInt
 whole-value n h = round-whole binary64 false n h
 
 quotient-le : (a d j : ℕ) → 0 < d → a * 1 ≤ j * d → a / d ≤ j
@@ -66,7 +66,7 @@ twentieth-positive = tt
 
 -- 0.05 × k is at most k ÷ 16, rounded up
 place-le : (k j : ℕ) → 0 < k → k ≤ limit → k ≤ 16 * j → T (le (twentieth ⊗ float k) (float j))
-unfolding ofInt
+unfolding float ofInt
 place-le k j p h l =
     let v = whole-value k (omega arith) in
     let e = mul-at binary64 twentieth (float k) 7205759403792794 (2 ^ 57) k 1 twentieth-positive (positive-of-value (float k) k 1 v p) (omega arith) (omega arith) twentieth-value v in
@@ -81,15 +81,15 @@ ceil-le x = go (lt (ofBits binary64 0) (fractOf x)) (floorOf x)
     go false n = omega arith
 
 place-zero : ceilOf (twentieth ⊗ float 0) ≡ 0
-unfolding ceilOf fractOf floorOf mul sub add neg ofInt ofBits le lt eq toUnsigned round
+unfolding ceilOf fractOf floorOf mul sub add neg float ofInt ofBits le lt eq toUnsigned round
 place-zero = refl
 
 floor-zero : floorOf (twentieth ⊗ float 0) ≡ 0
-unfolding floorOf mul ofInt ofBits le lt eq toUnsigned round
+unfolding floorOf mul float ofInt ofBits le lt eq toUnsigned round
 floor-zero = refl
 
 floor-one : floorOf (twentieth ⊗ float 1) ≡ 0
-unfolding floorOf mul ofInt ofBits le lt eq toUnsigned round
+unfolding floorOf mul float ofInt ofBits le lt eq toUnsigned round
 floor-one = refl
 
 -- both whole numbers beside the place 0.05 × k are at most k

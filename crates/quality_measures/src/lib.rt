@@ -9,7 +9,7 @@ use rule_quality::Measures;
 use rule_sheet::Counts;
 ghost use mathlib.Core.Path.{_≡_};
 ghost use mathlib.Core.Bool.{true};
-ghost use Prim.Native.Nat.{ℕ, _+_, _*_, _<_, _≤_};
+ghost use Prim.Native.Nat.{_+_, _*_, _<_, _≤_};
 ghost use mathlib.Core.List.{zipWith};
 ghost use lib.ListN.{length};
 ghost use lib.Ieee.{le};
@@ -20,8 +20,8 @@ ghost use Rattle.points.specs.Points.{pointAt};
 ghost use Rattle.rule_sheet.specs.Flat.{corner};
 ghost use Rattle.rule_sheet.specs.Quads.{all, num};
 ghost use Rattle.rule_sheet.specs.Sheet.{sheetOf, limit};
-ghost use Rattle.rule_quality.specs.Measure.{centreOf, goodNormal, hasNormal, leastOf, totalOf, meanOf, flat, invalidOf, scoreOf, scoresOf, fractOf, ceilOf, valueAtPlace, p05Of, summaryOf, measureRule};
-ghost use Rattle.quality_measures.specs.Readings.{cornersAt, cellWith, cellAt, cellsTo, stored, storedIf, Readings, Held, Readable, Measurable};
+ghost use Rattle.rule_quality.specs.Measure.{goodNormal, hasNormal, leastOf, totalOf, meanOf, flat, invalidOf, scoreOf, scoresOf, fractOf, ceilOf, valueAtPlace, p05Of, summaryOf, measureRule};
+ghost use Rattle.quality_measures.specs.Readings.{cornersAt, cellWith, cellsTo, stored, storedIf, Readings, Held, Readable, Measurable};
 
 // The number of the refusal: a normal that is not finite or shorter than 0.5.
 pub const NORMAL: u32 = 11;
@@ -47,21 +47,6 @@ fn corners_at(points: &[f64], quads: &[u32], q: usize) -> Corners
     let p2 = corner_point(points, quads, q, 2);
     let p3 = corner_point(points, quads, q, 3);
     Corners { p0, p1, p2, p3 }
-}
-
-// The mean of the four corners.
-fn centre(p: Corners) -> Point
-    ensures { λ r. ⌜ r ≡ centreOf p ⌝ }
-{
-    let origin = Point {
-        x: 0.0,
-        y: 0.0,
-        z: 0.0,
-    };
-    let s0 = points::add(origin, p.p0);
-    let s1 = points::add(s0, p.p1);
-    let s2 = points::add(s1, p.p2);
-    points::mul(points::add(s2, p.p3), 0.25)
 }
 
 // A normal is finite and not shorter than 0.5.
@@ -99,7 +84,8 @@ fn read_cell(
     ensures { λ r. ⌜ r ≡ hasNormal (cellWith f len p label) ⌝ }
     ensures { λ _. ⌜ now (floats .exit) ≡ storedIf n q (cellWith f len p label) (now (floats .entry)) ⌝ }
 {
-    let normal = band::normal(f, len, centre(p), label);
+    let centre = points::centre(p.p0, p.p1, p.p2, p.p3);
+    let normal = band::normal(f, len, centre, label);
     if good_normal(normal) {
         store(p, normal, n, q, floats);
         return true;
@@ -173,7 +159,7 @@ fn total(s: &[f64]) -> f64
 fn mean(s: &[f64]) -> f64
     ensures { λ r. ⌜ r ≡ meanOf (now (s .entry)) ⌝ }
 {
-    total(s) / std::num::nearest_u64_to_f64(s.len() as u64)
+    total(s) / numeric::float(s.len())
 }
 
 // 1 for a Jacobian of at most 1e-8, else 0.
@@ -243,7 +229,7 @@ fn sort_scores(n: usize, at: usize, work: &mut [u32], floats: &mut [f64])
 fn fract(x: f64) -> f64
     ensures { λ r. ⌜ r ≡ fractOf x ⌝ }
 {
-    x - std::num::nearest_u64_to_f64(numeric::floor(x))
+    x - numeric::float(numeric::floor(x) as usize)
 }
 
 // The whole number next above x, or x itself where it is whole.
@@ -278,7 +264,7 @@ fn p05(s: &[f64]) -> f64
     ensures { λ r. ⌜ r ≡ p05Of (now (s .entry)) ⌝ }
 {
     let last = s.len() - 1;
-    value_at_place(s, 0.05 * std::num::nearest_u64_to_f64(last as u64))
+    value_at_place(s, 0.05 * numeric::float(last))
 }
 
 // ---- the measures

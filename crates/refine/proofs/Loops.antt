@@ -9,7 +9,8 @@ use lib.ListN.{length, getD, set, length-append}
 use lib.Ieee.{Float}
 use borrow.Author.Tests.{eq-eqb, ne-eqb, eqb-true, lt-ltb, le-ltb}
 use Rattle.points.specs.declared.Point.{Point}
-use Rattle.points.specs.Points.{withPoint, halfwayP}
+use Rattle.points.specs.Points.{halfwayP, centreP}
+use Rattle.points.specs.Steps.{withPoint}
 use Rattle.lists.specs.Sort.{tabulate}
 use Rattle.lists.specs.Every.{countTo}
 use Rattle.lists.specs.Regions.{part, Part, Out, Kept}
@@ -23,7 +24,6 @@ use Rattle.rule_sheet.specs.Sheet.{flatPoints}
 use Rattle.sheet.specs.Results.{Front}
 use Rattle.sheet.proofs.Fronts.{front-none, front-point, front-quad, length-with, length-with-quad}
 use Rattle.incidence.specs.Corners.{edgeOrder}
-use Rattle.rule_finer.specs.Finer.{centreP}
 use Rattle.refine.specs.Requests.{requestOf, firstOf, own, numberOf, sameEdge, linkedTo, positionIn, childAt}
 use Rattle.refine.specs.Loops.{lowAt, nth, Held, Linking, Numbering, Numbered, Writing, madeTo, putRequest}
 use Rattle.refine.proofs.Edges.{Same, sorted, same-yes, same-no, linked-new, linked-same, linked-end}

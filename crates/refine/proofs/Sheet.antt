@@ -9,7 +9,7 @@ use lib.Dec.{eqb}
 use lib.Ieee.{Float}
 use borrow.Author.Tests.{eq-eqb, ne-eqb}
 use Rattle.points.specs.declared.Point.{Point}
-use Rattle.points.specs.Points.{pointAt}
+use Rattle.points.specs.Points.{pointAt, pointIn}
 use Rattle.lists.specs.Sort.{tabulate}
 use Rattle.lists.specs.Every.{countTo}
 use Rattle.lists.proofs.Laws.{eq-or-ne, length-tab, getD-tab, tab-ext, map-tab}
@@ -23,7 +23,7 @@ use Rattle.sheet.proofs.Tests.{length-points}
 use Rattle.rule_sheet.proofs.FirstUse.{usedTo, ownFirst, used-suc, used-zero, used-new, used-old, count-used, place-used, first-unique, firsts-new, firsts-old}
 use Rattle.rule_sheet.specs.Results.{countsOf}
 use Rattle.incidence.specs.Corners.{Cornered}
-use Rattle.rule_finer.specs.Finer.{split, edgeKey, centreKey, asked, midOf, cenOf, finer, positionOf, requests, made, pointIn, newPoints, finerSheet}
+use Rattle.rule_finer.specs.Finer.{split, edgeKey, centreKey, asked, midOf, cenOf, finer, positionOf, requests, made, newPoints, finerSheet}
 use Rattle.refine.specs.Finer.{finerCount, keyOf}
 use Rattle.refine.specs.Requests.{positionIn, positionAt, keyAt, requestAt, firstOf, firstsOf, own, numberOf, childAt, labelAt}
 use Rattle.refine.specs.Loops.{Firsts, madeTo}

@@ -7,7 +7,7 @@ use lib.Dec.{ltb}
 use lib.ListN.{length, getD}
 use lib.Ieee.{Float}
 use Rattle.points.specs.declared.Point.{Point}
-use Rattle.points.specs.Points.{withPoint}
+use Rattle.points.specs.Steps.{withPoint}
 use Rattle.lists.specs.Sort.{tabulate}
 use Rattle.lists.specs.Every.{countTo}
 use Rattle.lists.specs.Regions.{Part, Apart}

@@ -5,7 +5,7 @@ use mathlib.Core.List.{List}
 use lib.Dec.{eqb}
 use lib.ListN.{getD}
 use Rattle.points.specs.declared.Point.{Point}
-use Rattle.points.specs.Points.{halfwayP}
+use Rattle.points.specs.Points.{halfwayP, centreP}
 use Rattle.lists.specs.Sort.{tabulate}
 use Rattle.lists.specs.Every.{countTo, some}
 use Rattle.rule_sheet.specs.Quads.{Quad, quad}
@@ -13,7 +13,7 @@ use Rattle.rule_sheet.specs.Flat.{corner}
 use Rattle.sheet.specs.Flat.{from, to}
 use Rattle.rule_sheet.specs.FirstUse.{place}
 use Rattle.incidence.specs.Corners.{edgeOrder}
-use Rattle.rule_finer.specs.Finer.{edgeKey, centreKey, centreP, Request, request}
+use Rattle.rule_finer.specs.Finer.{edgeKey, centreKey, Request, request}
 
 -- the corner after corner j of a quad
 abbrev pub after : ℕ → ℕ

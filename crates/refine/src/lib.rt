@@ -21,7 +21,7 @@ ghost use Rattle.rule_sheet.specs.Sheet.{pointsOf, flatPoints, sheetOf};
 ghost use Rattle.rule_sheet.specs.Results.{Leaves};
 ghost use Rattle.sheet.specs.Results.{Fills, Front};
 ghost use Rattle.incidence.specs.Corners.{Cornered};
-ghost use Rattle.rule_finer.specs.Finer.{centreP, finerSheet, madeOrShort, refineRule};
+ghost use Rattle.rule_finer.specs.Finer.{finerSheet, madeOrShort, refineRule};
 ghost use Rattle.refine.specs.Requests.{requestOf, sameEdge, positionIn, positionAt, firstOf, linkedTo, own, numberOf, childAt, labelAt, firstsOf};
 ghost use Rattle.refine.specs.Loops.{lowAt, nth, Linking, Numbering, Held, putRequest, madeTo, Writing, Numbered, Behind, Worked, Finished, Refinable, pointsAfter};
 
@@ -32,19 +32,6 @@ pub const ORDER: usize = 5;
 pub const FIRST: usize = 9;
 
 pub const NUMBERS: usize = 14;
-
-// The centre of a quad.
-fn centre(p: Point, q: Point, r: Point, s: Point) -> Point
-    ensures { λ c. ⌜ c ≡ centreP p q r s ⌝ }
-{
-    let origin = Point {
-        x: 0.0,
-        y: 0.0,
-        z: 0.0,
-    };
-    let sum = points::add(points::add(points::add(points::add(origin, p), q), r), s);
-    points::mul(sum, 0.25)
-}
 
 // Every one of the first n corners is a number of the np points.
 fn in_range(np: usize, n: usize, quads: &[u32]) -> bool
@@ -186,7 +173,7 @@ fn position(points: &[f64], quads: &[u32], np: usize, nq: usize, q: usize, j: us
         let b = corner_point(points, quads, np, nq, q, 1);
         let c = corner_point(points, quads, np, nq, q, 2);
         let d = corner_point(points, quads, np, nq, q, 3);
-        return centre(a, b, c, d);
+        return points::centre(a, b, c, d);
     }
     let a = corner_point(points, quads, np, nq, q, j);
     let b = corner_point(points, quads, np, nq, q, (j + 1) % 4);

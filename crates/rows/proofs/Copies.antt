@@ -14,7 +14,7 @@ use Rattle.lists.specs.Regions.{part, Part, Out, Apart, Kept}
 use Rattle.lists.proofs.Every.{count-le}
 use Rattle.lists.proofs.Regions.{part-of, part-get, RegionFilled, region-start, region-turn, region-end, region-other}
 use Rattle.points.specs.declared.Point.{Point}
-use Rattle.points.specs.Points.{_⊗_, addP, mulP}
+use Rattle.points.specs.Points.{_⊗_, addP, mulP, origin}
 use Rattle.band.specs.declared.Band.{Band}
 use Rattle.band.specs.Bands.{lengthOf}
 use Rattle.projection.specs.declared.Projected.{Projected}
@@ -25,11 +25,13 @@ use Rattle.smoothing.specs.Smooth.{sumOf}
 use Rattle.smoothing.specs.Rounded.{pointwise}
 use Rattle.subdivide_points.specs.Steps.{cornerCentre}
 use Rattle.rule_finer.specs.Smoothed.{keep}
+use Rattle.smoothing.proofs.ByPoints.{origin-by}
 use Rattle.smoothing.proofs.Coordinates.{sum-snoc}
 use Rattle.subdivide_points.proofs.Sums.{part-suc}
 use Rattle.subdivide_points.proofs.CreaseLoop.{keep-append, keep-le}
 use Rattle.rows.specs.declared.Centres.{Centres}
-use Rattle.rule_rows.specs.Rows.{half, orElse, tryFrom}
+use Rattle.rule_rows.specs.Rows.{orElse, tryFrom}
+use Rattle.numeric.specs.Num.{half}
 use Rattle.rows.specs.Steps.{copiedBy, copiedIn, numberIn, ofLabel, centresOf, withCentre}
 
 -- ---- the numbers of the copies
@@ -111,9 +113,9 @@ pub record CentreLoop (P : List Float) (Q labels : List ℕ) (from m l : ℕ) (w
   pub j≤ : j ≤ m
   pub is : c ≡ centresOf P Q (keep (ofLabel labels l) (part from j w))
 
-pub centres-start : (P : List Float) (Q labels : List ℕ) (from m l : ℕ) (w : List ℕ) (p : Point) → p ≡ pointwise .whole 0 → CentreLoop P Q labels from m l w (record { sum = p; count = 0 }) 0
+pub centres-start : (P : List Float) (Q labels : List ℕ) (from m l : ℕ) (w : List ℕ) (p : Point) → p ≡ origin → CentreLoop P Q labels from m l w (record { sum = p; count = 0 }) 0
 unfolding centresOf sumOf
-centres-start P Q labels from m l w p e = record { j≤ = omega arith; is = rw e }
+centres-start P Q labels from m l w p e = record { j≤ = omega arith; is = rw (e, origin-by) }
 
 module _ {P : List Float} {Q labels : List ℕ} {from m l : ℕ} {w : List ℕ} {c : Centres} {j : ℕ} (I : CentreLoop P Q labels from m l w c j) where
   pub centres-few : j < m → from + m ≤ length w → c .count ≤ j

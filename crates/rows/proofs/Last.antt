@@ -12,7 +12,7 @@ use borrow.Author.Tests.{lt-ltb, le-leb, leb-true, eq-eqb, eqb-false}
 use Rattle.lists.specs.Sort.{bucket}
 use Rattle.lists.specs.Every.{countTo}
 use Rattle.lists.proofs.Laws.{lt-or-le, eq-or-ne, length-tab}
-use Rattle.lists.proofs.Every.{every-zero, every-on, count-yes, count-mono}
+use Rattle.lists.proofs.Every.{every-each, count-yes, count-mono}
 use Rattle.lists.proofs.Order.{Each, each-bucket, bucket-key}
 use Rattle.points.specs.declared.Point.{Point}
 use Rattle.points.specs.Points.{_⊗_, addP, mulP, finiteP}
@@ -36,7 +36,8 @@ use Rattle.rule_sheet.specs.Outcomes.{refuses, gives, afterTest}
 use Rattle.rule_sheet.specs.Results.{countsOf}
 use Rattle.rule_finer.specs.Smoothed.{paired, labelCount}
 use Rattle.subdivide_points.proofs.Moved.{each-append}
-use Rattle.rule_rows.specs.Rows.{row, keyOf, isCopied, copies, numberOf, half, orElse, tryFrom, copyOf, cornerFor, copiedQuad, copiedAt, copiedQuads, Side, side, labelOf, lowOf, highOf, fourSides, sidesOf, edgeSides, twoLabels, rowSides, stripAt, rowsSheet, rowsMade, rowed}
+use Rattle.rule_rows.specs.Rows.{row, keyOf, isCopied, copies, numberOf, orElse, tryFrom, copyOf, cornerFor, copiedQuad, copiedAt, copiedQuads, Side, side, labelOf, lowOf, highOf, fourSides, sidesOf, edgeSides, twoLabels, rowSides, stripAt, rowsSheet, rowsMade, rowed}
+use Rattle.numeric.specs.Num.{half}
 use Rattle.rows.proofs.Put.{length-rows}
 
 -- ---- a copy that is found is finite
@@ -268,7 +269,7 @@ module _ (s : Sheet) where
     unfolding copiedQuads
     all-copied =
         all-tab (proper m) (copiedAt s) (length S)
-        ∙ every-on _ 0 (length S) (every-zero _) (omega arith) (λ i z h. copied-proper (getD labels i 0) (getD S i (quad 0 0 0 0)) (label-low i h) (quad-proper i h))
+        ∙ every-each _ (length S) (λ i h. copied-proper (getD labels i 0) (getD S i (quad 0 0 0 0)) (label-low i h) (quad-proper i h))
 
     of-quads : Each none OfQuad (sidesOf s)
     unfolding sidesOf

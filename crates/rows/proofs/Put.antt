@@ -14,7 +14,8 @@ use Rattle.lists.proofs.Laws.{getD-tab}
 use Rattle.lists.proofs.Every.{every-zero, every-suc, every-fails, count-mono}
 use Rattle.lists.proofs.Regions.{part-get}
 use Rattle.points.specs.declared.Point.{Point}
-use Rattle.points.specs.Points.{pointAt, withPoint}
+use Rattle.points.specs.Points.{pointAt}
+use Rattle.points.specs.Steps.{withPoint}
 use Rattle.band.specs.declared.Band.{Band}
 use Rattle.projection.specs.declared.Projected.{Projected}
 use Rattle.projection.specs.declared.Projected.the-variants.{Onto, Refused}

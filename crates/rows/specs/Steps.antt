@@ -10,7 +10,8 @@ use Rattle.lists.specs.Sort.{tabulate}
 use Rattle.lists.specs.Every.{countTo}
 use Rattle.lists.specs.Regions.{part, Part}
 use Rattle.points.specs.declared.Point.{Point}
-use Rattle.points.specs.Points.{addP, subP, pointAt, withPoint}
+use Rattle.points.specs.Points.{addP, subP, pointAt}
+use Rattle.points.specs.Steps.{withPoint}
 use Rattle.band.specs.declared.Band.{Band}
 use Rattle.projection.specs.declared.Projected.{Projected}
 use Rattle.rule_sheet.specs.declared.Counts.{Counts}

@@ -131,7 +131,7 @@ fn centres_at(
     ensures { λ r. ⌜ r ≡ centresOf (now (points .entry)) (now (quads .entry)) (keep (ofLabel (now (labels .entry)) l) (part from m (now (w .entry)))) ⌝ }
 {
     let mut c = Centres {
-        sum: smoothing::origin(),
+        sum: points::origin(),
         count: 0,
     };
     let mut j = 0;

@@ -10,11 +10,11 @@ use lib.Dec.{leb, ltb}
 use lib.ListN.{length, getD, set, length-set}
 use Rattle.lists.proofs.Every.{and-left, and-right}
 use Rattle.points.specs.declared.Point.{Point}
-use Rattle.points.specs.Points.{finiteP}
+use Rattle.points.specs.Points.{finiteP, origin}
 use Rattle.rule_sheet.specs.Quads.{Quad, quad, is, sum, all, valence}
 use Rattle.rule_sheet.specs.Sheet.{Sheet}
 use Rattle.rule_sheet.proofs.All.{all-get}
-use Rattle.rule_passes.specs.Choices.{choose, takeOr, nonePoint}
+use Rattle.rule_passes.specs.Choices.{choose, takeOr}
 use Rattle.rule_sheet.proofs.Base.{is-self}
 use Rattle.rule_regularize.proofs.Sweep.{none-some, cond-some, choose-some}
 use Rattle.rule_coarsen.specs.Merges.{Slot, out, slot, gathered}
@@ -30,7 +30,7 @@ module _ {A : Type 0} (p : A → Bool) where
 
 pub all-gathered : (p : Point → Bool) (ps : List Point) (l : List ℕ) → all p ps ≡ true → ((v : ℕ) → 0 < sum (is v) l → v < length ps) → all p (gathered ps l) ≡ true
 all-gathered p ps [] e h = refl
-all-gathered p ps (v ∷ l) e h = rw (all-get p ps v nonePoint e (h v (omega (arith, is-self v))), all-gathered p ps l e (λ w k. h w (omega arith))) refl
+all-gathered p ps (v ∷ l) e h = rw (all-get p ps v origin e (h v (omega (arith, is-self v))), all-gathered p ps l e (λ w k. h w (omega arith))) refl
 
 -- ---- the points of a pass
 

@@ -7,7 +7,7 @@ use lib.Dec.{eqb}
 use lib.Ieee.{Float}
 use Rattle.lists.specs.Every.{every}
 use Rattle.points.specs.declared.Point.{Point}
-use Rattle.points.specs.Points.{halfwayP}
+use Rattle.points.specs.Points.{halfwayP, pointIn}
 use Rattle.field.specs.declared.Field.{Field}
 use Rattle.band.specs.declared.Band.{Band}
 use Rattle.band.specs.Bands.{lengthOf, normalWith}
@@ -19,7 +19,8 @@ use Rattle.rule_sheet.specs.Sheet.{Sheet}
 use Rattle.rule_passes.specs.Choices.{noneQuad}
 use Rattle.rule_coarsen.specs.Coarse.{hasCorner, MergeFits, Position}
 use Rattle.rule_coarsen.specs.declared.Merge.{Merge}
-use Rattle.rule_passes.specs.Shapes.{pointIn, centreOf, quadShape, noWorse}
+use Rattle.rule_passes.specs.Shapes.{quadShape, noWorse}
+use Rattle.rule_sheet.specs.Places.{centreOf}
 
 -- "The joined mask": the labels of either point
 unfoldable pub joinedMask : List Quad → List ℕ → ℕ → ℕ → ℕ

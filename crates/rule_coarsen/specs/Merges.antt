@@ -8,7 +8,7 @@ use Rattle.points.specs.declared.Point.{Point}
 use Rattle.rule_sheet.specs.Quads.{Quad, quad}
 use Rattle.rule_sheet.specs.Flat.{flatQuads}
 use Rattle.rule_sheet.specs.FirstUse.{firsts, place}
-use Rattle.rule_passes.specs.Choices.{nonePoint}
+use Rattle.points.specs.Points.{origin}
 
 -- x, and a in place of c
 abbrev pub rename : ℕ → ℕ → ℕ → ℕ
@@ -58,4 +58,4 @@ renumber S = map (renameQuad (λ x. place x (order S))) S
 
 -- the points of some numbers, in their order
 abbrev pub gathered : List Point → List ℕ → List Point
-gathered ps l = map (λ v. getD ps v nonePoint) l
+gathered ps l = map (λ v. getD ps v origin) l

@@ -6,7 +6,7 @@ use mathlib.Core.List.{List, [], _∷_, map, foldl}
 use lib.Dec.{eqb, leb, ltb}
 use lib.ListN.{length, getD}
 use lib.Ieee.{binary64, div}
-use Rattle.numeric.specs.Num.{finiteOf}
+use Rattle.numeric.specs.Num.{finiteOf, float}
 use Rattle.points.specs.declared.Point.{Point}
 use Rattle.points.specs.Points.{one, addP, mulP, origin}
 use Rattle.band.specs.declared.Band.{Band}
@@ -22,7 +22,7 @@ use Rattle.rule_sheet.specs.Outcomes.{Outcome, refuses, gives, withRoom}
 use Rattle.rule_sheet.specs.Results.{countsOf}
 use Rattle.rule_extract.specs.declared.Grid.{Grid}
 use Rattle.rule_extract.specs.declared.Site.{Site}
-use Rattle.rule_extract.specs.Grids.{float, gridOf}
+use Rattle.rule_extract.specs.Grids.{gridOf}
 use Rattle.rule_extract.specs.Crossings.{crossingOf, crossedLabel}
 use Rattle.rule_extract.specs.Cells.{those}
 use Rattle.rule_extract.specs.Lattice.{siteAt, indexOf, sampleAt, insideAt, cellGroups, edgeSite}

@@ -1,20 +1,15 @@
 -- The grid that extraction lays over the box of a band. Document 01, "The drawn sheet".
 use Prim.Native.Nat.{ℕ}
 use mathlib.Core.Bool.{Bool, cond}
-use lib.IntN.{pos}
 use lib.Dec.{eqb}
-use lib.Ieee.{Float, binary64, div, ofBits, ofInt}
-use Rattle.numeric.specs.Num.{half}
+use lib.Ieee.{Float, binary64, div, ofBits}
+use Rattle.numeric.specs.Num.{half, float}
 use Rattle.points.specs.declared.Point.{Point}
 use Rattle.points.specs.Points.{_⊕_, _⊖_, _⊗_}
 use Rattle.band.specs.declared.Band.{Band}
 use Rattle.band.specs.Bands.{lengthOf}
 use Rattle.rule_extract.specs.declared.Grid.{Grid}
 use Rattle.rule_extract.specs.declared.Site.{Site}
-
--- a whole number as a float
-abbrev pub float : ℕ → Float
-float n = ofInt binary64 (pos n)
 
 -- 0.513
 abbrev pub below : Float

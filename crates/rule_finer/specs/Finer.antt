@@ -3,10 +3,10 @@ use Prim.Native.Nat.{ℕ, suc, _+_, _*_, min, max}
 use mathlib.Core.Bool.{cond}
 use mathlib.Core.List.{List, [], _∷_, _++_, map}
 use lib.Dec.{eqb}
-use lib.ListN.{length, getD}
-use lib.Ieee.{Float, binary64, ofBits}
+use lib.ListN.{length}
+use lib.Ieee.{Float}
 use Rattle.points.specs.declared.Point.{Point}
-use Rattle.points.specs.Points.{addP, mulP, halfwayP, origin}
+use Rattle.points.specs.Points.{halfwayP, centreP, pointIn}
 use Rattle.rule_sheet.specs.declared.Counts.{Counts}
 use Rattle.rule_sheet.specs.Quads.{Quad, quad, is, sum, all}
 use Rattle.rule_sheet.specs.FirstUse.{firsts, place}
@@ -60,14 +60,6 @@ finer n S = split (midOf n S) (cenOf n S) 0 S
 
 -- ---- the new points
 
--- 0.25
-abbrev pub quarter : Float
-quarter = ofBits binary64 0x3fd0_0000_0000_0000
-
--- the centre of a quad: the sum of its four points in order, from 0.0 on, times 0.25
-unfoldable pub centreP : Point → Point → Point → Point → Point
-centreP p q r s = mulP (addP (addP (addP (addP origin p) q) r) s) quarter
-
 -- a new point that is asked for: its key and where it would lie
 pub record Request : Type 0 where
   pub key : ℕ
@@ -92,10 +84,6 @@ requests at n i (quad a b c d ∷ S) =
 abbrev pub made : List ℕ → List Request → List Request
 made seen [] = []
 made seen (r ∷ l) = cond (eqb (sum (is (r .key)) seen) 0) (r ∷ made (seen ++ (r .key ∷ [])) l) (made seen l)
-
--- the point of a number
-abbrev pub pointIn : List Point → ℕ → Point
-pointIn ps v = getD ps v origin
 
 -- the new points: the first request of each key makes the point
 unfoldable pub newPoints : List Point → List Quad → List Point

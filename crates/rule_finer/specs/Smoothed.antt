@@ -8,12 +8,14 @@ use lib.ListN.{length, getD, replicate}
 use Rattle.lists.specs.Sort.{tabulate, consIf}
 use Rattle.lists.specs.Every.{countTo}
 use Rattle.points.specs.declared.Point.{Point}
+use Rattle.points.specs.Points.{pointIn}
 use Rattle.rule_sheet.specs.Quads.{Quad, quad, is, all, corners, at, uses, isEdge, hasLabel}
 use Rattle.rule_sheet.specs.Edges.{Pair, joinTo, edgesOf}
 use Rattle.rule_sheet.specs.Sheet.{Sheet}
-use Rattle.smoothing.specs.Smooth.{quadCentre, halfway, edgePoint, smooth}
+use Rattle.rule_sheet.specs.Places.{centreOf}
+use Rattle.smoothing.specs.Smooth.{halfway, edgePoint, smooth}
 use Rattle.smoothing.specs.Rounded.{pointwise}
-use Rattle.rule_finer.specs.Finer.{asked, pointIn, finerSheet}
+use Rattle.rule_finer.specs.Finer.{asked, finerSheet}
 
 -- the numbers below n that pass a test, ascending
 unfoldable pub those : (ℕ → Bool) → ℕ → List ℕ
@@ -71,10 +73,6 @@ labelCount s v = countTo (hasLabel (s .quads) (s .labels) v) 8
 -- point v
 abbrev pub pointOf : Sheet → ℕ → Point
 pointOf s v = pointIn (s .points) v
-
--- the centre of a quad
-abbrev pub centreOf : (ℕ → Point) → Quad → Point
-centreOf at (quad a b c d) = quadCentre pointwise (at a) (at b) (at c) (at d)
 
 -- the centre of quad i
 unfoldable pub centreAt : Sheet → ℕ → Point

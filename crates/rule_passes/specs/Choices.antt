@@ -2,8 +2,6 @@
 use mathlib.Core.Option.{Option, none, some}
 use mathlib.Core.Bool.{Bool, true, false}
 use Rattle.rule_sheet.specs.Quads.{Quad, quad}
-use Rattle.numeric.specs.Num.{zeroF}
-use Rattle.points.specs.declared.Point.{Point}
 
 -- what stands where a list has no quad
 abbrev pub noneQuad : Quad
@@ -21,7 +19,3 @@ choose false false b x y = none
 abbrev pub takeOr : {A : Type 0} → A → Option A → A
 takeOr st none = st
 takeOr st (some t) = t
-
--- what stands where a list has no point
-abbrev pub nonePoint : Point
-nonePoint = record { x = zeroF; y = zeroF; z = zeroF }

@@ -2,7 +2,7 @@
 use mathlib.Core.Bool.{cond}
 use mathlib.Core.List.{List, [], _∷_, foldl}
 use lib.Ieee.{Float, binary64, div, lt, ofBits}
-use Rattle.numeric.specs.Num.{zeroF, half, minOf}
+use Rattle.numeric.specs.Num.{zeroF, quarter, half, minOf}
 use Rattle.points.specs.declared.Point.{Point}
 use Rattle.points.specs.Points.{_⊕_, _⊖_, _⊗_, one, two, addP, subP, mulP, dotP, crossP, normP}
 use Rattle.rule_quality.specs.declared.Corners.{Corners}
@@ -29,10 +29,6 @@ shapeOf p n =
     (cornerOf (subP (p .p0) (p .p3)) (subP (p .p2) (p .p3)) n)
 
 -- ---- the least Jacobian
-
--- 0.25
-abbrev pub quarter : Float
-quarter = ofBits binary64 0x3fd0_0000_0000_0000
 
 -- 0.75
 abbrev pub threeQuarters : Float

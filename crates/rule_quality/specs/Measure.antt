@@ -2,19 +2,18 @@
 use Prim.Native.Nat.{ℕ, _+_, _-_}
 use mathlib.Core.Bool.{Bool, cond, not, _&&_}
 use mathlib.Core.List.{List, map, zipWith, foldl}
-use lib.IntN.{pos}
 use lib.ListN.{length, getD}
-use lib.Ieee.{Float, nan, binary64, div, lt, le, ofBits, ofInt}
-use Rattle.numeric.specs.Num.{zeroF, half, minOf, floorOf}
+use lib.Ieee.{Float, nan, binary64, div, lt, le, ofBits}
+use Rattle.numeric.specs.Num.{zeroF, twentieth, half, float, minOf, floorOf}
 use Rattle.points.specs.declared.Point.{Point}
-use Rattle.points.specs.Points.{_⊕_, _⊖_, _⊗_, one, negZero, addP, mulP, normP, origin, finiteP}
+use Rattle.points.specs.Points.{_⊕_, _⊖_, _⊗_, one, negZero, normP, centreP, finiteP}
 use Rattle.band.specs.declared.Band.{Band}
 use Rattle.band.specs.Bands.{normalOf}
 use Rattle.rule_sheet.specs.Quads.{Quad, quad, num, sum, all}
 use Rattle.rule_sheet.specs.Sheet.{Sheet}
 use Rattle.rule_quality.specs.Floats.{sortFloats}
 use Rattle.rule_quality.specs.declared.Corners.{Corners}
-use Rattle.rule_quality.specs.Cells.{quarter, shapeOf, leastJacobian, areaOf}
+use Rattle.rule_quality.specs.Cells.{shapeOf, leastJacobian, areaOf}
 use Rattle.rule_quality.specs.declared.Measures.{Measures}
 use Rattle.rule_quality.specs.declared.Measured.{Measured}
 use Rattle.rule_quality.specs.declared.Measured.the-variants.{Done, Refused}
@@ -29,9 +28,9 @@ nowhere = record { x = nan; y = nan; z = nan }
 unfoldable pub cornersOf : List Point → Quad → Corners
 cornersOf P (quad a b c d) = record { p0 = getD P a nowhere; p1 = getD P b nowhere; p2 = getD P c nowhere; p3 = getD P d nowhere }
 
--- the centre: the four points added up from +0.0 on, times 0.25
-unfoldable pub centreOf : Corners → Point
-centreOf p = mulP (addP (addP (addP (addP origin (p .p0)) (p .p1)) (p .p2)) (p .p3)) quarter
+-- the centre
+abbrev pub centreOf : Corners → Point
+centreOf p = centreP (p .p0) (p .p1) (p .p2) (p .p3)
 
 -- a quad's points, and the outward normal at its centre
 pub record Cell : Type 0 where
@@ -68,10 +67,6 @@ cellArea c = areaOf (c .corners)
 
 -- ---- lists of floats
 
--- a whole number as a float
-abbrev pub float : ℕ → Float
-float n = ofInt binary64 (pos n)
-
 -- the least, from plus infinity on
 unfoldable pub leastOf : List Float → Float
 leastOf l = foldl minOf (div binary64 one zeroF) l
@@ -101,10 +96,6 @@ scoreOf mean shape area = shape ⊗ cond (lt zeroF mean && lt zeroF area) (minOf
 -- the scores of the quads, by the mean of the areas
 unfoldable pub scoresOf : List Float → List Float → List Float
 scoresOf shapes areas = zipWith (scoreOf (meanOf areas)) shapes areas
-
--- 0.05
-abbrev pub twentieth : Float
-twentieth = ofBits binary64 0x3fa9_9999_9999_999a
 
 -- x without its whole part, for an x of at least 0
 unfoldable pub fractOf : Float → Float

@@ -7,7 +7,7 @@ use lib.Dec.{eqb}
 use lib.Ieee.{Float, binary64, div, lt, ofBits}
 use Rattle.numeric.specs.Num.{minOf}
 use Rattle.points.specs.declared.Point.{Point}
-use Rattle.points.specs.Points.{_⊕_, one, addP, mulP, origin}
+use Rattle.points.specs.Points.{_⊕_, one, addP, mulP, origin, pointIn}
 use Rattle.field.specs.declared.Field.{Field}
 use Rattle.band.specs.declared.Band.{Band}
 use Rattle.band.specs.Bands.{lengthOf, normalWith}
@@ -15,7 +15,7 @@ use Rattle.rule_sheet.specs.Quads.{Quad, quad}
 use Rattle.rule_regularize.specs.Swaps.{Hex, Fits}
 use Rattle.rule_passes.specs.Choices.{noneQuad}
 use Rattle.rule_regularize.specs.declared.Held.{Held}
-use Rattle.rule_passes.specs.Shapes.{leastRise, pointIn, quadShape, noWorse}
+use Rattle.rule_passes.specs.Shapes.{leastRise, quadShape, noWorse}
 
 -- 1.0 / 6.0
 abbrev pub sixth : Float

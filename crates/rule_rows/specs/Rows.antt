@@ -7,6 +7,7 @@ use lib.ListN.{length, getD}
 use lib.Ieee.{Float, binary64, ofBits}
 use Rattle.lists.specs.Sort.{tabulate, bucket}
 use Rattle.lists.specs.Every.{countTo}
+use Rattle.numeric.specs.Num.{half}
 use Rattle.points.specs.declared.Point.{Point}
 use Rattle.points.specs.Points.{_⊗_, addP, subP, mulP}
 use Rattle.band.specs.declared.Band.{Band}
@@ -68,10 +69,6 @@ inward s v l = let c = labelCentres s v l in subP (mean pointwise (sumOf pointwi
 -- 0.7
 abbrev pub firstStep : Float
 firstStep = ofBits binary64 0x3fe6_6666_6666_6666
-
--- 0.5
-abbrev pub half : Float
-half = ofBits binary64 0x3fe0_0000_0000_0000
 
 -- "twenty in all"
 abbrev pub tryCount : ℕ

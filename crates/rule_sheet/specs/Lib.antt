@@ -4,6 +4,7 @@ pub mod Edges
 pub mod Tests
 pub mod Numbers
 pub mod Sheet
+pub mod Places
 pub mod Closed
 pub mod FirstUse
 pub mod Outcomes

@@ -8,15 +8,15 @@ use lib.ListN.{length, length-append, length-map}
 use Rattle.lists.specs.Sort.{tabulate}
 use Rattle.lists.specs.Every.{every}
 use Rattle.lists.proofs.Laws.{length-tab}
-use Rattle.lists.proofs.Every.{every-at, every-on, every-zero}
+use Rattle.lists.proofs.Every.{every-at, every-each}
 use Rattle.points.specs.declared.Point.{Point}
-use Rattle.points.specs.Points.{finiteP}
+use Rattle.points.specs.Points.{finiteP, pointIn}
 use Rattle.band.specs.declared.Band.{Band}
 use Rattle.rule_sheet.specs.Quads.{Quad, all, maskOf}
 use Rattle.rule_sheet.specs.Sheet.{Sheet, isLarge}
 use Rattle.sheet.proofs.Tests.{few-of, all-tab}
 use Rattle.rule_sheet.specs.Results.{countsOf}
-use Rattle.rule_finer.specs.Finer.{asked, finer, fourLabels, finerSheet, pointIn, newPoints, positionOf, made, requests}
+use Rattle.rule_finer.specs.Finer.{asked, finer, fourLabels, finerSheet, newPoints, positionOf, made, requests}
 use Rattle.refine.specs.Finer.{finerCount, keyOf}
 use Rattle.refine.proofs.Requests.{asked-made}
 use Rattle.rule_finer.specs.Smoothed.{oldPoint, newPlace, pointOf, smoothSheet}
@@ -56,8 +56,8 @@ module _ (b : Band) (s : Sheet) where
   unfolding landing
   made-finite e =
       all-tab finiteP placed (finerCount n S)
-      ∙ every-on (λ v. finiteP (placed v)) 0 (finerCount n S) (every-zero (λ v. finiteP (placed v))) (omega arith)
-      (λ v z l. onto-finite b (pointOf (smoothSheet s) v) (maskOf (smoothSheet s .quads) (smoothSheet s .labels) v) (every-at (landsAt b (smoothSheet s)) _ v e (omega (arith, smooth-count))))
+      ∙ every-each (λ v. finiteP (placed v)) (finerCount n S)
+      (λ v l. onto-finite b (pointOf (smoothSheet s) v) (maskOf (smoothSheet s .quads) (smoothSheet s .labels) v) (every-at (landsAt b (smoothSheet s)) _ v e (omega (arith, smooth-count))))
 
   pub made-kept : Good s → isLarge (countsOf (finerSheet s)) ≡ false → every (landsAt b (smoothSheet s)) (length (smoothSheet s .points)) ≡ true → Keeps s (projectedSheet b (smoothSheet s)) 0
   unfolding finerSheet

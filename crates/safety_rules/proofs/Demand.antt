@@ -11,7 +11,7 @@ use borrow.Author.Tests.{ne-eqb}
 use Rattle.lists.specs.Sort.{itself}
 use Rattle.lists.proofs.Laws.{length-tab}
 use Rattle.points.specs.declared.Point.{Point}
-use Rattle.points.specs.Points.{finiteP}
+use Rattle.points.specs.Points.{finiteP, origin}
 use Rattle.rule_sheet.specs.Quads.{Quad, all, uses, valence, touches}
 use Rattle.rule_sheet.specs.Sheet.{Sheet, limit}
 use Rattle.rule_sheet.specs.Closed.{Rings}
@@ -21,7 +21,7 @@ use Rattle.refine.specs.Finer.{finerCount}
 use Rattle.rule_sheet.specs.Squared.{sq, squared}
 use Rattle.rule_sheet.specs.Claims.{Below, Differ, All, NoClash, Low}
 use Rattle.rule_passes.specs.Runs.{run}
-use Rattle.rule_passes.specs.Choices.{noneQuad, nonePoint}
+use Rattle.rule_passes.specs.Choices.{noneQuad}
 use Rattle.rule_regularize.specs.Swaps.{Fits, swapPass, swapRun, NoSwap}
 use Rattle.rule_sheet.proofs.Weigh.{rings-closed}
 use Rattle.rule_sheet.proofs.Labels.{label-sum-map}
@@ -217,7 +217,7 @@ in-use-le n S = go n
     go (suc n) = omega (arith, one (eqb (valence S n) 0), go n)
 
 length-gathered : (ps : List Point) (S : List Slot) → length (gathered ps (order (live S))) ≡ length (order (live S))
-length-gathered ps S = length-map (order (live S)) (λ v. getD ps v nonePoint)
+length-gathered ps S = length-map (order (live S)) (λ v. getD ps v origin)
 
 -- What a pass leaves of an accepted sheet, closed or not, is accepted.
 module _ (s : Sheet) (ps : List Point) (S : List Slot) (U : ℕ → Type 0) (c : ℕ) (p : Merges (s .quads) (s .labels) (map slot (s .quads)) U S c)

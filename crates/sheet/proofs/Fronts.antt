@@ -7,7 +7,8 @@ use lib.ListN.{length, getD, set, take, drop, length-append, length-set}
 use lib.Seq.{take-suc-set, take-at, getD-take, set-getD}
 use lib.Ieee.{Float, nan}
 use Rattle.points.specs.declared.Point.{Point}
-use Rattle.points.specs.Points.{origin, pointAt, withPoint}
+use Rattle.points.specs.Points.{origin, pointAt}
+use Rattle.points.specs.Steps.{withPoint}
 use Rattle.lists.specs.Sort.{tabulate}
 use Rattle.lists.proofs.Laws.{length-tab, is-table, Filled, filled-end}
 use Rattle.rule_sheet.specs.Quads.{Quad, quad}

@@ -3,18 +3,11 @@
 ghost use mathlib.Core.Path.{_≡_};
 ghost use lib.Ieee.{binary64, div};
 ghost use Rattle.points.specs.Points.{one, mulP};
-ghost use Rattle.smoothing.specs.Smooth.{mean as meanOf, quadCentre, edgePoint, creasePoint, interiorBy};
-ghost use Rattle.smoothing.specs.Rounded.{wholeOf, pointwise};
+ghost use Rattle.smoothing.specs.Smooth.{mean as meanOf, edgePoint, creasePoint, interiorBy};
+ghost use Rattle.smoothing.specs.Rounded.{pointwise};
 use points::Point;
 use points::add;
 use points::mul;
-
-// A whole number as f64.
-pub fn whole(n: usize) -> f64
-    ensures { λ r. ⌜ r ≡ wholeOf n ⌝ }
-{
-    std::num::nearest_u64_to_f64(n as u64)
-}
 
 // Each coordinate times the reciprocal of n.
 fn shared_by(sum: Point, n: f64) -> Point
@@ -32,25 +25,7 @@ fn shared_by(sum: Point, n: f64) -> Point
 pub fn mean(sum: Point, n: usize) -> Point
     ensures { λ r. ⌜ r ≡ meanOf pointwise sum n ⌝ }
 {
-    shared_by(sum, whole(n))
-}
-
-// The zero that sums of points start from.
-pub fn origin() -> Point
-    ensures { λ r. ⌜ r ≡ pointwise .whole 0 ⌝ }
-{
-    Point {
-        x: 0.0,
-        y: 0.0,
-        z: 0.0,
-    }
-}
-
-// The centre of the quad p, q, r, s.
-pub fn centre(p: Point, q: Point, r: Point, s: Point) -> Point
-    ensures { λ c. ⌜ c ≡ quadCentre pointwise p q r s ⌝ }
-{
-    mul(add(add(add(add(origin(), p), q), r), s), 0.25)
+    shared_by(sum, numeric::float(n))
 }
 
 // The new point of the edge from a to b inside one label, f and g being the centres of its quads in quad order.
@@ -73,5 +48,8 @@ pub fn interior_point(p: Point, n: usize, faces: Point, m: usize, edges: Point) 
 {
     let face = mean(faces, n);
     let edge = mean(edges, m);
-    mean(add(add(face, mul(edge, 2.0)), mul(p, whole(n) - 3.0)), n)
+    mean(
+        add(add(face, mul(edge, 2.0)), mul(p, numeric::float(n) - 3.0)),
+        n,
+    )
 }

@@ -13,7 +13,8 @@ use Rattle.lists.specs.Every.{every}
 use Rattle.lists.proofs.Laws.{length-tab, tab-suc}
 use Rattle.lists.proofs.Every.{every-zero, every-suc, every-fails}
 use Rattle.points.specs.declared.Point.{Point}
-use Rattle.points.specs.Points.{pointAt, withPoint}
+use Rattle.points.specs.Points.{pointAt}
+use Rattle.points.specs.Steps.{withPoint}
 use Rattle.band.specs.declared.Band.{Band}
 use Rattle.band.specs.Bands.{lengthOf}
 use Rattle.projection.specs.declared.Projected.{Projected}

@@ -27,7 +27,8 @@ use Rattle.sheet.proofs.Masks.{bit-pack}
 use Rattle.sheet.proofs.Tests.{length-points}
 use Rattle.incidence.specs.Corners.{Cornered, edgeOrder}
 use Rattle.refine.proofs.Edges.{sorted}
-use Rattle.rule_finer.specs.Smoothed.{those, timed, sides, edgeQuads, pointQuads, paired, isCrease, neighbours, creases, labelCount, pointOf, centreOf, centreAt, oldPoint, keep}
+use Rattle.rule_finer.specs.Smoothed.{those, timed, sides, edgeQuads, pointQuads, paired, isCrease, neighbours, creases, labelCount, pointOf, centreAt, oldPoint, keep}
+use Rattle.rule_sheet.specs.Places.{centreOf}
 use Rattle.subdivide_points.specs.Steps.{onesOf, Ends, cornerCentre, otherEnd, creaseAt, creaseEnds, movedPoint, flatSheet}
 use Rattle.subdivide_points.proofs.Quads.{quadOf, num-cond, point-quads}
 use Rattle.subdivide_points.proofs.Joins.{others-ascend}
@@ -102,7 +103,7 @@ module _ {np nq : ℕ} {Q : List ℕ} (C : Cornered np nq Q) (P : List Float) (l
   point-is v h = getD-tab (pointAt P) np v _ h
 
   pub centre-is : (i : ℕ) → i < nq → centreOf (pointAt P) (quadAt Q i) ≡ centreAt (flatSheet np nq P Q labels) i
-  unfolding centreAt quadsOf
+  unfolding centreOf centreAt quadsOf
   centre-is i h =
       let c : (j : ℕ) → j < 4 → pointOf (flatSheet np nq P Q labels) (corner Q i j) ≡ pointAt P (corner Q i j) = λ j b. point-is (corner Q i j) (C .points (4 * i + j) (omega arith)) in
       rw (getD-tab (quadAt Q) nq i (quad 0 0 0 0) h, c 0 (omega arith), c 1 (omega arith), c 2 (omega arith), c 3 (omega arith))

@@ -1,6 +1,6 @@
 -- Sums over a part of the work slice, one element more at a time. Assumes nothing.
 use Prim.Native.Nat.{ℕ, _+_, _-_, _*_, _/_, _%_, _≤_, _<_}
-use mathlib.Core.Path.{_≡_, ap, _∙_}
+use mathlib.Core.Path.{_≡_, sym, ap, _∙_}
 use mathlib.Core.List.{List, [], _∷_, _++_, map, map-append}
 use native.Mathlib.Omega.{arith}
 use native.Mathlib.Numerals.{add-one}
@@ -12,8 +12,9 @@ use Rattle.points.specs.declared.Point.{Point}
 use Rattle.smoothing.specs.Smooth.{sumOf}
 use Rattle.smoothing.specs.Rounded.{pointwise}
 use Rattle.refine.specs.Loops.{Held}
+use Rattle.smoothing.proofs.ByPoints.{origin-by}
 use Rattle.smoothing.proofs.Coordinates.{sum-snoc, halfway-by}
-use Rattle.points.specs.Points.{addP, halfwayP, pointAt}
+use Rattle.points.specs.Points.{addP, halfwayP, origin, pointAt}
 use Rattle.subdivide_points.specs.Steps.{Below, otherEnd, halfwayTo}
 
 -- a part with one element more
@@ -31,9 +32,9 @@ pub record Sum (g : ℕ → Point) (from m : ℕ) (w : List ℕ) (s : Point) (j 
   pub j≤ : j ≤ m
   pub is : s ≡ sumOf pointwise (map g (part from j w))
 
-pub sum-start : (g : ℕ → Point) (from m : ℕ) (w : List ℕ) (s : Point) → s ≡ pointwise .whole 0 → Sum g from m w s 0
+pub sum-start : (g : ℕ → Point) (from m : ℕ) (w : List ℕ) (s : Point) → s ≡ origin → Sum g from m w s 0
 unfolding sumOf
-sum-start g from m w s e = record { j≤ = omega arith; is = e }
+sum-start g from m w s e = record { j≤ = omega arith; is = e ∙ sym origin-by }
 
 pub sum-turn : {g : ℕ → Point} {from m : ℕ} {w : List ℕ} {s : Point} {j : ℕ} (x : ℕ) (p r : Point) → Sum g from m w s j → j < m → from + m ≤ length w
     → x ≡ getD w (from + j) 0 → p ≡ g x → r ≡ addP s p → Sum g from m w r (j + 1)

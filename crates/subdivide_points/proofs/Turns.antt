@@ -27,7 +27,8 @@ use Rattle.smoothing.proofs.Coordinates.{halfway-by}
 use Rattle.refine.specs.Requests.{own}
 use Rattle.refine.specs.Loops.{Held, orderAt}
 use Rattle.subdivide_points.specs.declared.Creases.{Creases}
-use Rattle.rule_finer.specs.Smoothed.{centreOf, keep}
+use Rattle.rule_finer.specs.Smoothed.{keep}
+use Rattle.rule_sheet.specs.Places.{centreOf}
 use Rattle.subdivide_points.specs.Steps.{onesOf, cornerCentre, otherEnd, halfwayTo, creaseAt, creaseEnds, creasesOf, movedBy, interiorAt, movedPoint, edgeAt, cornerOf, placeAt, masksAt, Spans, movedIn, Placing}
 use Rattle.subdivide_points.proofs.Moved.{map-map}
 

@@ -20,7 +20,8 @@ ghost use Rattle.incidence.specs.Marks.{Incident};
 ghost use Rattle.smoothing.specs.Smooth.{sumOf};
 ghost use Rattle.smoothing.specs.Rounded.{pointwise};
 ghost use Rattle.refine.specs.Loops.{Held, orderAt, madeTo, putRequest, Numbered};
-ghost use Rattle.rule_finer.specs.Smoothed.{centreOf, paired, smoothSheet};
+ghost use Rattle.rule_finer.specs.Smoothed.{paired, smoothSheet};
+ghost use Rattle.rule_sheet.specs.Places.{centreOf};
 ghost use Rattle.subdivide_points.specs.Steps.{onesOf, Below, endAt, Ends, Pairing, Seconds, cornerCentre, otherEnd, halfwayTo, creaseAt, creasesOf, withCrease, creaseEnds, movedBy, interiorAt, edgeAt, cornerOf, placeAt, secondsAt, BeforeScratch, Spans, Listed, Gathered, movedIn, Placing, Gathering, Smoothable, flatSheet};
 
 // Regions of the work slice behind those of the finer sheet, in units of points and quads together: the masks, a region that sorts use, the corners of
@@ -113,7 +114,7 @@ pub fn centre_at(points: &[f64], quads: &[u32], np: usize, nq: usize, q: usize) 
     let b = refine::corner_point(points, quads, np, nq, q, 1);
     let c = refine::corner_point(points, quads, np, nq, q, 2);
     let d = refine::corner_point(points, quads, np, nq, q, 3);
-    smoothing::centre(a, b, c, d)
+    points::centre(a, b, c, d)
 }
 
 // The sum of the centres of the quads of the m corners at from.
@@ -130,7 +131,7 @@ fn sum_centres(
     requires { ⌜ Below (4 * nq) from m (now w) ⌝ }
     ensures { λ r. ⌜ r ≡ sumOf pointwise (map (cornerCentre (now (points .entry)) (now (quads .entry))) (part from m (now (w .entry)))) ⌝ }
 {
-    let mut sum = smoothing::origin();
+    let mut sum = points::origin();
     let mut j = 0;
     while j < m {
         let c = lists::at(w, from + j);
@@ -163,7 +164,7 @@ fn sum_halfways(
     requires { ⌜ Below (4 * nq) from m (now w) ⌝ }
     ensures { λ r. ⌜ r ≡ sumOf pointwise (map (halfwayTo p (now (points .entry)) (now (ends .entry))) (part from m (now (w .entry)))) ⌝ }
 {
-    let mut sum = smoothing::origin();
+    let mut sum = points::origin();
     let mut j = 0;
     while j < m {
         let i = lists::at(w, from + j);

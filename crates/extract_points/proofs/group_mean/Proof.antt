@@ -13,8 +13,11 @@ Inv-loop g n c i kind k w groups s₀ e₀ s e = Summing g c k s e
 abbrev μ-loop : tie.MeasureT-loop
 μ-loop g n c i kind k w groups s₀ e₀ s e = 12 - e
 
+origin-requires : tie.Need-origin-requires Inv-loop μ-loop
+origin-requires c κs = tt
+
 loop-holds : tie.Need-loop-holds Inv-loop μ-loop
-loop-holds c = summing-start _ _ _
+loop-holds c = summing-start _ _ _ (c .origin .ensures)
 
 mul-add-member : tie.Need-mul-add-member Inv-loop μ-loop
 mul-add-member c = search needs
@@ -23,7 +26,7 @@ array-read-add-member : tie.Need-array-read-add-member Inv-loop μ-loop
 array-read-add-member c = c .loop-test .taken
 
 add-member-requires : tie.Need-add-member-requires Inv-loop μ-loop
-add-member-requires c κs = let p = c .before .before .before .pre in let i = c .before .loop .inv in let l = i .count≤ in let h = i .e≤ in (p .0, (p .1 .0, (c .loop-test .taken, (p .1 .1 .kinds, omega arith))))
+add-member-requires c κs = let p = c .before .before .before .before .pre in let i = c .before .loop .inv in let l = i .count≤ in let h = i .e≤ in (p .0, (p .1 .0, (c .loop-test .taken, (p .1 .1 .kinds, omega arith))))
 
 add-e : tie.Need-add-e Inv-loop μ-loop
 add-e c = omega arith
@@ -32,16 +35,16 @@ loop-less : tie.Need-loop-less Inv-loop μ-loop
 loop-less c = omega arith
 
 loop-again : tie.Need-loop-again Inv-loop μ-loop
-loop-again c = let p = c .before .before .before .before .pre in summing-turn (c .before .before .loop .inv) (c .before .loop-test .taken) (member-is _ _ (p .1 .1) (c .before .loop-test .taken)) (c .add-member .ensures)
+loop-again c = let p = c .before .before .before .before .before .pre in summing-turn (c .before .before .loop .inv) (c .before .loop-test .taken) (member-is _ _ (p .1 .1) (c .before .loop-test .taken)) (c .add-member .ensures)
 
-nearest-u64-to-f64-requires : tie.Need-nearest-u64-to-f64-requires Inv-loop μ-loop
-nearest-u64-to-f64-requires c κs = search needs
+float-requires : tie.Need-float-requires Inv-loop μ-loop
+float-requires c κs = search needs
 
 mul-requires : tie.Need-mul-requires Inv-loop μ-loop
 mul-requires c κs = search needs
 
 returns : tie.Need-returns Inv-loop μ-loop
-returns c = summing-end (c .before .before .before .loop .inv) (c .before .before .loop-test .left) (c .before .nearest-u64-to-f64 .ensures) (c .mul .ensures)
+returns c = summing-end (c .before .before .before .loop .inv) (c .before .before .loop-test .left) (c .before .float .ensures) (c .mul .ensures)
 
 pub group-mean-spec : {M : Type 1} → statement M
 group-mean-spec =
@@ -49,6 +52,7 @@ group-mean-spec =
     (tie.spec
     Inv-loop
     μ-loop
+    origin-requires
     loop-holds
     mul-add-member
     array-read-add-member
@@ -56,6 +60,6 @@ group-mean-spec =
     add-e
     loop-less
     loop-again
-    nearest-u64-to-f64-requires
+    float-requires
     mul-requires
     returns)

@@ -4,12 +4,12 @@ use borrow.Author.Needs.{needs}
 use Rattle.extract_samples.proofs.coordinate.Statement.{statement}
 use Rattle.extract_samples.proofs.coordinate.Tie as tie
 
-nearest-u64-to-f64-requires : tie.Need-nearest-u64-to-f64-requires
-nearest-u64-to-f64-requires c κs = search needs
+float-requires : tie.Need-float-requires
+float-requires c κs = search needs
 
 returns : tie.Need-returns
 unfolding coordinateOf
 returns c = cc
 
 pub coordinate-spec : {M : Type 1} → statement M
-coordinate-spec = tie.close (tie.spec nearest-u64-to-f64-requires returns)
+coordinate-spec = tie.close (tie.spec float-requires returns)

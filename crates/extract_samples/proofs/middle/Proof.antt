@@ -11,8 +11,8 @@ returns : tie.Need-returns
 unfolding middleOf
 returns c = simp (c .before .if1 .taken) (c .coordinate .ensures)
 
-nearest-u64-to-f64-requires : tie.Need-nearest-u64-to-f64-requires
-nearest-u64-to-f64-requires c κs = search needs
+float-requires : tie.Need-float-requires
+float-requires c κs = search needs
 
 returns-2 : tie.Need-returns-2
 unfolding middleOf
@@ -20,4 +20,4 @@ returns-2 c = simp (c .before .if1 .left) cc
 
 pub middle-spec : {M : Type 1} → statement M
 middle-spec =
-    tie.close (tie.spec coordinate-requires returns nearest-u64-to-f64-requires returns-2)
+    tie.close (tie.spec coordinate-requires returns float-requires returns-2)

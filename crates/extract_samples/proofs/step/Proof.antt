@@ -4,12 +4,12 @@ use borrow.Author.Needs.{needs}
 use Rattle.extract_samples.proofs.step.Statement.{statement}
 use Rattle.extract_samples.proofs.step.Tie as tie
 
-nearest-u64-to-f64-requires : tie.Need-nearest-u64-to-f64-requires
-nearest-u64-to-f64-requires c κs = search needs
+float-requires : tie.Need-float-requires
+float-requires c κs = search needs
 
 returns : tie.Need-returns
 unfolding stepOf
 returns c = cc
 
 pub step-spec : {M : Type 1} → statement M
-step-spec = tie.close (tie.spec nearest-u64-to-f64-requires returns)
+step-spec = tie.close (tie.spec float-requires returns)

@@ -4,6 +4,9 @@ use Rattle.rule_regularize.specs.SwapFits.{hexCentre}
 use Rattle.pass_shapes.proofs.hex_centre.Statement.{statement}
 use Rattle.pass_shapes.proofs.hex_centre.Tie as tie
 
+origin-requires : tie.Need-origin-requires
+origin-requires c κs = tt
+
 added-requires : tie.Need-added-requires
 added-requires c κs = search needs
 
@@ -33,6 +36,7 @@ pub hex-centre-spec : {M : Type 1} → statement M
 hex-centre-spec =
     tie.close
     (tie.spec
+    origin-requires
     added-requires
     added-requires-2
     added-requires-3

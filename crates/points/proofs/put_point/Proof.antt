@@ -1,5 +1,5 @@
 -- `points::put_point` meets its contract. Assumes nothing.
-use Rattle.points.specs.Points.{withPoint}
+use Rattle.points.specs.Steps.{withPoint}
 use lib.ListN.{length-set}
 use native.Mathlib.Omega.{arith}
 use borrow.Author.Needs.{needs}

@@ -7,12 +7,12 @@ use Rattle.quality_measures.proofs.fract.Tie as tie
 floor-requires : tie.Need-floor-requires
 floor-requires c κs = search needs
 
-nearest-u64-to-f64-requires : tie.Need-nearest-u64-to-f64-requires
-nearest-u64-to-f64-requires c κs = search needs
+float-requires : tie.Need-float-requires
+float-requires c κs = search needs
 
 returns : tie.Need-returns
 unfolding fractOf
 returns c = cc
 
 pub fract-spec : {M : Type 1} → statement M
-fract-spec = tie.close (tie.spec floor-requires nearest-u64-to-f64-requires returns)
+fract-spec = tie.close (tie.spec floor-requires float-requires returns)

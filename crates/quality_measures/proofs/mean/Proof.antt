@@ -7,12 +7,12 @@ use Rattle.quality_measures.proofs.mean.Tie as tie
 total-requires : tie.Need-total-requires
 total-requires c κs = search needs
 
-nearest-u64-to-f64-requires : tie.Need-nearest-u64-to-f64-requires
-nearest-u64-to-f64-requires c κs = search needs
+float-requires : tie.Need-float-requires
+float-requires c κs = search needs
 
 returns : tie.Need-returns
 unfolding meanOf
 returns c = cc
 
 pub mean-spec : {M : Type 1} → statement M
-mean-spec = tie.close (tie.spec total-requires nearest-u64-to-f64-requires returns)
+mean-spec = tie.close (tie.spec total-requires float-requires returns)

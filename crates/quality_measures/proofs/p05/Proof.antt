@@ -11,12 +11,12 @@ use Rattle.quality_measures.proofs.p05.Tie as tie
 sub-last : tie.Need-sub-last
 sub-last c = search needs
 
-nearest-u64-to-f64-requires : tie.Need-nearest-u64-to-f64-requires
-nearest-u64-to-f64-requires c κs = search needs
+float-requires : tie.Need-float-requires
+float-requires c κs = search needs
 
 value-at-place-requires : tie.Need-value-at-place-requires
 value-at-place-requires c κs = let B = beside (length (c .before .before .args .s .now) - 1) (omega arith) in
-    rw (c .nearest-u64-to-f64 .ensures) (omega (arith, B .low), (omega (arith, B .low), omega (arith, B .high)))
+    rw (c .float .ensures) (omega (arith, B .low), (omega (arith, B .low), omega (arith, B .high)))
 
 returns : tie.Need-returns
 unfolding p05Of
@@ -24,4 +24,4 @@ returns c = cc
 
 pub p05-spec : {M : Type 1} → statement M
 p05-spec =
-    tie.close (tie.spec sub-last nearest-u64-to-f64-requires value-at-place-requires returns)
+    tie.close (tie.spec sub-last float-requires value-at-place-requires returns)

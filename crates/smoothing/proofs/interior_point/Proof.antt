@@ -15,8 +15,8 @@ mul-requires c κs = tt
 add-requires : tie.Need-add-requires
 add-requires c κs = tt
 
-whole-requires : tie.Need-whole-requires
-whole-requires c κs = tt
+float-requires : tie.Need-float-requires
+float-requires c κs = tt
 
 mul-requires-2 : tie.Need-mul-requires-2
 mul-requires-2 c κs = tt
@@ -30,7 +30,7 @@ mean-requires-3 c κs = tt
 returns : tie.Need-returns
 returns c =
     let d = c .before .before .before .before in
-    rw (interior-by, c .mean3 .ensures, c .before .add2 .ensures, c .before .before .mul2 .ensures, c .before .before .before .whole .ensures)
+    rw (interior-by, c .mean3 .ensures, c .before .add2 .ensures, c .before .before .mul2 .ensures, c .before .before .before .float .ensures)
     (rw (d .add .ensures, d .before .mul .ensures, d .before .before .mean2 .ensures, d .before .before .before .mean .ensures))
 
 pub interior-point-spec : {M : Type 1} → statement M
@@ -41,7 +41,7 @@ interior-point-spec =
     mean-requires-2
     mul-requires
     add-requires
-    whole-requires
+    float-requires
     mul-requires-2
     add-requires-2
     mean-requires-3

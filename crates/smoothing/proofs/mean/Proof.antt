@@ -4,15 +4,15 @@ use Rattle.smoothing.proofs.ByPoints.{mean-by}
 use Rattle.smoothing.proofs.mean.Statement.{statement}
 use Rattle.smoothing.proofs.mean.Tie as tie
 
-whole-requires : tie.Need-whole-requires
-whole-requires c κs = tt
+float-requires : tie.Need-float-requires
+float-requires c κs = tt
 
 shared-by-requires : tie.Need-shared-by-requires
 shared-by-requires c κs = tt
 
 returns : tie.Need-returns
 unfolding reciprocalOf
-returns c = rw (mean-by, c .shared-by .ensures, c .before .whole .ensures)
+returns c = rw (mean-by, c .shared-by .ensures, c .before .float .ensures)
 
 pub mean-spec : {M : Type 1} → statement M
-mean-spec = tie.close (tie.spec whole-requires shared-by-requires returns)
+mean-spec = tie.close (tie.spec float-requires shared-by-requires returns)

@@ -1,7 +1,7 @@
--- `smoothing::centre` meets its contract. Assumes nothing.
-use Rattle.smoothing.proofs.ByPoints.{centre-by}
-use Rattle.smoothing.proofs.centre.Statement.{statement}
-use Rattle.smoothing.proofs.centre.Tie as tie
+-- `points::centre` meets its contract. Assumes nothing.
+use Rattle.points.specs.Points.{centreP}
+use Rattle.points.proofs.centre.Statement.{statement}
+use Rattle.points.proofs.centre.Tie as tie
 
 origin-requires : tie.Need-origin-requires
 origin-requires c κs = tt
@@ -22,7 +22,8 @@ mul-requires : tie.Need-mul-requires
 mul-requires c κs = tt
 
 returns : tie.Need-returns
-returns c = rw (centre-by, c .mul .ensures, c .before .add4 .ensures, c .before .before .add3 .ensures, c .before .before .before .add2 .ensures, c .before .before .before .before .add .ensures, c .before .before .before .before .before .origin .ensures)
+unfolding centreP
+returns c = cc
 
 pub centre-spec : {M : Type 1} → statement M
 centre-spec =
