@@ -75,7 +75,8 @@ axisValidOf lo hi = finiteOf lo && finiteOf hi && lt lo hi
 
 -- the upper level is finite, the lower one finite or minus infinity, and they are in order
 unfoldable pub levelsValidOf : Float → Float → Bool
-levelsValidOf lower upper = (finiteOf lower || eq lower (div binary64 (neg one) zeroF)) && finiteOf upper && lt lower upper
+levelsValidOf lower upper =
+    (finiteOf lower || eq lower (div binary64 (neg one) zeroF)) && finiteOf upper && lt lower upper
 
 -- levels, bounds and length pass `validate`
 unfoldable pub validOf : Band → Bool

@@ -4,7 +4,8 @@ use field::Field;
 use field::FieldGradient;
 use points::Point;
 ghost use mathlib.Core.Path.{_≡_};
-ghost use Rattle.band.specs.Bands.{lengthOf, differenceOf, centralOf, gradientWith, sideOf, levelSignOf, faceNormalOf, normalWith, axisValidOf, levelsValidOf, validOf};
+ghost use Rattle.band.specs.Bands.{lengthOf, differenceOf, centralOf, gradientWith, sideOf, levelSignOf};
+ghost use Rattle.band.specs.Bands.{faceNormalOf, normalWith, axisValidOf, levelsValidOf, validOf};
 
 // The box from low to high, the levels lower and upper, and the field.
 pub struct Band {
@@ -15,7 +16,8 @@ pub struct Band {
     pub field: Field,
 }
 
-// The box diagonal. It calls `sqrt` itself and not `norm`: with two callers `sqrt` stays a function, and `norm` goes in line.
+// The box diagonal. It calls `sqrt` itself and not `norm`: with two callers `sqrt` stays a function, and `norm` goes
+// in line.
 pub fn length(b: Band) -> f64
     ensures { λ r. ⌜ r ≡ lengthOf b ⌝ }
 {

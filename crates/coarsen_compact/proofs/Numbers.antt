@@ -25,7 +25,8 @@ use Rattle.rule_sheet.proofs.Sums.{upto, sum-append}
 use Rattle.sheet.specs.Results.{Front}
 use Rattle.sheet.proofs.Fronts.{front-none, front-filled, front-point, length-with}
 use Rattle.rule_coarsen.proofs.Renumber.{Apart, firsts-apart, firsts-some, sum-by-point}
-use Rattle.coarsen_compact.specs.Compact.{nth, usedIn, numberIn, pointsIn, Meeting, Numbering}
+use Rattle.coarsen_compact.specs.Compact.{usedIn, numberIn, pointsIn, Meeting, Numbering}
+use Rattle.lists.specs.Steps.{nth}
 
 -- ---- the points in use
 

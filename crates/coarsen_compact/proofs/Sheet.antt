@@ -23,7 +23,8 @@ use Rattle.sheet.proofs.Results.{length-flat-points}
 use Rattle.rule_coarsen.specs.Merges.{Slot, out, slot, live, liveLabels, renameQuad, order, renumber, gathered}
 use Rattle.rule_coarsen.proofs.MergePass.{live-length}
 use Rattle.rule_coarsen.proofs.Renumber.{renumber-length}
-use Rattle.coarsen_compact.specs.Compact.{compacted, Begins, Compacting, quadStays, cornerStays, packed, nth, usedIn, numberIn, pointsIn, Numbering}
+use Rattle.coarsen_compact.specs.Compact.{compacted, Begins, Compacting, quadStays, cornerStays, packed, usedIn, numberIn, pointsIn, Numbering}
+use Rattle.lists.specs.Steps.{nth}
 use Rattle.rule_coarsen.specs.Invariants.{slotAt, slotsOf}
 use Rattle.rule_coarsen.proofs.Slots.{length-slots}
 use Rattle.coarsen_compact.proofs.Packing.{packed-suc}

@@ -8,6 +8,7 @@ use lib.ListN.{length, getD, take, replicate}
 use lib.Ieee.{Float}
 use Rattle.lists.specs.Sort.{tabulate}
 use Rattle.lists.specs.Regions.{Part}
+use Rattle.lists.specs.Steps.{nth}
 use Rattle.points.specs.declared.Point.{Point}
 use Rattle.points.specs.Points.{pointAt}
 use Rattle.rule_sheet.specs.declared.Counts.{Counts}
@@ -57,10 +58,6 @@ packed p l zero = []
 packed p l (suc n) = packed p l n ++ cond (p n) (getD l n 0 ∷ []) []
 
 -- ---- the numbers
-
--- element i of a list
-abbrev pub nth : List ℕ → ℕ → ℕ
-nth l i = getD l i 0
 
 -- the points of the first n corners, in the order of their first use
 unfoldable pub usedIn : List ℕ → ℕ → List ℕ

@@ -9,22 +9,22 @@ use native.Mathlib.Omega.{arith}
 use native.Mathlib.Numerals.{add-one}
 use lib.Dec.{eqb, eqb→eq}
 use lib.ListN.{length, getD, List·getD-eq-default}
-use Rattle.lists.specs.Sort.{tabulate, consIf}
+use Rattle.lists.specs.Sort.{tabulate, consIf, keep}
 use Rattle.lists.proofs.Laws.{length-tab, getD-tab, lt-or-le}
 use Rattle.lists.proofs.Every.{and-left, and-right}
-use Rattle.rule_extract.specs.Cells.{those, lowEnd, highEnd, crosses, edgesOn, crossingsOn, fourOn, Pair, pair, pairsIn, isEnd, sharedBy, parted, pairsOf, mergedAt, merged, groupsTo, groupsOf}
+use Rattle.rule_extract.specs.Cells.{lowEnd, highEnd, crosses, edgesOn, crossingsOn, fourOn, Pair, pair, pairsIn, isEnd, sharedBy, parted, pairsOf, mergedAt, merged, groupsTo, groupsOf}
 use Rattle.extract_cells.specs.Cells.{joinedBy, mergedIf, joinedTo, pairAt}
 
 -- a fold over those that pass is a fold with the test
-fold-by : (p : Pair → Bool) (G : List ℕ) (x : Pair) (l : List Pair) → ((H : List ℕ) → foldl merged H (those p l) ≡ foldl (mergedIf p) H l)
-    → (b : Bool) → p x ≡ b → foldl merged G (consIf (p x) x (those p l)) ≡ foldl (mergedIf p) (cond (p x) (merged G x) G) l
+fold-by : (p : Pair → Bool) (G : List ℕ) (x : Pair) (l : List Pair) → ((H : List ℕ) → foldl merged H (keep p l) ≡ foldl (mergedIf p) H l)
+    → (b : Bool) → p x ≡ b → foldl merged G (consIf (p x) x (keep p l)) ≡ foldl (mergedIf p) (cond (p x) (merged G x) G) l
 fold-by p G x l ih true e = rw e (ih (merged G x))
 fold-by p G x l ih false e = rw e (ih G)
 
-fold-those : (p : Pair → Bool) (l : List Pair) (G : List ℕ) → foldl merged G (those p l) ≡ foldl (mergedIf p) G l
-unfolding those mergedIf
-fold-those p [] G = refl
-fold-those p (x ∷ l) G = fold-by p G x l (fold-those p l) (p x) refl
+fold-keep : (p : Pair → Bool) (l : List Pair) (G : List ℕ) → foldl merged G (keep p l) ≡ foldl (mergedIf p) G l
+unfolding mergedIf
+fold-keep p [] G = refl
+fold-keep p (x ∷ l) G = fold-by p G x l (fold-keep p l) (p x) refl
 
 -- ---- all signs of a face
 
@@ -64,7 +64,7 @@ four : ℕ → ℕ → ℕ → ℕ → Bool → Bool → Bool → Bool → ℕ �
 four i j k l a b c d v = cond (eqb v i) a (cond (eqb v j) b (cond (eqb v k) c (cond (eqb v l) d false)))
 
 found : (ℕ → Bool) → Bool → ℕ → List Pair
-found sign e f = those (joinedBy sign e f) (pairsIn (edgesOn f))
+found sign e f = keep (joinedBy sign e f) (pairsIn (edgesOn f))
 
 -- they agree for all signs of the corners i, j, k and l of the face f, and of its centre
 agrees : ℕ → ℕ → ℕ → ℕ → ℕ → Bool
@@ -75,27 +75,27 @@ unfolding agrees
 agree-at f i j k l h a b c d e = same-is _ _ (either-at _ (either-at _ (either-at _ (either-at _ (either-at _ h a) b) c) d) e)
 
 face-0 : (sign : ℕ → Bool) (e : Bool) → pairsOf sign e 0 ≡ found sign e 0
-unfolding agrees either same four found pairsOf crossingsOn fourOn those crosses edgesOn pairsIn joinedBy parted sharedBy isEnd lowEnd highEnd tabulate
+unfolding agrees either same four found pairsOf crossingsOn fourOn crosses edgesOn pairsIn joinedBy parted sharedBy isEnd lowEnd highEnd tabulate
 face-0 sign e = agree-at 0 0 2 4 6 refl (sign 0) (sign 2) (sign 4) (sign 6) e
 
 face-1 : (sign : ℕ → Bool) (e : Bool) → pairsOf sign e 1 ≡ found sign e 1
-unfolding agrees either same four found pairsOf crossingsOn fourOn those crosses edgesOn pairsIn joinedBy parted sharedBy isEnd lowEnd highEnd tabulate
+unfolding agrees either same four found pairsOf crossingsOn fourOn crosses edgesOn pairsIn joinedBy parted sharedBy isEnd lowEnd highEnd tabulate
 face-1 sign e = agree-at 1 1 3 5 7 refl (sign 1) (sign 3) (sign 5) (sign 7) e
 
 face-2 : (sign : ℕ → Bool) (e : Bool) → pairsOf sign e 2 ≡ found sign e 2
-unfolding agrees either same four found pairsOf crossingsOn fourOn those crosses edgesOn pairsIn joinedBy parted sharedBy isEnd lowEnd highEnd tabulate
+unfolding agrees either same four found pairsOf crossingsOn fourOn crosses edgesOn pairsIn joinedBy parted sharedBy isEnd lowEnd highEnd tabulate
 face-2 sign e = agree-at 2 0 1 4 5 refl (sign 0) (sign 1) (sign 4) (sign 5) e
 
 face-3 : (sign : ℕ → Bool) (e : Bool) → pairsOf sign e 3 ≡ found sign e 3
-unfolding agrees either same four found pairsOf crossingsOn fourOn those crosses edgesOn pairsIn joinedBy parted sharedBy isEnd lowEnd highEnd tabulate
+unfolding agrees either same four found pairsOf crossingsOn fourOn crosses edgesOn pairsIn joinedBy parted sharedBy isEnd lowEnd highEnd tabulate
 face-3 sign e = agree-at 3 2 3 6 7 refl (sign 2) (sign 3) (sign 6) (sign 7) e
 
 face-4 : (sign : ℕ → Bool) (e : Bool) → pairsOf sign e 4 ≡ found sign e 4
-unfolding agrees either same four found pairsOf crossingsOn fourOn those crosses edgesOn pairsIn joinedBy parted sharedBy isEnd lowEnd highEnd tabulate
+unfolding agrees either same four found pairsOf crossingsOn fourOn crosses edgesOn pairsIn joinedBy parted sharedBy isEnd lowEnd highEnd tabulate
 face-4 sign e = agree-at 4 0 1 2 3 refl (sign 0) (sign 1) (sign 2) (sign 3) e
 
 face-5 : (sign : ℕ → Bool) (e : Bool) → pairsOf sign e 5 ≡ found sign e 5
-unfolding agrees either same four found pairsOf crossingsOn fourOn those crosses edgesOn pairsIn joinedBy parted sharedBy isEnd lowEnd highEnd tabulate
+unfolding agrees either same four found pairsOf crossingsOn fourOn crosses edgesOn pairsIn joinedBy parted sharedBy isEnd lowEnd highEnd tabulate
 face-5 sign e = agree-at 5 4 5 6 7 refl (sign 4) (sign 5) (sign 6) (sign 7) e
 
 -- ---- the groups
@@ -112,30 +112,30 @@ pairs-found sign e (suc (suc (suc (suc (suc (suc f)))))) h = absurd (omega arith
 -- a face joins its six pairs one after the other
 face-step : (sign centre : ℕ → Bool) (f : ℕ) → f < 6 → groupsTo sign centre (suc f) ≡ foldl (mergedIf (joinedBy sign (centre f) f)) (groupsTo sign centre f) (pairsIn (edgesOn f))
 unfolding groupsTo found
-face-step sign centre f h = rw (pairs-found sign (centre f) f h) (fold-those (joinedBy sign (centre f) f) (pairsIn (edgesOn f)) (groupsTo sign centre f))
+face-step sign centre f h = rw (pairs-found sign (centre f) f h) (fold-keep (joinedBy sign (centre f) f) (pairsIn (edgesOn f)) (groupsTo sign centre f))
 
 six-0 : (sign centre : ℕ → Bool) → joinedTo sign centre 6 ≡ foldl (mergedIf (joinedBy sign (centre 0) 0)) (joinedTo sign centre 0) (pairsIn (edgesOn 0))
-unfolding joinedTo pairsIn edgesOn those lowEnd highEnd tabulate
+unfolding joinedTo pairsIn edgesOn lowEnd highEnd tabulate
 six-0 sign centre = refl
 
 six-1 : (sign centre : ℕ → Bool) → joinedTo sign centre 12 ≡ foldl (mergedIf (joinedBy sign (centre 1) 1)) (joinedTo sign centre 6) (pairsIn (edgesOn 1))
-unfolding joinedTo pairsIn edgesOn those lowEnd highEnd tabulate
+unfolding joinedTo pairsIn edgesOn lowEnd highEnd tabulate
 six-1 sign centre = refl
 
 six-2 : (sign centre : ℕ → Bool) → joinedTo sign centre 18 ≡ foldl (mergedIf (joinedBy sign (centre 2) 2)) (joinedTo sign centre 12) (pairsIn (edgesOn 2))
-unfolding joinedTo pairsIn edgesOn those lowEnd highEnd tabulate
+unfolding joinedTo pairsIn edgesOn lowEnd highEnd tabulate
 six-2 sign centre = refl
 
 six-3 : (sign centre : ℕ → Bool) → joinedTo sign centre 24 ≡ foldl (mergedIf (joinedBy sign (centre 3) 3)) (joinedTo sign centre 18) (pairsIn (edgesOn 3))
-unfolding joinedTo pairsIn edgesOn those lowEnd highEnd tabulate
+unfolding joinedTo pairsIn edgesOn lowEnd highEnd tabulate
 six-3 sign centre = refl
 
 six-4 : (sign centre : ℕ → Bool) → joinedTo sign centre 30 ≡ foldl (mergedIf (joinedBy sign (centre 4) 4)) (joinedTo sign centre 24) (pairsIn (edgesOn 4))
-unfolding joinedTo pairsIn edgesOn those lowEnd highEnd tabulate
+unfolding joinedTo pairsIn edgesOn lowEnd highEnd tabulate
 six-4 sign centre = refl
 
 six-5 : (sign centre : ℕ → Bool) → joinedTo sign centre 36 ≡ foldl (mergedIf (joinedBy sign (centre 5) 5)) (joinedTo sign centre 30) (pairsIn (edgesOn 5))
-unfolding joinedTo pairsIn edgesOn those lowEnd highEnd tabulate
+unfolding joinedTo pairsIn edgesOn lowEnd highEnd tabulate
 six-5 sign centre = refl
 
 first : (sign centre : ℕ → Bool) → joinedTo sign centre 0 ≡ groupsTo sign centre 0

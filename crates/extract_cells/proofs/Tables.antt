@@ -7,10 +7,11 @@ use native.Mathlib.Omega.{arith}
 use lib.Dec.{eqb, ltb}
 use lib.ListN.{length, getD}
 use borrow.Author.Tests.{eqb-true, ltb-true}
-use Rattle.lists.specs.Sort.{tabulate}
+use Rattle.lists.specs.Sort.{tabulate, keep}
 use Rattle.lists.specs.Every.{every}
 use Rattle.lists.proofs.Every.{every-at, and-left, and-right}
-use Rattle.rule_extract.specs.Cells.{those, lowEnd, highEnd, crosses, edgesOn, crossingsOn, fourOn, pairsIn}
+use Rattle.lists.specs.Steps.{nth}
+use Rattle.rule_extract.specs.Cells.{lowEnd, highEnd, crosses, edgesOn, crossingsOn, fourOn, pairsIn}
 use Rattle.extract_cells.specs.Cells.{pairAt}
 
 -- an entry below a bound that is right
@@ -22,9 +23,6 @@ unfolding fits
 at bound f g n e i h =
     let r = every-at (fits bound f g) n i e h in
     (eqb-true _ _ (and-left (eqb (f i) (g i)) (ltb (f i) bound) r), ltb-true _ _ (and-right (eqb (f i) (g i)) (ltb (f i) bound) r))
-
-abbrev pub nth : List ℕ → ℕ → ℕ
-nth l i = getD l i 0
 
 abbrev pub lows : List ℕ
 lows = 0 ∷ 4 ∷ 2 ∷ 6 ∷ 0 ∷ 1 ∷ 4 ∷ 5 ∷ 0 ∷ 2 ∷ 1 ∷ 3 ∷ []
@@ -54,7 +52,7 @@ edge-in : ℕ → ℕ
 edge-in i = getD (edgesOn (i / 4)) (i % 4) 0
 
 edges-at : (i : ℕ) → i < 24 → (nth faceEdges i ≡ edge-in i) × (nth faceEdges i < 12)
-unfolding fits every edge-in edgesOn those tabulate lowEnd highEnd
+unfolding fits every edge-in edgesOn tabulate lowEnd highEnd
 edges-at = at 12 (nth faceEdges) edge-in 24 refl
 
 pub edge-at : (f k : ℕ) → f < 6 → k < 4 → (nth faceEdges (4 * f + k) ≡ getD (edgesOn f) k 0) × (nth faceEdges (4 * f + k) < 12)
@@ -79,11 +77,11 @@ of-second : ℕ → ℕ
 of-second t = getD (edgesOn (t / 6)) (nth seconds (t % 6)) 0
 
 pub first-at : (t : ℕ) → t < 36 → getD (edgesOn (t / 6)) (nth firsts (t % 6)) 0 ≡ pairAt t .first
-unfolding fits every first-in of-first edgesOn those tabulate lowEnd highEnd pairsIn
+unfolding fits every first-in of-first edgesOn tabulate lowEnd highEnd pairsIn
 first-at t h = at 12 of-first first-in 36 refl t h .0
 
 pub second-at : (t : ℕ) → t < 36 → getD (edgesOn (t / 6)) (nth seconds (t % 6)) 0 ≡ pairAt t .second
-unfolding fits every second-in of-second edgesOn those tabulate lowEnd highEnd pairsIn
+unfolding fits every second-in of-second edgesOn tabulate lowEnd highEnd pairsIn
 second-at t h = at 12 of-second second-in 36 refl t h .0
 
 short : (l : List ℕ) → every (λ k. ltb (nth l k) 4) 6 ≡ true → (k : ℕ) → k < 6 → nth l k < 4
@@ -103,8 +101,7 @@ abbrev edge : (ℕ → Bool) → ℕ → ℕ → Bool
 edge sign f k = crosses sign (getD (edgesOn f) k 0)
 
 length-four : (a b c d : Bool) (p : ℕ → Bool) (i j k l : ℕ) → p i ≡ a → p j ≡ b → p k ≡ c → p l ≡ d
-    → (a && b && c && d) ≡ eqb (length (those p (i ∷ j ∷ k ∷ l ∷ []))) 4
-unfolding those
+    → (a && b && c && d) ≡ eqb (length (keep p (i ∷ j ∷ k ∷ l ∷ []))) 4
 length-four true true true true p i j k l e f g h = rw (e, f, g, h) refl
 length-four true true true false p i j k l e f g h = rw (e, f, g, h) refl
 length-four true true false true p i j k l e f g h = rw (e, f, g, h) refl
@@ -123,7 +120,7 @@ length-four false false false true p i j k l e f g h = rw (e, f, g, h) refl
 length-four false false false false p i j k l e f g h = rw (e, f, g, h) refl
 
 pub four-crossings : (sign : ℕ → Bool) (f : ℕ) → f < 6 → (edge sign f 0 && edge sign f 1 && edge sign f 2 && edge sign f 3) ≡ fourOn sign f
-unfolding fourOn crossingsOn edgesOn those tabulate lowEnd highEnd
+unfolding fourOn crossingsOn edgesOn tabulate lowEnd highEnd
 four-crossings sign zero h = length-four _ _ _ _ (crosses sign) 4 6 8 9 refl refl refl refl
 four-crossings sign (suc zero) h = length-four _ _ _ _ (crosses sign) 5 7 10 11 refl refl refl refl
 four-crossings sign (suc (suc zero)) h = length-four _ _ _ _ (crosses sign) 0 1 8 10 refl refl refl refl

@@ -33,16 +33,6 @@ pub replay-crossing : (g : Grid) (c : Site) (axis : ℕ) → replayFrom halvings
 unfolding crossingOf
 replay-crossing g c axis = replay-path halvings g _ (edgeSpan g c axis)
 
-bit-sum : (k : Bool) {q p : ℕ} → q < p → cond k 1 0 + 2 * q < p * 2
-bit-sum true h = omega arith
-bit-sum false h = omega arith
-
--- a path of n decisions has n bits
-pub path-small : (n : ℕ) (g : Grid) (sign : Bool) (s : Span) → pathFrom n g sign s < 2 ^ n
-unfolding pathFrom
-path-small zero g sign s = omega arith
-path-small (suc n) g sign s = rw (pow-suc 2 n) (bit-sum (keeps g sign s) (path-small n g sign (narrowed s (keeps g sign s))))
-
 -- ---- the turns, at the code's `left - 1`
 
 pub replay-step : (n : ℕ) (s : Span) (p : ℕ) → 0 < n → replayFrom n s p ≡ replayFrom (n - 1) (narrowed s (eqb (p % 2) 1)) (p / 2)

@@ -110,7 +110,8 @@ same-edge-d d = below12 (λ j. j % 2 ≡ 0 → edgeSite d (j + 1) ≡ edgeSite (
 pub prevSite : Site → ℕ → Site
 prevSite c axis = cond (eqb axis 0) (site (c .x - 1) (c .y) (c .z)) (cond (eqb axis 1) (site (c .x) (c .y - 1) (c .z)) (site (c .x) (c .y) (c .z - 1)))
 
-below3 : (P : ℕ → Type 0) → P 0 → P 1 → P 2 → (a : ℕ) → a < 3 → P a
+-- what holds of each axis
+pub below3 : (P : ℕ → Type 0) → P 0 → P 1 → P 2 → (a : ℕ) → a < 3 → P a
 below3 P p q r zero h = p
 below3 P p q r (suc zero) h = q
 below3 P p q r (suc (suc zero)) h = r

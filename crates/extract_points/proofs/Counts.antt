@@ -2,7 +2,7 @@
 use Prim.Native.Nat.{ℕ, zero, suc, _+_, _*_, _≤_, _<_}
 use mathlib.Core.Path.{_≡_, refl, sym, ap, _∙_}
 use mathlib.Core.Bool.{Bool, true, false, cond, _&&_, _||_, or-true}
-use mathlib.Core.List.{List, [], _∷_, _++_, map}
+use mathlib.Core.List.{List, [], _∷_, map}
 use native.Mathlib.Omega.{arith}
 use mathlib.Core.Logic.{_⊎_}
 use native.Mathlib.Nat.{mul-le-mul-right}
@@ -11,15 +11,16 @@ use lib.Dec.{eqb, ltb}
 use lib.Ieee.{Float}
 use lib.ListN.{length, getD, length-append, length-map}
 use borrow.Author.Tests.{lt-ltb}
-use Rattle.lists.specs.Sort.{tabulate, itself, consIf}
+use Rattle.lists.specs.Sort.{tabulate, itself, consIf, keep}
 use Rattle.lists.specs.Every.{some, countTo}
 use Rattle.lists.proofs.Every.{some-ext, some-none, count-ext}
+use Rattle.lists.proofs.Laws.{keep-append}
 use Rattle.points.specs.declared.Point.{Point}
 use Rattle.rule_sheet.specs.Edges.{joinTo}
 use Rattle.rule_extract.specs.declared.Grid.{Grid}
 use Rattle.rule_extract.specs.declared.Site.{Site}
 use Rattle.extract_crossings.specs.Crossings.{Near}
-use Rattle.rule_extract.specs.Cells.{bitOf, those}
+use Rattle.rule_extract.specs.Cells.{bitOf}
 use Rattle.extract_cells.specs.Cells.{kindOf}
 use Rattle.extract_cells.proofs.Bits.{kind-edge}
 use Rattle.rule_extract.specs.Lattice.{siteAt, caseOf, cellGroups}
@@ -37,25 +38,16 @@ length-join f n = rw (add-one n) (length-append (joinTo f n) (f n))
 
 -- ---- those that pass
 
-pub those-append : {A : Type 0} (p : A → Bool) (l m : List A) → those p (l ++ m) ≡ those p l ++ those p m
-unfolding those
-those-append p [] m = refl
-those-append p (x ∷ l) m = by (p x) (those-append p l m)
-  where
-    by : (b : Bool) → those p (l ++ m) ≡ those p l ++ those p m → consIf b x (those p (l ++ m)) ≡ consIf b x (those p l) ++ those p m
-    by true e = ap (λ t. x ∷ t) e
-    by false e = e
-
 one-length : {A : Type 0} (b : Bool) (x : A) → length (consIf b x []) ≡ cond b 1 0
 one-length true x = refl
 one-length false x = refl
 
 -- those below n that pass are as many as the count says
-pub count-those : (p : ℕ → Bool) (n : ℕ) → length (those p (tabulate itself n)) ≡ countTo p n
-unfolding those tabulate countTo
-count-those p zero = refl
-count-those p (suc n) =
-    ap length (those-append p (tabulate itself n) (n ∷ [])) ∙ (length-append (those p (tabulate itself n)) (those p (n ∷ [])) ∙ rw (count-those p n, one-length (p n) n))
+pub count-keep : (p : ℕ → Bool) (n : ℕ) → length (keep p (tabulate itself n)) ≡ countTo p n
+unfolding tabulate countTo
+count-keep p zero = refl
+count-keep p (suc n) =
+    ap length (keep-append p (tabulate itself n) (n ∷ [])) ∙ (length-append (keep p (tabulate itself n)) (keep p (n ∷ [])) ∙ rw (count-keep p n, one-length (p n) n))
 
 -- one passes where the count is not 0
 or-no : (a : Bool) → (a || false) ≡ a
@@ -82,8 +74,8 @@ point-length (p ∷ l) = sym (ap (λ b. cond b 1 0) (lt-ltb 0 (suc (length l)) (
 pub group-length : (g : Grid) (c : Site) (k : ℕ) → length (groupPoints g c k) ≡ cond (some (isMember g c k) 12) 1 0
 unfolding groupPoints membersOf
 group-length g c k =
-    point-length (map (crossingAt g c) (those (isMember g c k) (tabulate itself 12)))
-    ∙ ap (λ m. cond (ltb 0 m) 1 0) (length-map (those (isMember g c k) (tabulate itself 12)) (crossingAt g c) ∙ count-those (isMember g c k) 12)
+    point-length (map (crossingAt g c) (keep (isMember g c k) (tabulate itself 12)))
+    ∙ ap (λ m. cond (ltb 0 m) 1 0) (length-map (keep (isMember g c k) (tabulate itself 12)) (crossingAt g c) ∙ count-keep (isMember g c k) 12)
     ∙ ap (λ b. cond b 1 0) (any-count (isMember g c k) 12)
 
 -- the points of the groups below k are as many as those groups that have a crossing
@@ -114,7 +106,7 @@ pub ranking-start : (kind : ℕ) (G : List ℕ) (k : ℕ) → Ranking kind G k 0
 unfolding countTo
 ranking-start kind G k = record { i≤ = omega arith; count≤ = omega arith; is = refl }
 
-one-le : (b : Bool) → cond b 1 0 ≤ 1
+pub one-le : (b : Bool) → cond b 1 0 ≤ 1
 one-le true = omega arith
 one-le false = omega arith
 

@@ -15,7 +15,7 @@ use Rattle.rule_extract.specs.Cells.{bitOf}
 use Rattle.extract_cells.proofs.Faces.{twelve-groups}
 use Rattle.extract_grid.specs.Lattice.{Within}
 use Rattle.rule_extract.specs.Lattice.{siteAt, indexOf, caseOf, centreInside, cellGroups}
-use Rattle.extract_grid.proofs.Places.{site-index, index-lt, index-site}
+use Rattle.extract_grid.proofs.Places.{site-index, index-site}
 use Rattle.rule_extract.specs.Paths.{edgeCrosses}
 use Rattle.rule_extract.specs.Drawing.{isMember, groupPoints, cellPoints, pointsIn, pointsTo, numberOf}
 use Rattle.extract_points.proofs.Counts.{group-length}
@@ -68,9 +68,6 @@ numbers-ascend g n i j e f l h x =
 -- ---- the same by the places of the cells
 
 module _ (g : Grid) (n : ℕ) (c : Site) (e : ℕ) (W : Within n c) (h : e < 12) (x : edgeCrosses g c e ≡ true) where
-  pub number-at : numberOf g n c e < length (pointsTo g n (n * n * n))
-  number-at = rw (site-index n c W) at (number-below g n (indexOf n c) e (index-lt n c W) h (rw (site-index n c W) x))
-
   before : (d : Site) (f : ℕ) → Within n d → indexOf n c < indexOf n d → numberOf g n c e < numberOf g n d f
   before d f U l = rw (site-index n c W, site-index n d U) at (numbers-ascend g n (indexOf n c) (indexOf n d) e f l h (rw (site-index n c W) x))
 

@@ -8,7 +8,7 @@ use native.Mathlib.Numerals.{add-one}
 use lib.Dec.{eqb}
 use lib.ListN.{length, length-append}
 use lib.Ieee.{Float, binary64, div}
-use Rattle.lists.specs.Sort.{tabulate, itself, consIf}
+use Rattle.lists.specs.Sort.{tabulate, itself, consIf, keep}
 use Rattle.lists.proofs.Every.{and-left}
 use Rattle.points.specs.declared.Point.{Point}
 use Rattle.points.specs.Points.{one, addP, mulP, origin}
@@ -18,7 +18,7 @@ use Rattle.numeric.specs.Num.{float}
 use Rattle.extract_crossings.specs.Crossings.{replayFrom}
 use Rattle.rule_extract.specs.Crossings.{edgeSpan, halvings}
 use Rattle.extract_crossings.proofs.Paths.{replay-crossing}
-use Rattle.rule_extract.specs.Cells.{bitOf, those}
+use Rattle.rule_extract.specs.Cells.{bitOf}
 use Rattle.extract_cells.specs.Cells.{kindOf}
 use Rattle.extract_cells.proofs.Bits.{kind-edge}
 use Rattle.rule_extract.specs.Lattice.{caseOf, edgeSite}
@@ -27,7 +27,7 @@ use Rattle.extract_paths.specs.Paths.{edgePath}
 use Rattle.extract_points.specs.declared.Sum.{Sum}
 use Rattle.rule_extract.specs.Drawing.{isMember, membersOf, crossingAt, meanOf}
 use Rattle.extract_points.specs.Slots.{isMemberIn, addedIf}
-use Rattle.extract_points.proofs.Counts.{those-append}
+use Rattle.lists.proofs.Laws.{keep-append}
 
 -- a crossing is found again by the path in its slot
 pub crossing-read : (g : Grid) (c : Site) {d : Site} {r : Point} (e p : ℕ) → p ≡ edgePath g c e → d ≡ edgeSite c e
@@ -42,13 +42,13 @@ member-crosses g c {kind} group k e q h f t =
 
 -- the crossings of the group k on the first e edges
 pub partTo : Grid → Site → ℕ → ℕ → List Point
-partTo g c k e = map (crossingAt g c) (those (isMember g c k) (tabulate itself e))
+partTo g c k e = map (crossingAt g c) (keep (isMember g c k) (tabulate itself e))
 
 part-suc : (g : Grid) (c : Site) (k e : ℕ) (b : Bool) → isMember g c k e ≡ b → partTo g c k (suc e) ≡ partTo g c k e ++ consIf b (crossingAt g c e) []
-unfolding partTo those tabulate
+unfolding partTo tabulate
 part-suc g c k e b q =
-    ap (map (crossingAt g c)) (those-append (isMember g c k) (tabulate itself e) (e ∷ []))
-    ∙ map-append (crossingAt g c) (those (isMember g c k) (tabulate itself e)) (consIf (isMember g c k e) e [])
+    ap (map (crossingAt g c)) (keep-append (isMember g c k) (tabulate itself e) (e ∷ []))
+    ∙ map-append (crossingAt g c) (keep (isMember g c k) (tabulate itself e)) (consIf (isMember g c k e) e [])
     ∙ ap (λ l. partTo g c k e ++ l) (rw q (mapped b))
   where
     mapped : (b : Bool) → map (crossingAt g c) (consIf b e []) ≡ consIf b (crossingAt g c e) []
@@ -63,7 +63,7 @@ pub record Summing (g : Grid) (c : Site) (k : ℕ) (s : Sum) (e : ℕ) : Type 0 
   pub count-is : s .count ≡ length (partTo g c k e)
 
 pub summing-start : (g : Grid) (c : Site) (k : ℕ) {p : Point} → p ≡ origin → Summing g c k (record { point = p; count = 0 }) 0
-unfolding partTo those tabulate
+unfolding partTo tabulate
 summing-start g c k o = record { e≤ = omega arith; count≤ = omega arith; point-is = o; count-is = refl }
 
 turn-by : (g : Grid) (c : Site) (k e : ℕ) (s : Sum) → Summing g c k s e → e < 12 → (b : Bool) → isMember g c k e ≡ b → Summing g c k (addedIf b s (crossingAt g c e)) (e + 1)

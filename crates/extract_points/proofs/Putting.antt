@@ -20,7 +20,7 @@ use Rattle.rule_extract.specs.declared.Grid.{Grid}
 use Rattle.rule_extract.specs.declared.Site.{Site}
 use Rattle.rule_extract.specs.Drawing.{isMember, membersOf, crossingAt, meanOf, groupPoint, groupPoints, cellPoints}
 use Rattle.extract_points.specs.Slots.{hasIn, Known, putPoints}
-use Rattle.extract_points.proofs.Counts.{length-join, group-length, has-is}
+use Rattle.extract_points.proofs.Counts.{length-join, group-length, has-is, one-le}
 
 -- ---- points put from a place on
 
@@ -78,7 +78,8 @@ join-below f k (suc n) h = ⊎-elim
     (λ (ne : k ≡ n → ⊥). let i = join-below f k n (omega arith) in let q = length-append (joinTo f n) (f n) in omega arith)
     (eq-or-ne k n)
 
-join-suc : {A : Type 0} (f : ℕ → List A) (k : ℕ) → joinTo f (k + 1) ≡ joinTo f k ++ f k
+-- one list more
+pub join-suc : {A : Type 0} (f : ℕ → List A) (k : ℕ) → joinTo f (k + 1) ≡ joinTo f k ++ f k
 unfolding joinTo
 join-suc f k = rw (add-one k)
 
@@ -90,10 +91,6 @@ pub record Placing (g : Grid) (c : Site) (place : ℕ) (v s : List Float) (next 
   pub next≤ : next ≤ place + k
   pub next-is : next ≡ place + length (joinTo (groupPoints g c) k)
   pub is : s ≡ putPoints (joinTo (groupPoints g c) k) place v
-
-one-le : (b : Bool) → cond b 1 0 ≤ 1
-one-le true = omega arith
-one-le false = omega arith
 
 group-le : (g : Grid) (c : Site) (k : ℕ) → length (groupPoints g c k) ≤ 1
 group-le g c k = rw (group-length g c k) (one-le (some (isMember g c k) 12))

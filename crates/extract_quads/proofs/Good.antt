@@ -17,7 +17,7 @@ use Rattle.rule_extract.specs.Drawing.{pointsTo, placeOn, Inner, innerCount, in
 use Rattle.extract_points.proofs.Numbers.{sample-low}
 use Rattle.extract_points.proofs.DrawnNumbers.{numbers-apart}
 use Rattle.extract_quads.specs.Faces.{cellBy, edgeBy, DualCell}
-use Rattle.extract_quads.proofs.Rows.{below3}
+use Rattle.extract_paths.proofs.Edges.{below3}
 use Rattle.extract_quads.proofs.Dual.{InnerIn, at-inner, dual-cell-complete}
 
 -- ---- the four cells are different

@@ -14,19 +14,12 @@ use Rattle.rule_extract.specs.Lattice.{indexOf, insideAt}
 use Rattle.extract_grid.proofs.Places.{index-lt, index-room}
 use Rattle.extract_grid.proofs.Signs.{sign-is}
 use Rattle.extract_paths.specs.Paths.{strideOf}
-use Rattle.extract_paths.proofs.Edges.{next-index}
+use Rattle.extract_paths.proofs.Edges.{next-index, below3}
 use Rattle.rule_extract.specs.Drawing.{placeOn, Inner, innerAt, innerSite}
 use Rattle.extract_quads.specs.declared.Row.{Row}
 use Rattle.extract_quads.specs.Faces.{edgeIn, RowIn, rowCount, edgeNumber, RowAt}
 
 -- ---- places
-
--- what holds of each axis
-pub below3 : (P : ℕ → Type 0) → P 0 → P 1 → P 2 → (axis : ℕ) → axis < 3 → P axis
-below3 P p q r zero h = p
-below3 P p q r (suc zero) h = q
-below3 P p q r (suc (suc zero)) h = r
-below3 P p q r (suc (suc (suc axis))) h = absurd (omega arith)
 
 pub place-within : (m axis a b d : ℕ) → axis < 3 → a < m → b < m → d < m → Within m (placeOn axis a b d)
 unfolding placeOn

@@ -18,7 +18,7 @@ use Rattle.rule_extract.specs.Crossings.{nextSite, crossedLabel}
 use Rattle.rule_extract.specs.Lattice.{insideAt}
 use Rattle.rule_extract.specs.Paths.{crossedAt}
 use Rattle.rule_extract.specs.Drawing.{innerCount, innerAt, innerSite, innerQuad, innerCrosses, quadIf, labelIf}
-use Rattle.extract_points.proofs.Putting.{join-below}
+use Rattle.extract_points.proofs.Putting.{join-below, join-suc}
 use Rattle.extract_quads.specs.declared.Row.{Row}
 use Rattle.extract_quads.specs.Faces.{edgeIn, rowCount, edgeNumber, RowAt, Counted, Drawn}
 
@@ -31,10 +31,6 @@ unfolding crossedAt
 edge-crosses g {n} {r} {row} {a} {b} j s R h e f q =
     let x : not (Bool·beq (insideAt g (innerSite (edgeIn row j))) (insideAt g (nextSite (innerSite (edgeIn row j)) (row .axis)))) ≡ not s = rw (← e, ← f, q) refl in
     (x, rw (R .edges j h) x)
-
-join-suc : {A : Type 0} (f : ℕ → List A) (t : ℕ) → joinTo f (t + 1) ≡ joinTo f t ++ f t
-unfolding joinTo
-join-suc f t = rw (add-one t)
 
 module _ (g : Grid) (n t : ℕ) where
   quads-same : innerCrosses g n t ≡ false → joinTo (quadIf g n) (t + 1) ≡ joinTo (quadIf g n) t

@@ -17,11 +17,13 @@ unfoldable pub valueOf : Field → Point → Float
 valueOf (Plane a b c d) p = a ⊗ p .x ⊕ b ⊗ p .y ⊕ c ⊗ p .z ⊖ d
 valueOf (Ball cx cy cz r) p = ballValue (p .x ⊖ cx) (p .y ⊖ cy) (p .z ⊖ cz) r
 valueOf (Quadric k) p =
-    k .k0 ⊗ p .x ⊗ p .x ⊕ k .k1 ⊗ p .y ⊗ p .y ⊕ k .k2 ⊗ p .z ⊗ p .z ⊕ k .k3 ⊗ p .x ⊗ p .y ⊕ k .k4 ⊗ p .y ⊗ p .z ⊕ k .k5 ⊗ p .z ⊗ p .x
+    k .k0 ⊗ p .x ⊗ p .x ⊕ k .k1 ⊗ p .y ⊗ p .y ⊕ k .k2 ⊗ p .z ⊗ p .z
+    ⊕ k .k3 ⊗ p .x ⊗ p .y ⊕ k .k4 ⊗ p .y ⊗ p .z ⊕ k .k5 ⊗ p .z ⊗ p .x
     ⊕ k .k6 ⊗ p .x ⊕ k .k7 ⊗ p .y ⊕ k .k8 ⊗ p .z ⊕ k .k9
 
 -- Plane: gradient (a, b, c). Ball: gradient (2·dx, 2·dy, 2·dz). Quadric: no gradient of its own.
 unfoldable pub fieldGradientOf : Field → Point → FieldGradient
 fieldGradientOf (Plane a b c d) p = Known (record { x = a; y = b; z = c })
-fieldGradientOf (Ball cx cy cz r) p = Known (record { x = two ⊗ (p .x ⊖ cx); y = two ⊗ (p .y ⊖ cy); z = two ⊗ (p .z ⊖ cz) })
+fieldGradientOf (Ball cx cy cz r) p =
+    Known (record { x = two ⊗ (p .x ⊖ cx); y = two ⊗ (p .y ⊖ cy); z = two ⊗ (p .z ⊖ cz) })
 fieldGradientOf (Quadric k) p = Missing

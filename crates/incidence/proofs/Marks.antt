@@ -15,7 +15,7 @@ use Rattle.lists.specs.Regions.{part, Part, Out, Kept}
 use Rattle.lists.proofs.Laws.{length-tab, getD-tab, is-tab, tab-ext, tab-set, start-suc, start-mono}
 use Rattle.lists.proofs.Every.{bool-iff, some-zero, some-at, some-find}
 use Rattle.lists.proofs.Order.{bucket-key, each-bucket, part-bucket, in-bucket, below-tab}
-use Rattle.lists.proofs.Regions.{part-of, part-len, part-get, part-set, part-set-out, part-as, part-sub, part-kept, kept-refl, kept-set}
+use Rattle.lists.proofs.Regions.{part-of, part-len, part-get, part-set, part-set-out, part-as, part-sub, kept-refl, kept-set}
 use Rattle.rule_sheet.specs.Quads.{uses, valence}
 use Rattle.sheet.specs.Flat.{from}
 use Rattle.rule_sheet.specs.Flat.{corner, quadAt, quadsOf}
@@ -200,17 +200,3 @@ pub around-end : {np nq : ℕ} {Q : List ℕ} {v starts order barred : ℕ} {u w
 around-end {np} {nq} {Q} {v} {starts} {order} {barred} {u} {w} A P =
     part-as (rw (A .list, A .count) at P)
     (tab-ext (markAt (pointCorners Q nq v) (part barred nq u) (length (pointCorners Q nq v))) (barredBy Q v (part barred nq u)) nq (λ q h. rw (hits-uses Q nq v q h)))
-
--- what `bar_around` asks stands where only marks were written
-pub incident-kept : {np nq : ℕ} {Q : List ℕ} {starts order barred : ℕ} {v w : List ℕ} → Incident np nq Q starts order barred v → Kept (Out barred nq) v w
-    → Incident np nq Q starts order barred w
-incident-kept I K =
-    let l = K .len in
-    record {
-      sheet = I .sheet;
-      begin = part-kept (I .begin) K (I .starts-barred);
-      at = part-kept (I .at) K (I .order-barred);
-      in-barred = omega (arith, I .in-barred);
-      starts-barred = I .starts-barred;
-      order-barred = I .order-barred;
-    }

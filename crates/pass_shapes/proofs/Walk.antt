@@ -26,7 +26,7 @@ use Rattle.edges.specs.Maps.{Standing}
 use Rattle.edges.proofs.Maps.{RunAt}
 use Rattle.rule_coarsen.specs.Coarse.{hasCorner}
 use Rattle.rule_coarsen.specs.declared.Merge.{Merge}
-use Rattle.pass_shapes.specs.Shaped.{Positioned}
+use Rattle.incidence.specs.Corners.{Positioned}
 use Rattle.pass_shapes.specs.MergeFits.{faceStays, cornerStays, staysAt, CornersIn, FirstFallen}
 
 -- a test that is passed unless it is not asked
@@ -126,7 +126,7 @@ run-part R = record { fits = omega (arith, R .s≤, R .e≤); is = R .is }
 
 -- what the walk is lent: the quads, and corners of them
 pub quads-lent : {np nq was starts order : ℕ} {w : List ℕ} (P : List Float) → Standing np nq was starts order w → 3 * np ≤ length P → Positioned np nq P (part was (was + 4 * nq - was) w)
-quads-lent {np} {nq} {was} P S h = let g : was + 4 * nq - was ≡ 4 * nq = omega arith in record { sheet = rw g (S .sheet); points = h }
+quads-lent {np} {nq} {was} P S h = let g : was + 4 * nq - was ≡ 4 * nq = omega arith in record { cornered = rw g (S .sheet); points = h }
 
 pub corners-in : {s n : ℕ} {w : List ℕ} (Q : List ℕ) (nq v a b : ℕ) → Part s n (pointCorners Q nq v) w → s ≤ a → a ≤ b → b ≤ s + n → CornersIn nq a b w
 corners-in {s} {n} {w} Q nq v a b P h g k = record {

@@ -1,11 +1,8 @@
 -- What the functions on shapes are handed.
-use Prim.Native.Nat.{ℕ, _*_, _≤_, _<_}
+use Prim.Native.Nat.{ℕ, _<_}
 use mathlib.Core.List.{List}
-use lib.ListN.{length}
-use lib.Ieee.{Float}
 use Rattle.rule_sheet.specs.Quads.{Quad, quad}
 use Rattle.rule_sheet.specs.Flat.{corner}
-use Rattle.incidence.specs.Corners.{Cornered}
 use Rattle.pass_shapes.specs.declared.Four.{Four}
 
 -- ---- what the functions are handed
@@ -24,8 +21,3 @@ pub record FourBelow (np : ℕ) (q : Four) : Type 0 where
   pub b< : q .b < np
   pub c< : q .c < np
   pub d< : q .d < np
-
--- the corners of nq quads are numbers of np points, and the coordinates of these are at hand
-pub record Positioned (np nq : ℕ) (P : List Float) (Q : List ℕ) : Type 0 where
-  pub sheet : Cornered np nq Q
-  pub points : 3 * np ≤ length P

@@ -16,11 +16,11 @@ ghost use Rattle.projection.specs.Project.{longestMove, lookCount, projectWith}
 ghost use Rattle.lists.specs.Every.{every};
 ghost use Rattle.lists.specs.Regions.{part};
 ghost use Rattle.rule_sheet.specs.Flat.{quadAt};
-ghost use Rattle.incidence.specs.Corners.{Cornered};
+ghost use Rattle.incidence.specs.Corners.{Cornered, Positioned};
 ghost use Rattle.edges.specs.Maps.{Standing};
 ghost use Rattle.rule_passes.specs.Shapes.{quadShape, noWorse};
 ghost use Rattle.rule_sheet.specs.Places.{centreOf};
-ghost use Rattle.pass_shapes.specs.Shaped.{quadIs, fourAt, FourBelow, Positioned};
+ghost use Rattle.pass_shapes.specs.Shaped.{quadIs, fourAt, FourBelow};
 ghost use Rattle.rule_regularize.specs.SwapFits.{hexCentre, lesserShape, heldOf, nextShape, shapeFits, nextFits};
 ghost use Rattle.pass_shapes.specs.SwapFits.{hexOf, SixBelow};
 ghost use Rattle.rule_coarsen.specs.MergeFits.{movedAt, quadStays};

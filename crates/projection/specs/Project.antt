@@ -49,7 +49,8 @@ freedomOf bits = cond (eqb bits 0) one zeroF
 
 -- the axes along which a point of a mask may move
 unfoldable pub freePartOf : ℕ → Point
-freePartOf mask = record { x = freedomOf (axisBits mask 4); y = freedomOf (axisBits mask 16); z = freedomOf (axisBits mask 64) }
+freePartOf mask =
+    record { x = freedomOf (axisBits mask 4); y = freedomOf (axisBits mask 16); z = freedomOf (axisBits mask 64) }
 
 -- a coordinate on its face; the high face comes last
 unfoldable pub onFaceOf : ℕ → Float → Float → Float → Float
@@ -85,7 +86,8 @@ movedOf p g gn distance len longest = subP p (mulP (unitBy g gn) (clampOf distan
 unfoldable pub lookWith : Point → Point → Float → Float → Float → Look
 lookWith p g residual len longest =
     cond (singularOf residual (normP g)) Singular
-    (cond (arrivedOf (div binary64 residual (normP g)) len) Arrived (Moved (movedOf p g (normP g) (div binary64 residual (normP g)) len longest)))
+    (cond (arrivedOf (div binary64 residual (normP g)) len) Arrived
+    (Moved (movedOf p g (normP g) (div binary64 residual (normP g)) len longest)))
 
 -- a look from p for the level t
 unfoldable pub lookOf : Field → Float → Float → Float → Point → Point → Look
@@ -97,7 +99,8 @@ afterLook Singular p k = Refused
 afterLook Arrived p k = Onto p
 afterLook (Moved q) p k = k q
 
--- n looks are left. Being within length × 1e-12 must show in one of them, so a point that arrives with the last move is refused.
+-- n looks are left. Being within length × 1e-12 must show in one of them, so a point that arrives with the last move
+-- is refused.
 unfoldable pub walkFrom : ℕ → Field → Float → Float → Float → Point → Point → Projected
 walkFrom zero f len longest t free p = Refused
 walkFrom (suc n) f len longest t free p = afterLook (lookOf f len longest t free p) p (walkFrom n f len longest t free)

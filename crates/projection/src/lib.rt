@@ -5,7 +5,9 @@ use field::Field;
 use points::Point;
 ghost use mathlib.Core.Path.{_≡_};
 ghost use Prim.Native.Nat.{_<_};
-ghost use Rattle.projection.specs.Project.{axisBits, freedomOf, freePartOf, onFaceOf, onFacesOf, targetOf, singularOf, arrivedOf, movedOf, lookWith, lookOf, walkFrom, withinOf, insideOf, closeOf, projectWith};
+ghost use Rattle.projection.specs.Project.{axisBits, freedomOf, freePartOf, onFaceOf, onFacesOf, targetOf};
+ghost use Rattle.projection.specs.Project.{singularOf, arrivedOf, movedOf, lookWith, lookOf, walkFrom};
+ghost use Rattle.projection.specs.Project.{withinOf, insideOf, closeOf, projectWith};
 
 // The longest move, as a part of the band's length.
 pub const LONGEST_MOVE: f64 = 0.05;
@@ -80,7 +82,8 @@ pub fn target(lower: f64, upper: f64, mask: u8) -> f64
     if mask % 2 == 1 { upper } else { lower }
 }
 
-// Whether a projection cannot go on: a residual or a norm that is not finite, or a norm not above the smallest normal f64.
+// Whether a projection cannot go on: a residual or a norm that is not finite, or a norm not above the smallest
+// normal f64.
 pub fn singular(residual: f64, gn: f64) -> bool
     ensures { λ r. ⌜ r ≡ singularOf residual gn ⌝ }
 {

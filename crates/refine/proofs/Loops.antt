@@ -23,9 +23,10 @@ use Rattle.sheet.specs.Flat.{withQuad}
 use Rattle.rule_sheet.specs.Sheet.{flatPoints}
 use Rattle.sheet.specs.Results.{Front}
 use Rattle.sheet.proofs.Fronts.{front-none, front-point, front-quad, length-with, length-with-quad}
-use Rattle.incidence.specs.Corners.{edgeOrder}
+use Rattle.incidence.specs.Corners.{edgeOrder, Positioned}
 use Rattle.refine.specs.Requests.{requestOf, firstOf, own, numberOf, sameEdge, linkedTo, positionIn, childAt}
-use Rattle.refine.specs.Loops.{lowAt, nth, Held, Linking, Numbering, Numbered, Writing, madeTo, putRequest}
+use Rattle.refine.specs.Loops.{lowAt, Linking, Numbering, Numbered, Writing, madeTo, putRequest}
+use Rattle.lists.specs.Steps.{nth}
 use Rattle.refine.proofs.Edges.{Same, sorted, same-yes, same-no, linked-new, linked-same, linked-end}
 
 -- ---- the links
@@ -304,7 +305,7 @@ low-yes np Q c r e h = rw (← e) (lt-ltb r np h)
 pub low-no : (np : ℕ) (Q : List ℕ) (c r : ℕ) → r ≡ getD Q c 0 → np ≤ r → lowAt np Q c ≡ false
 low-no np Q c r e h = rw (← e) (le-ltb r np h)
 
-pub held-corner : {np nq : ℕ} {P : List Float} {Q : List ℕ} (q j : ℕ) → Held np nq P Q → q < nq → j < 4 → getD Q (4 * q + j) 0 * 3 + 3 ≤ length P
+pub held-corner : {np nq : ℕ} {P : List Float} {Q : List ℕ} (q j : ℕ) → Positioned np nq P Q → q < nq → j < 4 → getD Q (4 * q + j) 0 * 3 + 3 ≤ length P
 held-corner q j H hq hj = omega (arith, H .points, H .cornered .points (4 * q + j) (omega arith))
 
 -- ---- the position of a request

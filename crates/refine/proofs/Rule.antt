@@ -33,7 +33,8 @@ use Rattle.sheet.proofs.Results.{refused-fills}
 use Rattle.incidence.specs.Corners.{Cornered, edgeOrder}
 use Rattle.rule_finer.specs.Finer.{finerSheet, madeOrShort, refined, refineRule}
 use Rattle.refine.specs.Requests.{positionAt, firstsOf, own, numberOf, childAt, labelAt}
-use Rattle.refine.specs.Loops.{lowAt, nth, Linking, Numbering, Numbered, Writing, madeTo, orderAt, firstsAt, numbersAt, pointsAfter, Behind, Worked, Finished, Refinable}
+use Rattle.refine.specs.Loops.{lowAt, Linking, Numbering, Numbered, Writing, madeTo, orderAt, firstsAt, numbersAt, pointsAfter, Behind, Worked, Finished, Refinable}
+use Rattle.lists.specs.Steps.{nth}
 use Rattle.refine.proofs.Edges.{linked-start}
 use Rattle.refine.proofs.Sheet.{firsts-known, finer-points, finer-quads, finer-labels, finer-counts}
 use Rattle.rule_sheet.specs.declared.Made.the-variants as made

@@ -13,16 +13,12 @@ use Rattle.lists.specs.Every.{countTo}
 use Rattle.lists.specs.Regions.{Part, Apart}
 use Rattle.rule_sheet.specs.declared.Counts.{Counts}
 use Rattle.sheet.specs.Sheet.{LentSheet}
-use Rattle.incidence.specs.Corners.{Cornered, edgeOrder}
+use Rattle.incidence.specs.Corners.{Cornered, Positioned, edgeOrder}
 use Rattle.refine.specs.Requests.{firstsOf, linkedTo, own, numberOf}
 
 -- corner c is a number of the n points
 abbrev pub lowAt : ℕ → List ℕ → ℕ → Bool
 lowAt n Q c = ltb (getD Q c 0) n
-
--- element i of a list
-abbrev pub nth : List ℕ → ℕ → ℕ
-nth l i = getD l i 0
 
 -- the search for the first requests, once i corners are seen: the corners in the order of their edges at `order`, what is known of the requests at `first`
 pub record Linking (np nq : ℕ) (Q : List ℕ) (order first i : ℕ) (w : List ℕ) : Type 0 where
@@ -46,11 +42,6 @@ pub record Numbering (n m first num : ℕ) (F : List ℕ) (t next : ℕ) (w : Li
   pub done : Part num t (tabulate (numberOf n F) t) w
   pub next-is : next ≡ n + countTo (own F) t
 
--- the slices have np points and nq quads with their corners among the points
-pub record Held (np nq : ℕ) (P : List Float) (Q : List ℕ) : Type 0 where
-  pub cornered : Cornered np nq Q
-  pub points : 3 * np ≤ length P
-
 -- what the first t requests make: each that is the first of its key makes what pos says
 unfoldable pub madeTo : {A : Type 0} → List ℕ → (ℕ → A) → ℕ → List A
 madeTo F pos zero = []
@@ -62,7 +53,7 @@ putRequest F N pos t s = cond (own F t) (withPoint s (getD N t 0) (pos t)) s
 
 -- what the writing of the new points asks: first requests F at `first`, numbers N at `num`, and room for each number in a slice of `room` elements
 pub record Writing (np nq : ℕ) (P : List Float) (Q : List ℕ) (first num : ℕ) (F N w : List ℕ) (room : ℕ) : Type 0 where
-  pub held : Held np nq P Q
+  pub held : Positioned np nq P Q
   pub firsts : Part first (5 * nq) F w
   pub numbers : Part num (5 * nq) N w
   pub rooms : (t : ℕ) → t < 5 * nq → getD N t 0 * 3 + 3 ≤ room
@@ -100,7 +91,7 @@ pub record Worked (np nq : ℕ) (Q w : List ℕ) : Type 0 where
 
 -- what the writing of the finer sheet asks: the sheet, the work done, and room in result slices of p, q and l elements
 pub record Finished (np nq : ℕ) (P : List Float) (Q labels w : List ℕ) (p q l : ℕ) : Type 0 where
-  pub held : Held np nq P Q
+  pub held : Positioned np nq P Q
   pub worked : Worked np nq Q w
   pub labelled : nq ≤ length labels
   pub in-points : 3 * pointsAfter np nq Q ≤ p

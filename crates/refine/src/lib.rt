@@ -20,10 +20,11 @@ ghost use Rattle.sheet.specs.Flat.{withQuad};
 ghost use Rattle.rule_sheet.specs.Sheet.{pointsOf, flatPoints, sheetOf};
 ghost use Rattle.rule_sheet.specs.Results.{Leaves};
 ghost use Rattle.sheet.specs.Results.{Fills, Front};
-ghost use Rattle.incidence.specs.Corners.{Cornered};
+ghost use Rattle.incidence.specs.Corners.{Cornered, Positioned};
 ghost use Rattle.rule_finer.specs.Finer.{finerSheet, madeOrShort, refineRule};
 ghost use Rattle.refine.specs.Requests.{requestOf, sameEdge, positionIn, positionAt, firstOf, linkedTo, own, numberOf, childAt, labelAt, firstsOf};
-ghost use Rattle.refine.specs.Loops.{lowAt, nth, Linking, Numbering, Held, putRequest, madeTo, Writing, Numbered, Behind, Worked, Finished, Refinable, pointsAfter};
+ghost use Rattle.refine.specs.Loops.{lowAt, Linking, Numbering, putRequest, madeTo, Writing, Numbered, Behind, Worked, Finished, Refinable, pointsAfter};
+ghost use Rattle.lists.specs.Steps.{nth};
 
 // Regions of the work slice, in units of points and quads together: behind the counters of the sort and its first order stand the corners in the
 // order of their edges, the first request of each request's key, and the numbers of the requests' points.
@@ -153,7 +154,7 @@ pub fn corner_point(
     q: usize,
     j: usize,
 ) -> Point
-    requires { ⌜ Held np nq (now points) (now quads) ⌝ }
+    requires { ⌜ Positioned np nq (now points) (now quads) ⌝ }
     requires { ⌜ q < nq ⌝ }
     requires { ⌜ j < 4 ⌝ }
     ensures { λ r. ⌜ r ≡ pointAt (now (points .entry)) (corner (now (quads .entry)) q j) ⌝ }
@@ -163,7 +164,7 @@ pub fn corner_point(
 
 // The position of the request j of quad q.
 fn position(points: &[f64], quads: &[u32], np: usize, nq: usize, q: usize, j: usize) -> Point
-    requires { ⌜ Held np nq (now points) (now quads) ⌝ }
+    requires { ⌜ Positioned np nq (now points) (now quads) ⌝ }
     requires { ⌜ q < nq ⌝ }
     requires { ⌜ j < 5 ⌝ }
     ensures { λ r. ⌜ r ≡ positionIn (pointAt (now (points .entry))) (now (quads .entry)) q j ⌝ }

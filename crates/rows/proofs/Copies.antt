@@ -8,7 +8,7 @@ use native.Mathlib.Numerals.{add-one, sub-one}
 use lib.ListN.{length, getD, set, drop, length-append, length-drop}
 use lib.Seq.{length-take-le}
 use lib.Ieee.{Float}
-use Rattle.lists.specs.Sort.{tabulate, consIf}
+use Rattle.lists.specs.Sort.{tabulate, consIf, keep}
 use Rattle.lists.specs.Every.{countTo}
 use Rattle.lists.specs.Regions.{part, Part, Out, Apart, Kept}
 use Rattle.lists.proofs.Every.{count-le}
@@ -24,11 +24,10 @@ use Rattle.rule_sheet.specs.Quads.{num}
 use Rattle.smoothing.specs.Smooth.{sumOf}
 use Rattle.smoothing.specs.Rounded.{pointwise}
 use Rattle.subdivide_points.specs.Steps.{cornerCentre}
-use Rattle.rule_finer.specs.Smoothed.{keep}
 use Rattle.smoothing.proofs.ByPoints.{origin-by}
 use Rattle.smoothing.proofs.Coordinates.{sum-snoc}
 use Rattle.subdivide_points.proofs.Sums.{part-suc}
-use Rattle.subdivide_points.proofs.CreaseLoop.{keep-append, keep-le}
+use Rattle.lists.proofs.Laws.{keep-append, keep-le}
 use Rattle.rows.specs.declared.Centres.{Centres}
 use Rattle.rule_rows.specs.Rows.{orElse, tryFrom}
 use Rattle.numeric.specs.Num.{half}

@@ -9,7 +9,7 @@ use lib.Dec.{eqb}
 use lib.ListN.{length, getD, take, length-map, List·getD-eq-default}
 use lib.Seq.{getD-take}
 use lib.Ieee.{Float}
-use Rattle.lists.specs.Sort.{tabulate, itself, consIf}
+use Rattle.lists.specs.Sort.{tabulate, itself, consIf, keep}
 use Rattle.lists.specs.Every.{every}
 use Rattle.lists.proofs.Laws.{lt-or-le, getD-tab, length-tab, tab-add}
 use Rattle.lists.proofs.Every.{count-ext, every-ext}
@@ -28,7 +28,7 @@ use Rattle.sheet.proofs.Tests.{length-points}
 use Rattle.sheet.proofs.Fronts.{flat-quads-snoc}
 use Rattle.incidence.specs.Corners.{edgeOrder}
 use Rattle.refine.proofs.Edges.{sorted}
-use Rattle.rule_finer.specs.Smoothed.{those, labelCount, centreAt, keep}
+use Rattle.rule_finer.specs.Smoothed.{those, labelCount, centreAt}
 use Rattle.subdivide_points.specs.Steps.{cornerCentre, flatSheet}
 use Rattle.subdivide_points.proofs.Quads.{quadOf, point-quads}
 use Rattle.subdivide_points.proofs.Moved.{map-map, map-ext, each-append, those-below, ones-count, point-is, centre-is}

@@ -10,7 +10,7 @@ use lib.ListN.{length, getD, set, length-set}
 use lib.Seq.{getD-set-same}
 use lib.Ieee.{Float}
 use borrow.Author.Tests.{ltb-true}
-use Rattle.lists.specs.Sort.{tabulate}
+use Rattle.lists.specs.Sort.{tabulate, keep}
 use Rattle.lists.specs.Regions.{part, Part, Out, Kept}
 use Rattle.lists.proofs.Every.{and-left}
 use Rattle.lists.proofs.Regions.{part-len, part-get, part-set-out, part-as, kept-refl, kept-set, kept-then, elementOf, tab-own}
@@ -26,7 +26,6 @@ use Rattle.smoothing.specs.Rounded.{pointwise}
 use Rattle.refine.specs.Loops.{orderAt}
 use Rattle.refine.proofs.Edges.{sorted}
 use Rattle.lists.proofs.Laws.{map-tab}
-use Rattle.rule_finer.specs.Smoothed.{keep}
 use Rattle.subdivide_points.specs.Steps.{Spans}
 use Rattle.subdivide_points.proofs.Sums.{part-suc}
 use Rattle.rows.specs.declared.Centres.{Centres}

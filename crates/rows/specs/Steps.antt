@@ -6,7 +6,7 @@ use mathlib.Core.List.{List, [], _∷_, map}
 use lib.Dec.{eqb, ltb}
 use lib.ListN.{length, getD, take}
 use lib.Ieee.{Float}
-use Rattle.lists.specs.Sort.{tabulate}
+use Rattle.lists.specs.Sort.{tabulate, keep}
 use Rattle.lists.specs.Every.{countTo}
 use Rattle.lists.specs.Regions.{part, Part}
 use Rattle.points.specs.declared.Point.{Point}
@@ -26,13 +26,13 @@ use Rattle.rule_sheet.specs.Edges.{joinTo}
 use Rattle.sheet.specs.Edges.{pointCorners}
 use Rattle.sheet.specs.Sheet.{LentSheet, masksOf}
 use Rattle.rule_sheet.specs.Tests.{proper}
-use Rattle.incidence.specs.Corners.{Cornered, edgeOrder}
+use Rattle.incidence.specs.Corners.{Cornered, edgeOrder, Positioned}
 use Rattle.incidence.specs.Marks.{Incident}
 use Rattle.quality_counts.specs.Places.{kindAt}
 use Rattle.smoothing.specs.Smooth.{mean, sumOf}
 use Rattle.smoothing.specs.Rounded.{pointwise}
-use Rattle.refine.specs.Loops.{Held, orderAt}
-use Rattle.rule_finer.specs.Smoothed.{those, keep}
+use Rattle.refine.specs.Loops.{orderAt}
+use Rattle.rule_finer.specs.Smoothed.{those}
 use Rattle.subdivide_points.specs.Steps.{onesOf, cornerCentre}
 use Rattle.rows.specs.declared.Centres.{Centres}
 use Rattle.rule_rows.specs.Rows.{keyOf, pointIn, labelIn, firstStep, tryCount, tryFrom}
@@ -153,7 +153,7 @@ seamsAt np nq = 23 * (np + nq)
 
 -- the sheet in the slices, of good quads and labels
 pub record Labelled (np nq : ℕ) (P : List Float) (Q labels : List ℕ) : Type 0 where
-  pub held : Held np nq P Q
+  pub held : Positioned np nq P Q
   pub few : np ≤ 1048576
   pub labelled : nq ≤ length labels
   pub low : (i : ℕ) → i < nq → getD labels i 0 ≤ 7

@@ -15,7 +15,7 @@ ghost use mathlib.Core.List.{_++_, map};
 ghost use Prim.Native.Nat.{_+_, _*_, _/_, _%_, _<_, _≤_};
 ghost use lib.ListN.{length, getD, take, replicate};
 ghost use Rattle.numeric.specs.Num.{zeroF};
-ghost use Rattle.lists.specs.Sort.{tabulate};
+ghost use Rattle.lists.specs.Sort.{tabulate, keep};
 ghost use Rattle.lists.specs.Every.{every};
 ghost use Rattle.lists.specs.Regions.{part, Part, Out, Apart, Kept};
 ghost use Rattle.band.specs.Bands.{lengthOf};
@@ -25,11 +25,10 @@ ghost use Rattle.rule_sheet.specs.Sheet.{pointsOf, flatPoints, sheetOf, sheetVe
 ghost use Rattle.sheet.specs.Sheet.{LentSheet};
 ghost use Rattle.sheet.specs.Results.{Front, Fills};
 ghost use Rattle.rule_sheet.specs.Results.{Leaves};
-ghost use Rattle.incidence.specs.Corners.{Cornered, edgeOrder};
+ghost use Rattle.incidence.specs.Corners.{Cornered, edgeOrder, Positioned};
 ghost use Rattle.incidence.specs.Marks.{Incident};
-ghost use Rattle.refine.specs.Loops.{Held, orderAt};
+ghost use Rattle.refine.specs.Loops.{orderAt};
 ghost use Rattle.subdivide_points.specs.Steps.{Below, flatSheet};
-ghost use Rattle.rule_finer.specs.Smoothed.{keep};
 ghost use Rattle.rule_rows.specs.Rows.{firstStep, tryCount, tryFrom, rowsMade, rowed, rowsRule};
 ghost use Rattle.rows.specs.Steps.{copiedBy, copiedIn, numberIn, pointsAfter, ofLabel, centresOf, withCentre, inwardAt, copyAt, foundAt, putCopy, copiesTo, cornerIn, startsAt, listAt, masksAt, seamsAt, seamAt, seamsTo, seamsOf, stripIn, cornerLabel, countsAfter, madeBy, Labelled, Worked, Gathered, Seaming, Gathering, Finished, Tested};
 
@@ -124,7 +123,7 @@ fn centres_at(
     l: u32,
     w: &[u32],
 ) -> Centres
-    requires { ⌜ Held np nq (now points) (now quads) ⌝ }
+    requires { ⌜ Positioned np nq (now points) (now quads) ⌝ }
     requires { ⌜ nq ≤ length (now labels) ⌝ }
     requires { ⌜ Below (4 * nq) from m (now w) ⌝ }
     requires { ⌜ m < 4294967296 ⌝ }

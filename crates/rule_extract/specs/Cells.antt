@@ -5,16 +5,11 @@ use mathlib.Core.Bool.{Bool, cond, not, _&&_, _||_, Bool·beq}
 use mathlib.Core.List.{List, [], _∷_, _++_, map, foldl}
 use lib.Dec.{eqb, ltb}
 use lib.ListN.{length, getD}
-use Rattle.lists.specs.Sort.{tabulate, itself, consIf}
+use Rattle.lists.specs.Sort.{tabulate, itself, keep}
 
 -- bit i of a number
 unfoldable pub bitOf : ℕ → ℕ → Bool
 bitOf n i = eqb (n / 2 ^ i % 2) 1
-
--- the elements of a list that pass a test
-unfoldable pub those : {A : Type 0} → (A → Bool) → List A → List A
-those p [] = []
-those p (x ∷ xs) = consIf (p x) x (those p xs)
 
 -- ---- edges
 
@@ -37,11 +32,11 @@ cornerOn f v = eqb (v / 2 ^ (f / 2) % 2) (f % 2)
 
 -- the four edges of a face, ascending
 unfoldable pub edgesOn : ℕ → List ℕ
-edgesOn f = those (λ e. cornerOn f (lowEnd e) && cornerOn f (highEnd e)) (tabulate itself 12)
+edgesOn f = keep (λ e. cornerOn f (lowEnd e) && cornerOn f (highEnd e)) (tabulate itself 12)
 
 -- the crossings of a face
 unfoldable pub crossingsOn : (ℕ → Bool) → ℕ → List ℕ
-crossingsOn sign f = those (crosses sign) (edgesOn f)
+crossingsOn sign f = keep (crosses sign) (edgesOn f)
 
 -- a face with four crossings
 unfoldable pub fourOn : (ℕ → Bool) → ℕ → Bool
@@ -77,7 +72,7 @@ parted sign centre p = ltb (sharedBy (p .first) (p .second)) 8 && not (Bool·beq
 unfoldable pub pairsOf : (ℕ → Bool) → Bool → ℕ → List Pair
 pairsOf sign centre f =
     cond (eqb (length (crossingsOn sign f)) 2) (pairsIn (crossingsOn sign f))
-    (cond (fourOn sign f) (those (parted sign centre) (pairsIn (edgesOn f))) [])
+    (cond (fourOn sign f) (keep (parted sign centre) (pairsIn (edgesOn f))) [])
 
 -- ---- groups
 

@@ -11,7 +11,7 @@ use Rattle.points.specs.declared.Point.{Point}
 use Rattle.points.specs.Points.{one, addP, mulP, origin}
 use Rattle.band.specs.declared.Band.{Band}
 use Rattle.band.specs.Bands.{validOf}
-use Rattle.lists.specs.Sort.{tabulate, itself, consIf}
+use Rattle.lists.specs.Sort.{tabulate, itself, consIf, keep}
 use Rattle.lists.specs.Every.{every}
 use Rattle.rule_sheet.specs.Quads.{Quad, quad}
 use Rattle.rule_sheet.specs.Edges.{joinTo}
@@ -24,7 +24,6 @@ use Rattle.rule_extract.specs.declared.Grid.{Grid}
 use Rattle.rule_extract.specs.declared.Site.{Site}
 use Rattle.rule_extract.specs.Grids.{gridOf}
 use Rattle.rule_extract.specs.Crossings.{crossingOf, crossedLabel}
-use Rattle.rule_extract.specs.Cells.{those}
 use Rattle.rule_extract.specs.Lattice.{siteAt, indexOf, sampleAt, insideAt, cellGroups, edgeSite}
 use Rattle.rule_extract.specs.Paths.{crossedAt, edgeCrosses}
 
@@ -36,7 +35,7 @@ isMember g c k e = edgeCrosses g c e && eqb (getD (cellGroups g c) e 0) k
 
 -- the edges with a crossing of the group k, ascending
 unfoldable pub membersOf : Grid → Site → ℕ → List ℕ
-membersOf g c k = those (isMember g c k) (tabulate itself 12)
+membersOf g c k = keep (isMember g c k) (tabulate itself 12)
 
 -- the crossing on an edge of a cell
 unfoldable pub crossingAt : Grid → Site → ℕ → Point

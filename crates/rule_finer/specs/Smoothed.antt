@@ -107,8 +107,3 @@ smoothSheet s =
       quads = finerSheet s .quads;
       labels = finerSheet s .labels;
     }
-
--- the elements that pass a test, in their order
-abbrev pub keep : (ℕ → Bool) → List ℕ → List ℕ
-keep p [] = []
-keep p (x ∷ l) = consIf (p x) x (keep p l)

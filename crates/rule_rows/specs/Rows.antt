@@ -5,7 +5,7 @@ use mathlib.Core.List.{List, [], _∷_, _++_, map}
 use lib.Dec.{eqb, ltb}
 use lib.ListN.{length, getD}
 use lib.Ieee.{Float, binary64, ofBits}
-use Rattle.lists.specs.Sort.{tabulate, bucket}
+use Rattle.lists.specs.Sort.{tabulate, bucket, keep}
 use Rattle.lists.specs.Every.{countTo}
 use Rattle.numeric.specs.Num.{half}
 use Rattle.points.specs.declared.Point.{Point}
@@ -23,7 +23,7 @@ use Rattle.rule_sheet.specs.Outcomes.{Outcome, refuses, gives, afterTest, withR
 use Rattle.rule_sheet.specs.Results.{countsOf}
 use Rattle.smoothing.specs.Smooth.{mean, sumOf}
 use Rattle.smoothing.specs.Rounded.{pointwise}
-use Rattle.rule_finer.specs.Smoothed.{those, pointQuads, paired, labelCount, pointOf, centreAt, keep}
+use Rattle.rule_finer.specs.Smoothed.{those, pointQuads, paired, labelCount, pointOf, centreAt}
 
 -- 10, row: "all twenty steps fail"
 abbrev pub row : ℕ

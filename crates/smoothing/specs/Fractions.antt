@@ -63,7 +63,12 @@ unfoldable pub _÷_ : Fraction → ℕ → Fraction
 unfolding wholeQ
 _÷_ a zero = wholeQ 0
 _÷_ a (suc n) =
-    record { above = a .above; below = a .below; under = a .under * suc n; positive = mul-pos (a .positive) (omega arith) }
+    record {
+      above = a .above;
+      below = a .below;
+      under = a .under * suc n;
+      positive = mul-pos (a .positive) (omega arith);
+    }
 
 -- the arithmetic of exact fractions
 abbrev pub exact : Arithmetic

@@ -13,7 +13,14 @@ reciprocalOf n = div binary64 one (float n)
 -- IEEE 754 binary64
 abbrev pub rounded : Arithmetic
 rounded =
-    record { Number = Float; plus = add binary64; minus = sub binary64; times = mul binary64; whole = float; reciprocal = reciprocalOf }
+    record {
+      Number = Float;
+      plus = add binary64;
+      minus = sub binary64;
+      times = mul binary64;
+      whole = float;
+      reciprocal = reciprocalOf;
+    }
 
 -- the point whose three coordinates are s
 abbrev pub each : Float → Point

@@ -1,4 +1,5 @@
--- The smoothing rule of `subdivide`, one coordinate at a time, over any arithmetic and in the order in which 000 works it.
+-- The smoothing rule of `subdivide`, one coordinate at a time, over any arithmetic and in the order in which 000
+-- works it.
 use Prim.Native.Nat.{ℕ}
 use mathlib.Core.Bool.{cond}
 use mathlib.Core.List.{List, [], _∷_, map, foldl}
@@ -27,7 +28,8 @@ module _ (A : Arithmetic) where
   unfoldable pub halfway : Number → Number → Number
   halfway a b = mean (a ⊞ b) 2
 
-  -- "An edge inside one label gets the mean of its two ends and two quad centres": ends a and b, centres f and g in quad order
+  -- "An edge inside one label gets the mean of its two ends and two quad centres": ends a and b, centres f and g in
+  -- quad order
   unfoldable pub edgePoint : Number → Number → Number → Number → Number
   edgePoint a b f g = mean (a ⊞ b ⊞ (f ⊞ g)) 4
 

@@ -42,7 +42,8 @@ pub fn crease_point(p: Point, a: Point, b: Point) -> Point
     mul(add(mul(p, 6.0), add(a, b)), 0.125)
 }
 
-// The new place of p inside one label, from the sum of the centres of its n quads and that of the midpoints of its m edges.
+// The new place of p inside one label, from the sum of the centres of its n quads and that of the midpoints of its
+// m edges.
 pub fn interior_point(p: Point, n: usize, faces: Point, m: usize, edges: Point) -> Point
     ensures { λ r. ⌜ r ≡ interiorBy pointwise p n faces m edges ⌝ }
 {

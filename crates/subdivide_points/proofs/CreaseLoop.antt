@@ -1,6 +1,6 @@
 -- The creases at a point, one more at a time. Assumes nothing.
 use Prim.Native.Nat.{ℕ, _+_, _*_, _/_, _≤_, _<_}
-use mathlib.Core.Path.{_≡_, refl, sym, ap, _∙_}
+use mathlib.Core.Path.{_≡_, refl, sym, _∙_}
 use mathlib.Core.Bool.{Bool, true, false, cond, not, true≢false}
 use mathlib.Core.List.{List, [], _∷_, _++_, map, map-append, append-nil}
 use native.Mathlib.Omega.{arith}
@@ -8,29 +8,13 @@ use lib.ListN.{length, getD, drop, length-append, length-drop, length-map}
 use lib.Seq.{length-take-le}
 use lib.Dec.{eqb}
 use borrow.Author.Tests.{ne-eqb}
-use Rattle.lists.specs.Sort.{consIf}
+use Rattle.lists.specs.Sort.{consIf, keep}
 use Rattle.lists.specs.Regions.{part}
 use Rattle.lists.proofs.Regions.{part-of, part-get}
+use Rattle.lists.proofs.Laws.{keep-append, keep-le}
 use Rattle.subdivide_points.specs.declared.Creases.{Creases}
 use Rattle.subdivide_points.specs.Steps.{Below, otherEnd, creaseAt, creasesOf, withCrease, creaseEnds}
-use Rattle.rule_finer.specs.Smoothed.{keep}
 use Rattle.subdivide_points.proofs.Sums.{part-suc}
-
-pub keep-append : (p : ℕ → Bool) (l m : List ℕ) → keep p (l ++ m) ≡ keep p l ++ keep p m
-keep-append p [] m = refl
-keep-append p (x ∷ l) m = go (p x) (keep-append p l m)
-  where
-    go : (b : Bool) → keep p (l ++ m) ≡ keep p l ++ keep p m → consIf b x (keep p (l ++ m)) ≡ consIf b x (keep p l) ++ keep p m
-    go true e = ap (λ (r : List ℕ). x ∷ r) e
-    go false e = e
-
-pub keep-le : (p : ℕ → Bool) (l : List ℕ) → length (keep p l) ≤ length l
-keep-le p [] = omega arith
-keep-le p (x ∷ l) = go (p x) (keep-le p l)
-  where
-    go : (b : Bool) → length (keep p l) ≤ length l → length (consIf b x (keep p l)) ≤ length (x ∷ l)
-    go true h = omega arith
-    go false h = omega arith
 
 -- a list with one crease more
 creases-add : (l : List ℕ) (u : ℕ) → creasesOf (l ++ (u ∷ [])) ≡ withCrease (creasesOf l) u

@@ -8,8 +8,8 @@ use native.Mathlib.Omega.{arith}
 use lib.ListN.{length, getD, length-map}
 use lib.Dec.{eqb, ltb}
 use borrow.Author.Tests.{eqb-true, ne-eqb, lt-ltb, ltb-true}
-use Rattle.lists.specs.Sort.{tabulate, itself, consIf, bucket}
-use Rattle.lists.proofs.Laws.{eq-or-ne, bucket-append, tab-add}
+use Rattle.lists.specs.Sort.{tabulate, itself, consIf, bucket, keep}
+use Rattle.lists.proofs.Laws.{eq-or-ne, bucket-append, tab-add, keep-append}
 use Rattle.lists.proofs.Every.{bool-iff}
 use Rattle.rule_sheet.specs.Quads.{all, side, isEdge}
 use Rattle.sheet.specs.Flat.{from}
@@ -25,9 +25,8 @@ use Rattle.quality_counts.proofs.Blocks.{key-smaller, key-larger}
 use Rattle.quality_counts.proofs.Sides.{no-loop, length-block}
 use Rattle.quality_counts.proofs.Tight.{edges-pass, edge-passes, all-and, all-none}
 use Rattle.refine.proofs.Edges.{sorted}
-use Rattle.rule_finer.specs.Smoothed.{edgeQuads, isPaired, paired, keep}
+use Rattle.rule_finer.specs.Smoothed.{edgeQuads, isPaired, paired}
 use Rattle.subdivide_points.specs.Steps.{endAt, Ends, otherEnd}
-use Rattle.subdivide_points.proofs.CreaseLoop.{keep-append}
 use Rattle.subdivide_points.proofs.Quads.{quadOf, edge-quads}
 use Rattle.subdivide_points.proofs.Joins.{join-list, length-twos, twos-at, others}
 

@@ -11,7 +11,7 @@ use lib.Seq.{getD-take}
 use lib.Dec.{eqb}
 use lib.Ieee.{Float}
 use Rattle.points.specs.Points.{pointAt}
-use Rattle.lists.specs.Sort.{tabulate, itself, consIf}
+use Rattle.lists.specs.Sort.{tabulate, itself, consIf, keep}
 use Rattle.lists.specs.Every.{countTo}
 use Rattle.lists.proofs.Laws.{lt-or-le, getD-tab}
 use Rattle.lists.proofs.Order.{Each, each-bucket, below-tab}
@@ -27,7 +27,7 @@ use Rattle.sheet.proofs.Masks.{bit-pack}
 use Rattle.sheet.proofs.Tests.{length-points}
 use Rattle.incidence.specs.Corners.{Cornered, edgeOrder}
 use Rattle.refine.proofs.Edges.{sorted}
-use Rattle.rule_finer.specs.Smoothed.{those, timed, sides, edgeQuads, pointQuads, paired, isCrease, neighbours, creases, labelCount, pointOf, centreAt, oldPoint, keep}
+use Rattle.rule_finer.specs.Smoothed.{those, timed, sides, edgeQuads, pointQuads, paired, isCrease, neighbours, creases, labelCount, pointOf, centreAt, oldPoint}
 use Rattle.rule_sheet.specs.Places.{centreOf}
 use Rattle.subdivide_points.specs.Steps.{onesOf, Ends, cornerCentre, otherEnd, creaseAt, creaseEnds, movedPoint, flatSheet}
 use Rattle.subdivide_points.proofs.Quads.{quadOf, num-cond, point-quads}

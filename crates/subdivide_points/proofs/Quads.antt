@@ -6,15 +6,14 @@ use mathlib.Core.List.{List, [], _∷_, _++_, map, map-append, append-nil, appen
 use native.Mathlib.Omega.{arith}
 use lib.ListN.{length, getD, replicate}
 use lib.Dec.{eqb}
-use Rattle.lists.specs.Sort.{tabulate, itself, consIf, bucket}
-use Rattle.lists.proofs.Laws.{eq-or-ne, lt-or-le, length-tab, tab-add}
+use Rattle.lists.specs.Sort.{tabulate, itself, consIf, bucket, keep}
+use Rattle.lists.proofs.Laws.{eq-or-ne, lt-or-le, length-tab, tab-add, keep-append}
 use Rattle.rule_sheet.specs.Quads.{Quad, num, is, uses}
 use Rattle.rule_sheet.specs.Flat.{quadAt, quadsOf}
 use Rattle.sheet.specs.Flat.{from}
 use Rattle.rule_sheet.specs.Edges.{pair}
 use Rattle.sheet.specs.Edges.{smaller, larger, allCorners, pointCorners, edgeCorners}
-use Rattle.rule_finer.specs.Smoothed.{timed, sides, edgeQuads, pointQuads, keep}
-use Rattle.subdivide_points.proofs.CreaseLoop.{keep-append}
+use Rattle.rule_finer.specs.Smoothed.{timed, sides, edgeQuads, pointQuads}
 use borrow.Author.Tests.{eq-eqb, ne-eqb}
 use mathlib.Core.Logic.{⊎-elim}
 

@@ -19,7 +19,8 @@ use Rattle.sheet.specs.Results.{Front}
 use Rattle.incidence.specs.Corners.{edgeOrder}
 use Rattle.rule_finer.specs.Finer.{finerSheet}
 use Rattle.refine.specs.Requests.{firstsOf, own, childAt, labelAt}
-use Rattle.refine.specs.Loops.{nth, madeTo, firstsAt, numbersAt, Finished}
+use Rattle.refine.specs.Loops.{madeTo, firstsAt, numbersAt, Finished}
+use Rattle.lists.specs.Steps.{nth}
 use Rattle.refine.proofs.Edges.{sorted}
 use Rattle.refine.proofs.Requests.{labels-flat}
 use Rattle.refine.proofs.Rule.{writing-of, quads-put}

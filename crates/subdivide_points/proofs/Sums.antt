@@ -11,7 +11,7 @@ use Rattle.lists.specs.Regions.{part}
 use Rattle.points.specs.declared.Point.{Point}
 use Rattle.smoothing.specs.Smooth.{sumOf}
 use Rattle.smoothing.specs.Rounded.{pointwise}
-use Rattle.refine.specs.Loops.{Held}
+use Rattle.incidence.specs.Corners.{Positioned}
 use Rattle.smoothing.proofs.ByPoints.{origin-by}
 use Rattle.smoothing.proofs.Coordinates.{sum-snoc, halfway-by}
 use Rattle.points.specs.Points.{addP, halfwayP, origin, pointAt}
@@ -47,7 +47,7 @@ pub sum-end : {g : ℕ → Point} {from m : ℕ} {w : List ℕ} {s : Point} {j :
 sum-end {g} {from} {m} {w} {s} {j} I h = let e : j ≡ m = omega (arith, I .j≤) in rw e at (I .is)
 
 -- the other end of an edge is a point
-pub other-low : {np nq : ℕ} {P : List Float} {H : List ℕ} (i u : ℕ) → Held np nq P H → i < 4 * nq → u ≡ otherEnd H i → u * 3 + 3 ≤ length P
+pub other-low : {np nq : ℕ} {P : List Float} {H : List ℕ} (i u : ℕ) → Positioned np nq P H → i < 4 * nq → u ≡ otherEnd H i → u * 3 + 3 ≤ length P
 unfolding otherEnd
 other-low i u A h e = omega (arith, A .points, A .cornered .points (i / 2 * 2 + (i + 1) % 2) (omega arith))
 

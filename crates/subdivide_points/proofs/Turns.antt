@@ -9,14 +9,14 @@ use lib.Ieee.{Float}
 use borrow.Author.Tests.{eq-eqb, ne-eqb, lt-ltb, le-ltb}
 use Rattle.points.specs.declared.Point.{Point}
 use Rattle.points.specs.Points.{pointAt, halfwayP}
-use Rattle.lists.specs.Sort.{consIf, tabulate, itself}
+use Rattle.lists.specs.Sort.{consIf, tabulate, itself, keep}
 use Rattle.lists.specs.Regions.{part}
 use Rattle.lists.proofs.Order.{Each, each-bucket, below-tab}
 use Rattle.lists.proofs.Regions.{part-of, part-len, part-get}
 use Rattle.sheet.specs.Flat.{from}
 use Rattle.rule_sheet.specs.Flat.{quadAt}
 use Rattle.sheet.specs.Edges.{pointCorners}
-use Rattle.incidence.specs.Corners.{keyOf}
+use Rattle.incidence.specs.Corners.{keyOf, Positioned}
 use Rattle.incidence.specs.Marks.{Incident}
 use Rattle.incidence.specs.declared.Key.the-variants.{Smaller, Larger}
 use Rattle.incidence.proofs.Marks.{around}
@@ -25,9 +25,8 @@ use Rattle.smoothing.specs.Smooth.{sumOf, halfway, edgePoint, creasePoint, inte
 use Rattle.smoothing.specs.Rounded.{pointwise}
 use Rattle.smoothing.proofs.Coordinates.{halfway-by}
 use Rattle.refine.specs.Requests.{own}
-use Rattle.refine.specs.Loops.{Held, orderAt}
+use Rattle.refine.specs.Loops.{orderAt}
 use Rattle.subdivide_points.specs.declared.Creases.{Creases}
-use Rattle.rule_finer.specs.Smoothed.{keep}
 use Rattle.rule_sheet.specs.Places.{centreOf}
 use Rattle.subdivide_points.specs.Steps.{onesOf, cornerCentre, otherEnd, halfwayTo, creaseAt, creaseEnds, creasesOf, movedBy, interiorAt, movedPoint, edgeAt, cornerOf, placeAt, masksAt, Spans, movedIn, Placing}
 use Rattle.subdivide_points.proofs.Moved.{map-map}
@@ -123,10 +122,10 @@ module _ (np nq : ℕ) (labels E H : List ℕ) (low : (i : ℕ) → i < 4 * nq �
 -- ---- the point of an edge
 
 -- the ends of a corner's edge are points
-pub edge-low : {np nq : ℕ} {P : List Float} {Q : List ℕ} (c k : ℕ) → Held np nq P Q → c < 4 * nq → k ≡ keyOf Q Smaller c → k * 3 + 3 ≤ length P
+pub edge-low : {np nq : ℕ} {P : List Float} {Q : List ℕ} (c k : ℕ) → Positioned np nq P Q → c < 4 * nq → k ≡ keyOf Q Smaller c → k * 3 + 3 ≤ length P
 edge-low c k h b e = omega (arith, h .points, key-below Smaller c (h .cornered) b)
 
-pub edge-high : {np nq : ℕ} {P : List Float} {Q : List ℕ} (c k : ℕ) → Held np nq P Q → c < 4 * nq → k ≡ keyOf Q Larger c → k * 3 + 3 ≤ length P
+pub edge-high : {np nq : ℕ} {P : List Float} {Q : List ℕ} (c k : ℕ) → Positioned np nq P Q → c < 4 * nq → k ≡ keyOf Q Larger c → k * 3 + 3 ≤ length P
 edge-high c k h b e = omega (arith, h .points, key-below Larger c (h .cornered) b)
 
 module _ (P : List Float) (Q labels : List ℕ) (c d k l x y : ℕ) (a b : Point) (ek : k ≡ keyOf Q Smaller c) (el : l ≡ keyOf Q Larger c) (ea : a ≡ pointAt P k) (eb : b ≡ pointAt P l)

@@ -22,7 +22,8 @@ use Rattle.sheet.specs.Edges.{smaller, larger, pointCorners}
 use Rattle.smoothing.specs.Smooth.{halfway, edgePoint, creasePoint, interior, smooth}
 use Rattle.smoothing.specs.Rounded.{pointwise}
 use Rattle.subdivide_points.specs.declared.Creases.{Creases}
-use Rattle.rule_finer.specs.Smoothed.{paired, keep}
+use Rattle.rule_finer.specs.Smoothed.{paired}
+use Rattle.lists.specs.Sort.{keep}
 use Rattle.rule_sheet.specs.Places.{centreOf}
 
 -- the bits of a mask below 256

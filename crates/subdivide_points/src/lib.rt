@@ -15,11 +15,11 @@ ghost use Rattle.rule_sheet.specs.Flat.{quadAt, quadsOf, flatQuads};
 ghost use Rattle.rule_sheet.specs.Sheet.{pointsOf, flatPoints};
 ghost use Rattle.rule_sheet.specs.Tests.{proper};
 ghost use Rattle.sheet.specs.Results.{Front};
-ghost use Rattle.incidence.specs.Corners.{Cornered, edgeOrder};
+ghost use Rattle.incidence.specs.Corners.{Cornered, edgeOrder, Positioned};
 ghost use Rattle.incidence.specs.Marks.{Incident};
 ghost use Rattle.smoothing.specs.Smooth.{sumOf};
 ghost use Rattle.smoothing.specs.Rounded.{pointwise};
-ghost use Rattle.refine.specs.Loops.{Held, orderAt, madeTo, putRequest, Numbered};
+ghost use Rattle.refine.specs.Loops.{orderAt, madeTo, putRequest, Numbered};
 ghost use Rattle.rule_finer.specs.Smoothed.{paired, smoothSheet};
 ghost use Rattle.rule_sheet.specs.Places.{centreOf};
 ghost use Rattle.subdivide_points.specs.Steps.{onesOf, Below, endAt, Ends, Pairing, Seconds, cornerCentre, otherEnd, halfwayTo, creaseAt, creasesOf, withCrease, creaseEnds, movedBy, interiorAt, edgeAt, cornerOf, placeAt, secondsAt, BeforeScratch, Spans, Listed, Gathered, movedIn, Placing, Gathering, Smoothable, flatSheet};
@@ -106,7 +106,7 @@ fn put_seconds(nq: usize, order: usize, second: usize, w: &mut [u32])
 
 // The centre of quad q.
 pub fn centre_at(points: &[f64], quads: &[u32], np: usize, nq: usize, q: usize) -> Point
-    requires { ⌜ Held np nq (now points) (now quads) ⌝ }
+    requires { ⌜ Positioned np nq (now points) (now quads) ⌝ }
     requires { ⌜ q < nq ⌝ }
     ensures { λ r. ⌜ r ≡ centreOf (pointAt (now (points .entry))) (quadAt (now (quads .entry)) q) ⌝ }
 {
@@ -127,7 +127,7 @@ fn sum_centres(
     m: usize,
     w: &[u32],
 ) -> Point
-    requires { ⌜ Held np nq (now points) (now quads) ⌝ }
+    requires { ⌜ Positioned np nq (now points) (now quads) ⌝ }
     requires { ⌜ Below (4 * nq) from m (now w) ⌝ }
     ensures { λ r. ⌜ r ≡ sumOf pointwise (map (cornerCentre (now (points .entry)) (now (quads .entry))) (part from m (now (w .entry)))) ⌝ }
 {
@@ -160,7 +160,7 @@ fn sum_halfways(
     m: usize,
     w: &[u32],
 ) -> Point
-    requires { ⌜ Held np nq (now points) (now ends) ⌝ }
+    requires { ⌜ Positioned np nq (now points) (now ends) ⌝ }
     requires { ⌜ Below (4 * nq) from m (now w) ⌝ }
     ensures { λ r. ⌜ r ≡ sumOf pointwise (map (halfwayTo p (now (points .entry)) (now (ends .entry))) (part from m (now (w .entry)))) ⌝ }
 {
@@ -376,7 +376,7 @@ fn edge_place(
     c: usize,
     d: usize,
 ) -> Point
-    requires { ⌜ Held np nq (now points) (now quads) ⌝ }
+    requires { ⌜ Positioned np nq (now points) (now quads) ⌝ }
     requires { ⌜ nq ≤ length (now labels) ⌝ }
     requires { ⌜ c < 4 * nq ⌝ }
     requires { ⌜ d < 4 * nq ⌝ }
@@ -403,7 +403,7 @@ fn new_place(
     t: usize,
     w: &[u32],
 ) -> Point
-    requires { ⌜ Held np nq (now points) (now quads) ⌝ }
+    requires { ⌜ Positioned np nq (now points) (now quads) ⌝ }
     requires { ⌜ nq ≤ length (now labels) ⌝ }
     requires { ⌜ second + 4 * nq ≤ length (now w) ⌝ }
     requires { ⌜ t < 5 * nq ⌝ }

@@ -3,7 +3,7 @@ use native.Mathlib.Omega.{arith}
 use Prim.Native.Nat.{_*_, _-_}
 use Rattle.lists.specs.Regions.{part}
 use Rattle.refine.specs.Requests.{childAt}
-use Rattle.refine.specs.Loops.{nth}
+use Rattle.lists.specs.Steps.{nth}
 use Rattle.refine.proofs.Loops.{QuadLoop, quads-start, quads-turn, quads-end}
 use Rattle.refine.proofs.put_quads.Statement.{statement}
 use Rattle.refine.proofs.put_quads.Tie as tie

@@ -20,7 +20,7 @@ shared-slice-read-hold : tie.Need-shared-slice-read-hold
 shared-slice-read-hold c = let s = c .before .before .before .before .before .before .before .before in omega (arith, s .pre .0 .labels≤, s .pre .1 .0)
 
 hold-requires : tie.Need-hold-requires
-hold-requires c κs = let s = c .before .before .before .before .before .before .before .before in let T = s .pre .0 in (record { sheet = T .passing .sheet; points = T .points }, (s .pre .1 .0, (s .pre .1 .1 .0, s .pre .1 .1 .1)))
+hold-requires c κs = let s = c .before .before .before .before .before .before .before .before in let T = s .pre .0 in (record { cornered = T .passing .sheet; points = T .points }, (s .pre .1 .0, (s .pre .1 .1 .0, s .pre .1 .1 .1)))
 
 best-requires : tie.Need-best-requires
 best-requires c κs = let s = c .before .before .before .before .before .before .before .before .before in let T = s .pre .0 in (T .passing .barring .room, (s .pre .1 .1 .1, T .points))
