@@ -12,7 +12,7 @@ use Rattle.rule_sheet.specs.Quads.{Quad, valence}
 use Rattle.rule_sheet.specs.Flat.{quadsOf}
 use Rattle.sheet.specs.Edges.{pointCorners}
 use Rattle.sheet.specs.Sheet.{masksOf}
-use Rattle.edges.specs.Maps.{Mapped, Standing}
+use Rattle.edges.specs.Conditions.{EdgeMapHolds, PointMapHolds}
 use Rattle.rule_coarsen.specs.Coarse.{shareOnly, noFurther, nearFree, sumBefore, sumAfter}
 use Rattle.coarsen_merge.specs.declared.Span.{Span}
 use Rattle.coarsen_merge.specs.declared.Sums.{Sums}
@@ -83,8 +83,8 @@ pub record Grounds (np nq : ℕ) (w : List ℕ) : Type 0 where
   pub few : np ≤ 1048576
   pub some : 0 < nq
   pub room : 64 * (np + nq) ≤ length w
-  pub standing : Standing np nq (wasAt np nq) (startsAt np nq) (orderAt np nq) w
-  pub mapped : Mapped np nq (wasAt np nq) (edgeStartsAt np nq) (edgesAt np nq) w
+  pub standing : PointMapHolds np nq (wasAt np nq) (startsAt np nq) (orderAt np nq) w
+  pub mapped : EdgeMapHolds np nq (wasAt np nq) (edgeStartsAt np nq) (edgesAt np nq) w
   pub valences : Part (valencesAt np nq) np (tabulate (valence (startOf np nq w)) np) w
 
 -- a point is touched where a quad at it has a barred corner

@@ -17,7 +17,7 @@ use Rattle.sheet.specs.Flat.{maskIn}
 use Rattle.sheet.specs.Tests.{goodQuadAt}
 use Rattle.sheet.specs.Sheet.{masksOf}
 use Rattle.incidence.specs.Corners.{edgeOrder, cornersAt, firstAt}
-use Rattle.edges.specs.Maps.{firstEdge}
+use Rattle.edges.specs.Steps.{firstEdge}
 use Rattle.edges.proofs.Maps.{mapped, standing, quads-take}
 use Rattle.coarsen_merge.specs.Layout.{wasAt, edgeStartsAt, edgesAt, startsAt, orderAt, valencesAt, usedAt, removedAt, touchedAt, startOf}
 use Rattle.coarsen_merge.proofs.Grounds.{grounds-kept}

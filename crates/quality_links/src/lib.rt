@@ -58,7 +58,7 @@ fn join_all(np: usize, quads: &[u32], from: usize, m: usize, deg: usize, acc: us
     while j < m {
         let c = lists::at(w, from + j);
         let p = point_before(quads, c);
-        let n = quality_counts::point_after(quads, c);
+        let n = edges::point_after(quads, c);
         register(deg, acc, p, n, w);
         register(deg, acc, n, p, w);
         j += 1;
@@ -73,7 +73,7 @@ fn both_two(quads: &[u32], c: usize, deg: usize, w: &[u32]) -> bool
     ensures { λ r. ⌜ r ≡ bothTwo (now (quads .entry)) deg (now (w .entry)) c ⌝ }
 {
     let a = lists::at(w, deg + point_before(quads, c));
-    let b = lists::at(w, deg + quality_counts::point_after(quads, c));
+    let b = lists::at(w, deg + edges::point_after(quads, c));
     (a == 2) & (b == 2)
 }
 
@@ -120,7 +120,7 @@ fn clear_joins(
     while j < m {
         let c = lists::at(w, from + j);
         let p = point_before(quads, c);
-        let n = quality_counts::point_after(quads, c);
+        let n = edges::point_after(quads, c);
         w[deg + p] = 0;
         w[deg + n] = 0;
         j += 1;
@@ -173,7 +173,7 @@ fn is_round(
     }
     let c = lists::at(w, from);
     let p = point_before(quads, c);
-    let n = quality_counts::point_after(quads, c);
+    let n = edges::point_after(quads, c);
     round_length(np, nq, quads, v, acc, p, n, w) == m
 }
 
@@ -226,9 +226,7 @@ pub fn bad_links(
     let mut count = 0;
     let mut v = 0;
     while v < np {
-        count += quality_counts::one_if(
-            !is_good_link(np, nq, quads, v, starts, order, deg, acc, w),
-        );
+        count += sheet::one_if(!is_good_link(np, nq, quads, v, starts, order, deg, acc, w));
         v += 1;
     }
     count

@@ -24,7 +24,8 @@ use Rattle.sheet.specs.Results.{Front}
 use Rattle.sheet.proofs.Fronts.{front-none, front-point, front-quad, length-with, length-with-quad}
 use Rattle.incidence.specs.Corners.{edgeOrder}
 use Rattle.rule_finer.specs.Finer.{centreP}
-use Rattle.refine.specs.Requests.{requestOf, firstOf, own, numberOf, sameEdge, linkedTo, positionIn, childAt}
+use Rattle.edges.specs.Steps.{sameEdge}
+use Rattle.refine.specs.Requests.{requestOf, firstOf, own, numberOf, linkedTo, positionIn, childAt}
 use Rattle.refine.specs.Loops.{lowAt, nth, Held, Linking, Numbering, Numbered, Writing, madeTo, putRequest}
 use Rattle.refine.proofs.Edges.{Same, sorted, same-yes, same-no, linked-new, linked-same, linked-end}
 

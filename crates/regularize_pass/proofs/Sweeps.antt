@@ -15,8 +15,8 @@ use Rattle.rule_sheet.specs.Flat.{quadsOf}
 use Rattle.rule_sheet.specs.Edges.{edgesOf}
 use Rattle.sheet.proofs.Flat.{length-quads}
 use Rattle.incidence.specs.Corners.{edgeOrder}
-use Rattle.quality_counts.specs.Places.{linked, goesOn, kindAt}
-use Rattle.quality_counts.proofs.Walk.{linked-below}
+use Rattle.edges.specs.Steps.{linked, goesOn, kindAt}
+use Rattle.edges.proofs.Walk.{linked-below}
 use Rattle.rule_regularize.specs.Swaps.{State, sweep, fresh, swapPass}
 use Rattle.regularize_swap.specs.Steps.{pairAt, stepAt, stepsFrom}
 use Rattle.regularize_swap.specs.Slices.{wasAt, edgesAt, valencesAt, startOf, stateOf, edgeCorner, Begun}

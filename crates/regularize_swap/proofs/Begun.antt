@@ -13,7 +13,7 @@ use Rattle.lists.proofs.Regions.{part-get, part-kept, lent-all}
 use Rattle.rule_sheet.specs.Quads.{valence}
 use Rattle.rule_sheet.specs.Flat.{quadsOf}
 use Rattle.incidence.specs.Corners.{Cornered, edgeOrder, cornersAt, firstAt}
-use Rattle.edges.specs.Maps.{firstEdge}
+use Rattle.edges.specs.Steps.{firstEdge}
 use Rattle.edges.proofs.Maps.{mapped, standing, quads-take}
 use Rattle.regularize_swap.specs.Slices.{wasAt, workAt, edgeStartsAt, edgesAt, pointStartsAt, pointsAt, valencesAt, marksAt, barsOf, Room, Begun}
 use Rattle.regularize_swap.proofs.Bars.{room-kept}

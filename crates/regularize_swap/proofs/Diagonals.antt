@@ -10,8 +10,8 @@ use borrow.Author.Tests.{le-leb, lt-leb}
 use Rattle.lists.proofs.Regions.{part-get, part-of, part-len}
 use Rattle.rule_sheet.specs.Quads.{isEdge}
 use Rattle.rule_sheet.specs.Flat.{quadsOf}
-use Rattle.quality_counts.proofs.Walk.{walked-of}
-use Rattle.edges.specs.Maps.{Mapped}
+use Rattle.edges.proofs.Walk.{walked-of}
+use Rattle.edges.specs.Conditions.{EdgeMapHolds}
 use Rattle.pass_shapes.specs.declared.Six.{Six}
 use Rattle.pass_shapes.specs.SwapFits.{SixBelow}
 use Rattle.regularize_swap.specs.Slices.{wasAt, edgeStartsAt, edgesAt, startOf, sumIn, edgeCorner}
@@ -43,7 +43,7 @@ module _ (np nq : ℕ) (w : List ℕ) (h : Six) (k : ℕ) (g : Six) (e : g ≡ t
 pub better-told : (np nq : ℕ) (w : List ℕ) (h : Six) (x y : ℕ) → x ≡ sumIn np nq w (h .h2) (h .h5) → y ≡ sumIn np nq w (h .h1) (h .h4) → ltb x y ≡ betterIn np nq h w
 better-told np nq w h x y ex ey = rw (ex, ey)
 
-pub corner-told : {np nq : ℕ} {w : List ℕ} (i r : ℕ) → Mapped np nq (wasAt np nq) (edgeStartsAt np nq) (edgesAt np nq) w → i < 4 * nq → r ≡ getD w (edgesAt np nq + i) 0
+pub corner-told : {np nq : ℕ} {w : List ℕ} (i r : ℕ) → EdgeMapHolds np nq (wasAt np nq) (edgeStartsAt np nq) (edgesAt np nq) w → i < 4 * nq → r ≡ getD w (edgesAt np nq + i) 0
     → (r ≡ edgeCorner np nq w i) × (r < 4 * nq)
 corner-told {np} {nq} {w} i r M h e =
     let a : r ≡ edgeCorner np nq w i = e ∙ part-get 0 i (part-of (edgesAt np nq) (4 * nq) w (M .at .fits)) h in

@@ -9,7 +9,7 @@ use lib.ListN.{getD}
 use borrow.Author.Tests.{ne-eqb}
 use Rattle.rule_sheet.specs.Quads.{num}
 use Rattle.sheet.specs.Flat.{from, to, before}
-use Rattle.quality_counts.specs.Places.{kindAt}
+use Rattle.edges.specs.Steps.{kindAt}
 use Rattle.pass_shapes.specs.declared.Six.{Six}
 use Rattle.regularize_swap.specs.Steps.{pairAt}
 use Rattle.regularize_swap.specs.Slices.{marksAt, isBarred}

@@ -10,7 +10,7 @@ use Rattle.lists.specs.Regions.{part, Part}
 use Rattle.rule_sheet.specs.Quads.{valence}
 use Rattle.rule_sheet.specs.Flat.{quadsOf}
 use Rattle.incidence.specs.Corners.{Cornered}
-use Rattle.edges.specs.Maps.{Mapped, Standing}
+use Rattle.edges.specs.Conditions.{EdgeMapHolds, PointMapHolds}
 use Rattle.rule_regularize.specs.Swaps.{State}
 
 -- ---- where the regions begin in the work slice of a sheet of np points and nq quads
@@ -79,13 +79,13 @@ pub record Room (np nq : ℕ) (w : List ℕ) : Type 0 where
 -- the corners of the start by point
 pub record Barring (np nq : ℕ) (w : List ℕ) : Type 0 where
   pub room : Room np nq w
-  pub standing : Standing np nq (wasAt np nq) (pointStartsAt np nq) (pointsAt np nq) w
+  pub standing : PointMapHolds np nq (wasAt np nq) (pointStartsAt np nq) (pointsAt np nq) w
 
 -- a pass is under way: the map of its start, and the valences of the quads Q now
 pub record Passing (np nq : ℕ) (Q w : List ℕ) : Type 0 where
   pub sheet : Cornered np nq Q
   pub barring : Barring np nq w
-  pub map : Mapped np nq (wasAt np nq) (edgeStartsAt np nq) (edgesAt np nq) w
+  pub map : EdgeMapHolds np nq (wasAt np nq) (edgeStartsAt np nq) (edgesAt np nq) w
   pub valences : Part (valencesAt np nq) np (tabulate (valence (quadsOf nq Q)) np) w
 
 -- a pass over the quads Q begins: no quad is barred

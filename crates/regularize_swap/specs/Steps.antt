@@ -5,7 +5,7 @@ use mathlib.Core.List.{List, [], _∷_}
 use lib.Dec.{eqb}
 use lib.ListN.{getD}
 use Rattle.rule_sheet.specs.Quads.{Quad}
-use Rattle.quality_counts.specs.Places.{kindAt}
+use Rattle.edges.specs.Steps.{kindAt}
 use Rattle.rule_regularize.specs.Swaps.{Place, State, Fits, tryPlaces}
 use Rattle.rule_passes.specs.Choices.{takeOr}
 

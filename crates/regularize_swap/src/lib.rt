@@ -10,7 +10,7 @@ ghost use Rattle.lists.specs.Sort.{tabulate};
 ghost use Rattle.lists.specs.Regions.{part, Part, Out, Kept};
 ghost use Rattle.incidence.specs.Corners.{Known, Cornered};
 ghost use Rattle.incidence.specs.Marks.{barredBy};
-ghost use Rattle.edges.specs.Maps.{Mapped};
+ghost use Rattle.edges.specs.Conditions.{EdgeMapHolds};
 ghost use Rattle.pass_shapes.specs.SwapFits.{SixBelow};
 ghost use Rattle.regularize_swap.specs.Steps.{pairAt};
 ghost use Rattle.regularize_swap.specs.Slices.{wasAt, edgeStartsAt, edgesAt, marksAt, startOf, isBarred, sumIn, edgeCorner, Room, Barring, Passing, Begun};
@@ -41,15 +41,15 @@ const MARKS: usize = 22;
 
 // An edge of exactly two corners begins at place i in the order of the edges.
 pub fn is_pair(np: usize, nq: usize, i: usize, w: &[u32]) -> bool
-    requires { ⌜ Mapped np nq (wasAt np nq) (edgeStartsAt np nq) (edgesAt np nq) (now w) ⌝ }
+    requires { ⌜ EdgeMapHolds np nq (wasAt np nq) (edgeStartsAt np nq) (edgesAt np nq) (now w) ⌝ }
     requires { ⌜ Room np nq (now w) ⌝ }
     requires { ⌜ i < 4 * nq ⌝ }
     ensures { λ r. ⌜ r ≡ pairAt (startOf np nq (now (w .entry))) (4 * nq) (part (edgesAt np nq) (4 * nq) (now (w .entry))) i ⌝ }
 {
     let n = np + nq;
     let was = WAS * n;
-    let kind = quality_counts::kind_at(&w[was..was + 4 * nq], EDGES * n, 4 * nq, i, w);
-    (kind == quality_counts::OPPOSITE) | (kind == quality_counts::TURNED)
+    let kind = edges::kind_at(&w[was..was + 4 * nq], EDGES * n, 4 * nq, i, w);
+    (kind == edges::OPPOSITE) | (kind == edges::TURNED)
 }
 
 // The quads i and j are not barred, and their labels agree.
@@ -149,7 +149,7 @@ fn valence_sum(np: usize, nq: usize, u: usize, v: usize, w: &[u32]) -> usize
 
 // The diagonal k is no edge of the pass's start, and half its gain is at least `least`.
 pub fn is_open(np: usize, nq: usize, least: usize, h: Six, k: usize, w: &[u32]) -> bool
-    requires { ⌜ Mapped np nq (wasAt np nq) (edgeStartsAt np nq) (edgesAt np nq) (now w) ⌝ }
+    requires { ⌜ EdgeMapHolds np nq (wasAt np nq) (edgeStartsAt np nq) (edgesAt np nq) (now w) ⌝ }
     requires { ⌜ Room np nq (now w) ⌝ }
     requires { ⌜ SixBelow np h ⌝ }
     requires { ⌜ least ≤ 1 ⌝ }
@@ -187,7 +187,7 @@ pub fn is_second_better(np: usize, nq: usize, h: Six, w: &[u32]) -> bool
 
 // The corner at place i in the order of the edges.
 pub fn edge_corner(np: usize, nq: usize, i: usize, w: &[u32]) -> usize
-    requires { ⌜ Mapped np nq (wasAt np nq) (edgeStartsAt np nq) (edgesAt np nq) (now w) ⌝ }
+    requires { ⌜ EdgeMapHolds np nq (wasAt np nq) (edgeStartsAt np nq) (edgesAt np nq) (now w) ⌝ }
     requires { ⌜ Room np nq (now w) ⌝ }
     requires { ⌜ i < 4 * nq ⌝ }
     ensures { λ r. ⌜ r ≡ edgeCorner np nq (now (w .entry)) i ⌝ }

@@ -21,8 +21,8 @@ use Rattle.sheet.specs.Edges.{smaller, larger, allCorners, edgeCorners}
 use Rattle.sheet.proofs.Edges.{join-to, join-ext, edge-corners, edge-flat}
 use Rattle.sheet.proofs.Tests.{length-points}
 use Rattle.incidence.specs.Corners.{edgeOrder}
-use Rattle.quality_counts.proofs.Blocks.{block, byLarger, off, off-suc, row-length, at-off, key-smaller, key-larger}
-use Rattle.quality_counts.proofs.EdgeKinds.{kindOf, kind-first, kind-later}
+use Rattle.edges.proofs.Blocks.{block, byLarger, off, off-suc, row-length, at-off, key-smaller, key-larger}
+use Rattle.edges.proofs.EdgeKinds.{kindOf, kind-first, kind-later}
 use Rattle.subdivide_points.specs.Steps.{flatSheet}
 use Rattle.rule_rows.specs.Rows.{Side, side, lowOf, highOf, fourSides, sidesOf, edgeSides, twoLabels, rowSides}
 use Rattle.rows.specs.Steps.{cornerLabel, isTwo, seamAt, seamCorners, seamsTo, seamsOf}

@@ -20,7 +20,7 @@ use Rattle.rule_sheet.specs.Quads.{quad}
 use Rattle.sheet.specs.Flat.{from, to, withQuad}
 use Rattle.rule_sheet.specs.Edges.{joinTo}
 use Rattle.incidence.specs.Corners.{Cornered, edgeOrder}
-use Rattle.quality_counts.specs.Places.{linked, goesOn, sameStart, kindAt}
+use Rattle.edges.specs.Steps.{linked, goesOn, sameStart, kindAt}
 use Rattle.smoothing.specs.Smooth.{mean}
 use Rattle.smoothing.specs.Rounded.{pointwise}
 use Rattle.refine.specs.Loops.{orderAt}

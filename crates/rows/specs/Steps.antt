@@ -27,7 +27,7 @@ use Rattle.sheet.specs.Sheet.{LentSheet, masksOf}
 use Rattle.rule_sheet.specs.Tests.{proper}
 use Rattle.incidence.specs.Corners.{Cornered, edgeOrder}
 use Rattle.incidence.specs.Marks.{Incident}
-use Rattle.quality_counts.specs.Places.{kindAt}
+use Rattle.edges.specs.Steps.{kindAt}
 use Rattle.smoothing.specs.Smooth.{mean, sumOf}
 use Rattle.smoothing.specs.Rounded.{pointwise}
 use Rattle.refine.specs.Loops.{Held, orderAt}

@@ -2,7 +2,7 @@
 use borrow.Author.Needs.{needs}
 use Prim.Native.Nat.{_*_}
 use Rattle.lists.proofs.Regions.{lent-is}
-use Rattle.quality_counts.proofs.Walk.{walked-of}
+use Rattle.edges.proofs.Walk.{walked-of}
 use Rattle.regularize_swap.specs.Slices.{wasAt}
 use Rattle.regularize_swap.proofs.Hexagons.{pair-told}
 use Rattle.regularize_swap.proofs.is_pair.Statement.{statement}

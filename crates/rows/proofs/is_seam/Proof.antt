@@ -1,7 +1,7 @@
 -- `rows::is_seam` meets its contract. Assumes nothing.
 use native.Mathlib.Omega.{arith}
 use borrow.Author.Needs.{needs}
-use Rattle.quality_counts.proofs.Walk.{walked-of}
+use Rattle.edges.proofs.Walk.{walked-of}
 use Rattle.rows.proofs.Strips.{place-low, two-next, seam-yes, seam-no}
 use Rattle.rows.proofs.is_seam.Statement.{statement}
 use Rattle.rows.proofs.is_seam.Tie as tie

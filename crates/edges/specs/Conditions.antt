@@ -1,25 +1,24 @@
--- The edge map in regions of one work slice: the quads, their corners in the order of their edges, and where the corners of each smaller point begin.
+-- What the maps of a sheet are in regions of one work slice, and what the search and the walk ask.
 use Prim.Native.Nat.{ℕ, _+_, _*_, _≤_, _<_}
 use mathlib.Core.List.{List}
 use lib.ListN.{length, getD}
-use Rattle.lists.specs.Sort.{tabulate, sortBy, start}
+use Rattle.lists.specs.Sort.{tabulate}
 use Rattle.lists.specs.Regions.{part, Part}
-use Rattle.sheet.specs.Edges.{smaller, larger, allCorners}
+use Rattle.sheet.specs.Edges.{larger}
 use Rattle.incidence.specs.Corners.{Known, Cornered, edgeOrder, cornersAt, firstAt}
+use Rattle.edges.specs.Steps.{firstEdge}
 
--- where the corners whose edge has the smaller point v begin in the order of the edges
-unfoldable pub firstEdge : ℕ → ℕ → List ℕ → ℕ → ℕ
-firstEdge np nq Q v = start (smaller Q) (sortBy (larger Q) np (allCorners nq)) v
-
--- w has the quads at `was`, their corners by edge at `order`, and where those of each smaller point begin at `starts`
-pub record Mapped (np nq was starts order : ℕ) (w : List ℕ) : Type 0 where
+-- the edge map: w has the quads at `was`, their corners by edge at `order`, and where those of each smaller point begin
+-- at `starts`
+pub record EdgeMapHolds (np nq was starts order : ℕ) (w : List ℕ) : Type 0 where
   pub sheet : Cornered np nq (part was (4 * nq) w)
   pub in-was : was + 4 * nq ≤ length w
   pub at : Part order (4 * nq) (edgeOrder np nq (part was (4 * nq) w)) w
   pub begin : Part starts (np + 1) (tabulate (firstEdge np nq (part was (4 * nq) w)) (np + 1)) w
 
--- w has the quads at `was`, their corners by point at `order`, and where those of each point begin at `starts`
-pub record Standing (np nq was starts order : ℕ) (w : List ℕ) : Type 0 where
+-- the point map: w has the quads at `was`, their corners by point at `order`, and where those of each point begin at
+-- `starts`
+pub record PointMapHolds (np nq was starts order : ℕ) (w : List ℕ) : Type 0 where
   pub sheet : Cornered np nq (part was (4 * nq) w)
   pub in-was : was + 4 * nq ≤ length w
   pub at : Part order (4 * nq) (cornersAt np nq (part was (4 * nq) w)) w
@@ -36,3 +35,9 @@ pub record Narrowed (Q cs : List ℕ) (b lo hi : ℕ) : Type 0 where
   pub hi≤ : hi ≤ length cs
   pub below : (i : ℕ) → i < lo → larger Q (getD cs i 0) < b
   pub above : (i : ℕ) → hi ≤ i → i < length cs → b ≤ larger Q (getD cs i 0)
+
+-- n corners stand at `order`, and Q has the quad of each
+pub record WalkAsks (Q : List ℕ) (order n : ℕ) (w : List ℕ) : Type 0 where
+  pub few : n ≤ 4194304
+  pub fits : order + n ≤ length w
+  pub known : (i : ℕ) → i < n → Known Q (getD (part order n w) i 0)
