@@ -7,10 +7,14 @@ use points::Point;
 use projection::Projected;
 use rule_coarsen::Merge;
 ghost use mathlib.Core.Path.{_≡_};
-ghost use Prim.Native.Nat.{ℕ, _+_, _*_, _<_, _≤_, max};
+ghost use Prim.Native.Nat.{_+_, _*_, _<_, _≤_, max};
 ghost use lib.ListN.{length};
-ghost use Rattle.coarsen_merge.specs.Layout.{Grounds, Touched, allowedIn, orderAt, endedAt};
-ghost use Rattle.coarsen_search.specs.Choices.{diagonalOf, betterOf, landingOf, stayAround, candidateOf, weighedOf, foundTo, Tried, Searching, Holding, Noted, InOrder, triedIn, Takeable, Taken, Passing, VisitedFace, VisitedAll};
+ghost use Rattle.coarsen_merge.specs.Conditions.{StartHolds, TouchedHolds};
+ghost use Rattle.coarsen_merge.specs.Steps.{allowedIn};
+ghost use Rattle.pass_map.specs.Regions.{pointsAt};
+ghost use Rattle.coarsen_merge.specs.Regions.{endedAt};
+ghost use Rattle.coarsen_search.specs.Steps.{diagonalOf, betterOf, landingOf, stayAround, candidateOf, weighedOf, foundTo, triedIn};
+ghost use Rattle.coarsen_search.specs.Conditions.{DiagonalAsks, SearchAsks, Holding, Noted, InOrder, TakeAsks, TakeLeaves, MergePassHolds, VisitLeaves, VisitAllLeaves};
 ghost use Rattle.lists.specs.Regions.{Out, Kept};
 ghost use Rattle.rule_coarsen.specs.MergeFits.{mergeAt};
 ghost use mathlib.Core.Bool.{true};
@@ -106,10 +110,10 @@ fn landing(
     points: &[f64],
     w: &[u32],
 ) -> Projected
-    requires { ⌜ Grounds np nq (now w) ⌝ }
-    requires { ⌜ Tried np nq g (now w) ⌝ }
+    requires { ⌜ StartHolds np nq (now w) ⌝ }
+    requires { ⌜ DiagonalAsks np nq g (now w) ⌝ }
     requires { ⌜ 3 * np ≤ length (now points) ⌝ }
-    requires { ⌜ Touched np nq (now w) ⌝ }
+    requires { ⌜ TouchedHolds np nq (now w) ⌝ }
     ensures { λ r. ⌜ r ≡ landingOf np nq g b len (now (points .entry)) (now (w .entry)) ⌝ }
 {
     if coarsen_merge::allowed(np, nq, g.face, g.a, g.b, g.c, g.d, w) {
@@ -159,12 +163,12 @@ fn stay_around(
     w: &[u32],
     v: usize,
 ) -> Stay
-    requires { ⌜ Grounds np nq (now w) ⌝ }
+    requires { ⌜ StartHolds np nq (now w) ⌝ }
     requires { ⌜ 3 * np ≤ length (now points) ⌝ }
     requires { ⌜ nq ≤ length (now labels) ⌝ }
     requires { ⌜ v < np ⌝ }
     ensures { λ r. ⌜ r .stays ≡ stayAround np nq g f len p (now (points .entry)) (now (labels .entry)) (now (w .entry)) v ⌝ }
-    ensures { λ r. ⌜ r .at ≤ orderAt np nq + 4 * nq ⌝ }
+    ensures { λ r. ⌜ r .at ≤ pointsAt np nq + 4 * nq ⌝ }
 {
     let n = np + nq;
     let m = merge_of(g, p);
@@ -176,9 +180,9 @@ fn stay_around(
         len,
         points,
         labels,
-        coarsen_merge::WAS * n,
-        coarsen_merge::STARTS * n,
-        coarsen_merge::ORDER * n,
+        pass_map::WAS * n,
+        pass_map::POINT_STARTS * n,
+        pass_map::POINTS * n,
         v,
         m,
         place,
@@ -188,11 +192,11 @@ fn stay_around(
 
 // The ends of a diagonal, the one with fewer quads first.
 fn ends_of(np: usize, nq: usize, g: Diagonal, w: &[u32]) -> Ends
-    requires { ⌜ Grounds np nq (now w) ⌝ }
-    requires { ⌜ Tried np nq g (now w) ⌝ }
+    requires { ⌜ StartHolds np nq (now w) ⌝ }
+    requires { ⌜ DiagonalAsks np nq g (now w) ⌝ }
     ensures { λ r. ⌜ InOrder g r ⌝ }
 {
-    let valences = coarsen_merge::VALENCES * (np + nq);
+    let valences = pass_map::VALENCES * (np + nq);
     let a = lists::at(w, valences + g.a);
     let c = lists::at(w, valences + g.c);
     if c < a {
@@ -209,8 +213,8 @@ fn ends_of(np: usize, nq: usize, g: Diagonal, w: &[u32]) -> Ends
 
 // The candidate of a diagonal whose merge lands at p.
 fn candidate_of(np: usize, nq: usize, g: Diagonal, p: Point, w: &[u32]) -> Candidate
-    requires { ⌜ Grounds np nq (now w) ⌝ }
-    requires { ⌜ Tried np nq g (now w) ⌝ }
+    requires { ⌜ StartHolds np nq (now w) ⌝ }
+    requires { ⌜ DiagonalAsks np nq g (now w) ⌝ }
     requires { ⌜ allowedIn np nq (g .face) (g .a) (g .b) (g .c) (g .d) (now w) ≡ true ⌝ }
     ensures { λ r. ⌜ r ≡ candidateOf np nq g p (now (w .entry)) ⌝ }
 {
@@ -236,8 +240,8 @@ fn weighed(
     w: &[u32],
     best: Choice,
 ) -> Weighing
-    requires { ⌜ Grounds np nq (now w) ⌝ }
-    requires { ⌜ Tried np nq g (now w) ⌝ }
+    requires { ⌜ StartHolds np nq (now w) ⌝ }
+    requires { ⌜ DiagonalAsks np nq g (now w) ⌝ }
     requires { ⌜ 3 * np ≤ length (now points) ⌝ }
     requires { ⌜ nq ≤ length (now labels) ⌝ }
     requires { ⌜ allowedIn np nq (g .face) (g .a) (g .b) (g .c) (g .d) (now w) ≡ true ⌝ }
@@ -276,10 +280,10 @@ pub fn search(
     labels: &[u8],
     w: &[u32],
 ) -> Found
-    requires { ⌜ Grounds np nq (now w) ⌝ }
-    requires { ⌜ Searching np nq f (now quads) (now w) ⌝ }
+    requires { ⌜ StartHolds np nq (now w) ⌝ }
+    requires { ⌜ SearchAsks np nq f (now quads) (now w) ⌝ }
     requires { ⌜ Holding np nq (length (now points)) (length (now quads)) (length (now labels)) ⌝ }
-    requires { ⌜ Touched np nq (now w) ⌝ }
+    requires { ⌜ TouchedHolds np nq (now w) ⌝ }
     ensures { λ r. ⌜ r .choice ≡ foundTo np nq b len (now (points .entry)) (now (quads .entry)) (now (labels .entry)) (now (w .entry)) f 2 ⌝ }
     ensures { λ r. ⌜ Noted np nq (r .first) ⌝ }
     ensures { λ r. ⌜ Noted np nq (r .second) ⌝ }
@@ -312,7 +316,7 @@ pub fn search(
 
 // Quad f is still here, and none of its corners is barred.
 fn is_tried(np: usize, nq: usize, f: usize, quads: &[u32], w: &[u32]) -> bool
-    requires { ⌜ Grounds np nq (now w) ⌝ }
+    requires { ⌜ StartHolds np nq (now w) ⌝ }
     requires { ⌜ Cornered np nq (now quads) ⌝ }
     requires { ⌜ f < nq ⌝ }
     ensures { λ r. ⌜ r ≡ triedIn np nq f (now (quads .entry)) (now (w .entry)) ⌝ }
@@ -333,10 +337,10 @@ fn take(
     quads: &mut [u32],
     w: &mut [u32],
 ) -> usize
-    requires { ⌜ Grounds np nq (now w) ⌝ }
-    requires { ⌜ Takeable np nq f choice (length (now points)) (length (now quads)) ⌝ }
-    requires { ⌜ Touched np nq (now w) ⌝ }
-    ensures { λ r. ⌜ Taken np nq f choice r (now (points .entry)) (now (quads .entry)) (now (w .entry)) (now (points .exit)) (now (quads .exit)) (now (w .exit)) ⌝ }
+    requires { ⌜ StartHolds np nq (now w) ⌝ }
+    requires { ⌜ TakeAsks np nq f choice (length (now points)) (length (now quads)) ⌝ }
+    requires { ⌜ TouchedHolds np nq (now w) ⌝ }
+    ensures { λ r. ⌜ TakeLeaves np nq f choice r (now (points .entry)) (now (quads .entry)) (now (w .entry)) (now (points .exit)) (now (quads .exit)) (now (w .exit)) ⌝ }
 {
     match choice {
         Choice::None => 0,
@@ -349,7 +353,7 @@ fn take(
 
 // Keeps where a walk ended for the next one round the same point.
 fn remember(np: usize, nq: usize, e: Ended, w: &mut [u32])
-    requires { ⌜ Grounds np nq (now w) ⌝ }
+    requires { ⌜ StartHolds np nq (now w) ⌝ }
     requires { ⌜ Noted np nq e ⌝ }
     ensures { λ _. ⌜ Kept (Out (endedAt np nq) (np + 1)) (now (w .entry)) (now (w .exit)) ⌝ }
 {
@@ -368,10 +372,10 @@ pub fn visit(
     labels: &[u8],
     w: &mut [u32],
 ) -> usize
-    requires { ⌜ Passing np nq (now labels) (length (now points)) (now quads) (now w) ⌝ }
+    requires { ⌜ MergePassHolds np nq (now labels) (length (now points)) (now quads) (now w) ⌝ }
     requires { ⌜ f < nq ⌝ }
     requires { ⌜ len ≡ lengthOf b ⌝ }
-    ensures { λ r. ⌜ VisitedFace b np nq (now (labels .entry)) f r (now (points .entry)) (now (quads .entry)) (now (w .entry)) (now (points .exit)) (now (quads .exit)) (now (w .exit)) ⌝ }
+    ensures { λ r. ⌜ VisitLeaves b np nq (now (labels .entry)) f r (now (points .entry)) (now (quads .entry)) (now (w .entry)) (now (points .exit)) (now (quads .exit)) (now (w .exit)) ⌝ }
 {
     if is_tried(np, nq, f, quads, w) {
         let found = search(np, nq, f, b, len, points, quads, labels, w);
@@ -395,9 +399,9 @@ pub fn visit_all(
     labels: &[u8],
     w: &mut [u32],
 ) -> usize
-    requires { ⌜ Passing np nq (now labels) (length (now points)) (now quads) (now w) ⌝ }
+    requires { ⌜ MergePassHolds np nq (now labels) (length (now points)) (now quads) (now w) ⌝ }
     requires { ⌜ len ≡ lengthOf b ⌝ }
-    ensures { λ r. ⌜ VisitedAll b np nq (now (labels .entry)) r (now (points .entry)) (now (quads .entry)) (now (w .entry)) (now (points .exit)) (now (quads .exit)) (now (w .exit)) ⌝ }
+    ensures { λ r. ⌜ VisitAllLeaves b np nq (now (labels .entry)) r (now (points .entry)) (now (quads .entry)) (now (w .entry)) (now (points .exit)) (now (quads .exit)) (now (w .exit)) ⌝ }
 {
     let mut count = 0;
     let mut f = 0;

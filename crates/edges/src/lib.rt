@@ -15,7 +15,7 @@ ghost use Rattle.rule_sheet.specs.Tests.{proper};
 ghost use Rattle.sheet.specs.Flat.{to};
 ghost use Rattle.sheet.specs.Edges.{larger};
 ghost use Rattle.incidence.specs.Corners.{Known, Cornered, edgeOrder};
-ghost use Rattle.edges.specs.Steps.{firstEdge, sameEdge, linked, goesOn, sameStart, kindAt, edgeCounts};
+ghost use Rattle.edges.specs.Steps.{firstEdge, sameEdge, linked, goesOn, sameStart, kindAt, pairAt, edgeCounts};
 ghost use Rattle.edges.specs.Conditions.{EdgeMapHolds, Ascending, Narrowed, WalkAsks};
 
 // The places from lo up to hi.
@@ -30,9 +30,9 @@ const NONE: u32 = 0;
 
 const BOUNDARY: u32 = 1;
 
-pub const OPPOSITE: u32 = 2;
+const OPPOSITE: u32 = 2;
 
-pub const TURNED: u32 = 3;
+const TURNED: u32 = 3;
 
 const NONMANIFOLD: u32 = 4;
 
@@ -243,7 +243,7 @@ fn same_start(quads: &[u32], order: usize, n: usize, i: usize, w: &[u32]) -> boo
 }
 
 // What begins at place i.
-pub fn kind_at(quads: &[u32], order: usize, n: usize, i: usize, w: &[u32]) -> u32
+fn kind_at(quads: &[u32], order: usize, n: usize, i: usize, w: &[u32]) -> u32
     requires { ⌜ WalkAsks (now quads) order n (now w) ⌝ }
     requires { ⌜ i < n ⌝ }
     ensures { λ r. ⌜ r ≡ kindAt (now (quads .entry)) n (part order n (now (w .entry))) i ⌝ }
@@ -261,6 +261,16 @@ pub fn kind_at(quads: &[u32], order: usize, n: usize, i: usize, w: &[u32]) -> u3
         return TURNED;
     }
     OPPOSITE
+}
+
+// An edge of exactly two corners begins at place i.
+pub fn is_pair(quads: &[u32], order: usize, n: usize, i: usize, w: &[u32]) -> bool
+    requires { ⌜ WalkAsks (now quads) order n (now w) ⌝ }
+    requires { ⌜ i < n ⌝ }
+    ensures { λ r. ⌜ r ≡ pairAt (now (quads .entry)) n (part order n (now (w .entry))) i ⌝ }
+{
+    let kind = kind_at(quads, order, n, i, w);
+    (kind == OPPOSITE) | (kind == TURNED)
 }
 
 // Counts the edges of each kind in the corners of nq quads in edge order, at order.

@@ -25,7 +25,8 @@ use Rattle.edges.proofs.Blocks.{block, byLarger, off, off-suc, row-length, at-o
 use Rattle.edges.proofs.EdgeKinds.{kindOf, kind-first, kind-later}
 use Rattle.subdivide_points.specs.Steps.{flatSheet}
 use Rattle.rule_rows.specs.Rows.{Side, side, lowOf, highOf, fourSides, sidesOf, edgeSides, twoLabels, rowSides}
-use Rattle.rows.specs.Steps.{cornerLabel, isTwo, seamAt, seamCorners, seamsTo, seamsOf}
+use Rattle.rows.specs.Steps.{cornerLabel, seamAt, seamCorners, seamsTo, seamsOf}
+use Rattle.edges.specs.Steps.{isTwo, pairAt}
 
 -- ---- joins
 
@@ -105,7 +106,7 @@ module _ (np nq : ℕ) (Q labels : List ℕ) where
     B = block nq Q a b
 
     later : (t : ℕ) → suc t < length B → seamCorners Q labels (length E) E (off np nq Q a b + suc t) ≡ []
-    unfolding seamCorners seamAt
+    unfolding seamCorners seamAt pairAt
     later t h = rw (kind-later np nq Q a b ha hb t h)
 
     -- only an edge of two corners reads the second
@@ -121,7 +122,7 @@ module _ (np nq : ℕ) (Q labels : List ℕ) where
     two-long (c ∷ d ∷ l) e = omega arith
 
     first : 0 < length B → seamCorners Q labels (length E) E (off np nq Q a b + 0) ≡ twoCorners labels B
-    unfolding seamCorners seamAt
+    unfolding seamCorners seamAt pairAt
     first pos =
         let z : off np nq Q a b + 0 ≡ off np nq Q a b = omega arith in
         let c : getD E (off np nq Q a b) 0 ≡ getD B 0 0 = ap (λ (i : ℕ). getD E i 0) (sym z) ∙ at-off np nq Q a b 0 ha hb pos in

@@ -336,8 +336,7 @@ fn is_seam(quads: &[u32], labels: &[u8], np: usize, nq: usize, i: usize, w: &[u3
     ensures { λ r. ⌜ r ≡ seamAt (now (quads .entry)) (now (labels .entry)) (4 * nq) (edgeOrder np nq (now (quads .entry))) i ⌝ }
 {
     let order = refine::ORDER * (np + nq);
-    let kind = edges::kind_at(quads, order, 4 * nq, i, w);
-    if (kind == edges::OPPOSITE) | (kind == edges::TURNED) {
+    if edges::is_pair(quads, order, 4 * nq, i, w) {
         let a = lists::byte_at(labels, lists::at(w, order + i) / 4);
         let b = lists::byte_at(labels, lists::at(w, order + (i + 1)) / 4);
         return a != b;

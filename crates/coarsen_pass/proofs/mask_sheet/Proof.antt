@@ -1,10 +1,10 @@
--- `pass_map::mask_sheet` meets its contract. Assumes nothing.
+-- `coarsen_pass::mask_sheet` meets its contract. Assumes nothing.
 use native.Mathlib.Omega.{arith}
 use borrow.Author.Needs.{needs}
 use Rattle.lists.proofs.Regions.{length-lent}
-use Rattle.pass_map.proofs.Starts.{masks-lent}
-use Rattle.pass_map.proofs.mask_sheet.Statement.{statement}
-use Rattle.pass_map.proofs.mask_sheet.Tie as tie
+use Rattle.coarsen_pass.proofs.Begin.{masks-lent}
+use Rattle.coarsen_pass.proofs.mask_sheet.Statement.{statement}
+use Rattle.coarsen_pass.proofs.mask_sheet.Tie as tie
 
 add-fresh-masks : tie.Need-add-fresh-masks
 add-fresh-masks c = search needs

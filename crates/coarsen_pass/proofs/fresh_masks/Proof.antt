@@ -1,8 +1,8 @@
--- `pass_map::fresh_masks` meets its contract. Assumes nothing.
+-- `coarsen_pass::fresh_masks` meets its contract. Assumes nothing.
 use borrow.Author.Needs.{needs}
-use Rattle.pass_map.proofs.Starts.{masks-ready, masks-are}
-use Rattle.pass_map.proofs.fresh_masks.Statement.{statement}
-use Rattle.pass_map.proofs.fresh_masks.Tie as tie
+use Rattle.coarsen_pass.proofs.Begin.{masks-ready, masks-are}
+use Rattle.coarsen_pass.proofs.fresh_masks.Statement.{statement}
+use Rattle.coarsen_pass.proofs.fresh_masks.Tie as tie
 
 clear-requires : tie.Need-clear-requires
 clear-requires c κs = search needs

@@ -1,8 +1,8 @@
--- `pass_map::clear_marks` meets its contract. Assumes nothing.
+-- `coarsen_pass::clear_marks` meets its contract. Assumes nothing.
 use borrow.Author.Needs.{needs}
-use Rattle.pass_map.proofs.Starts.{cleared}
-use Rattle.pass_map.proofs.clear_marks.Statement.{statement}
-use Rattle.pass_map.proofs.clear_marks.Tie as tie
+use Rattle.coarsen_pass.proofs.Begin.{cleared}
+use Rattle.coarsen_pass.proofs.clear_marks.Statement.{statement}
+use Rattle.coarsen_pass.proofs.clear_marks.Tie as tie
 
 add-n : tie.Need-add-n
 add-n c = search needs

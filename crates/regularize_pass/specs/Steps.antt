@@ -1,26 +1,24 @@
--- The choice between the two diagonals of an edge, by what the slices hold, and what a trial leaves in them.
-use Prim.Native.Nat.{ℕ, _+_, _*_, _/_, _≤_}
-use mathlib.Core.Path.{_≡_}
+-- The choice between the two diagonals of an edge by what the slices hold, and the steps of a pass.
+use Prim.Native.Nat.{ℕ, _+_, _*_, _/_}
 use mathlib.Core.Bool.{Bool, cond, not, _&&_}
 use mathlib.Core.List.{List}
 use lib.Dec.{eqb, ltb}
-use lib.ListN.{length, getD, take}
+use lib.ListN.{getD, take}
 use lib.Ieee.{Float}
-use Rattle.lists.specs.Regions.{part, Out, Kept}
+use Rattle.lists.specs.Regions.{part}
 use Rattle.points.specs.Points.{pointAt}
 use Rattle.rule_sheet.specs.Quads.{Quad, valence}
 use Rattle.rule_sheet.specs.Flat.{quadsOf}
 use Rattle.rule_sheet.specs.Sheet.{pointsOf}
-use Rattle.incidence.specs.Corners.{Cornered}
 use Rattle.rule_regularize.specs.Swaps.{Hex, Fits, State, may, swapPass}
 use Rattle.rule_passes.specs.Choices.{choose, takeOr}
 use Rattle.pass_shapes.specs.declared.Six.{Six}
 use Rattle.rule_regularize.specs.declared.Held.{Held}
 use Rattle.rule_regularize.specs.SwapFits.{nextFits, fitsWith}
 use Rattle.pass_shapes.specs.SwapFits.{hexOf}
-use Rattle.regularize_swap.specs.Steps.{tryPair, stepAt}
-use Rattle.regularize_swap.specs.Slices.{valencesAt, edgesAt, startOf, isBarred, stateOf, Passing, Room}
-use Rattle.regularize_swap.specs.Swapped.{sixAt, isHexagon, gainsIn, betterIn}
+use Rattle.pass_map.specs.Regions.{edgesAt, wasIn, startIn}
+use Rattle.regularize_swap.specs.Regions.{isBarred}
+use Rattle.regularize_swap.specs.Steps.{tryPair, stepAt, sixAt, isHexagon, gainsIn, betterIn}
 use Rattle.regularize_pass.specs.declared.Trial.{Trial}
 
 -- what the rule reads of the points, by what swaps are tried with
@@ -44,60 +42,35 @@ mayTake np nq P h k held free w = free && nextFits (pointAt P) (hexOf h) k held 
 
 -- the diagonal that is taken of those that are open
 abbrev pub bestOf : (np nq : ℕ) → List Float → Six → Held → Bool → Bool → List ℕ → ℕ
-bestOf np nq P h held first second w = diagonal (mayTake np nq P h 1 held first w) (mayTake np nq P h 2 held second w) (betterIn np nq h w)
+bestOf np nq P h held first second w =
+    diagonal (mayTake np nq P h 1 held first w) (mayTake np nq P h 2 held second w) (betterIn np nq h w)
 
 -- the quads i and j are not barred, and their labels agree
 abbrev pub freeIn : ℕ → ℕ → List ℕ → List ℕ → ℕ → ℕ → Bool
-freeIn np nq labels w i j = not (isBarred np nq w i) && not (isBarred np nq w j) && eqb (getD labels i 0) (getD labels j 0)
+freeIn np nq labels w i j =
+    not (isBarred np nq w i) && not (isBarred np nq w j) && eqb (getD labels i 0) (getD labels j 0)
 
 -- the diagonal that is taken at the corners c and d of an edge
 unfoldable pub choiceIn : ℕ → ℕ → Trial → List Float → List ℕ → List ℕ → ℕ → ℕ → List ℕ → ℕ
 choiceIn np nq t P Q labels c d w =
     cond (freeIn np nq labels w (c / 4) (d / 4))
     (cond (isHexagon Q d (sixAt Q c d))
-    (pickOf (quadsOf nq (startOf np nq w)) (take nq labels) (t .least) (fitsIn t np nq P labels) (quadsOf nq Q) (c / 4) (d / 4) (hexOf (sixAt Q c d)))
+    (pickOf (startIn np nq w) (take nq labels) (t .least) (fitsIn t np nq P labels) (quadsOf nq Q) (c / 4) (d / 4)
+    (hexOf (sixAt Q c d)))
     0)
     0
 
--- what a trial asks of the slices
-pub record Trying (np nq : ℕ) (t : Trial) (P : List Float) (Q labels w : List ℕ) : Type 0 where
-  pub passing : Passing np nq Q w
-  pub points : 3 * np ≤ length P
-  pub labels≤ : nq ≤ length labels
-  pub least≤ : t .least ≤ 1
-
--- the state that the slices hold goes from Q and v, after `count` swaps, to R and w, after r
-pub record Stepped (np nq : ℕ) (f : State → State) (count r : ℕ) (Q v R w : List ℕ) : Type 0 where
-  pub passing : Passing np nq R w
-  pub is : stateOf np nq R w r ≡ f (stateOf np nq Q v count)
-  pub kept : Kept (Out (valencesAt np nq) (2 * (np + nq))) v w
-  pub most : r ≤ count + 1
-
 -- the trial of the corners c and d of an edge
 abbrev pub tryIn : ℕ → ℕ → Trial → List Float → List ℕ → List ℕ → ℕ → ℕ → State → State
-tryIn np nq t P labels w c d = tryPair (quadsOf nq (startOf np nq w)) (take nq labels) (t .least) (fitsIn t np nq P labels) c d
+tryIn np nq t P labels w c d =
+    tryPair (startIn np nq w) (take nq labels) (t .least) (fitsIn t np nq P labels) c d
 
 -- the step at place i in the order of the edges
 abbrev pub stepIn : ℕ → ℕ → Trial → List Float → List ℕ → List ℕ → ℕ → State → State
 stepIn np nq t P labels w i st =
-    stepAt (quadsOf nq (startOf np nq w)) (take nq labels) (t .least) (fitsIn t np nq P labels) (startOf np nq w) (4 * nq) (part (edgesAt np nq) (4 * nq) w) st i
-
--- ---- passes
+    stepAt (startIn np nq w) (take nq labels) (t .least) (fitsIn t np nq P labels)
+    (wasIn np nq w) (4 * nq) (part (edgesAt np nq) (4 * nq) w) st i
 
 -- the rule's pass over the quads S
 abbrev pub passIn : ℕ → ℕ → Trial → List Float → List ℕ → List Quad → State
 passIn np nq t P labels S = swapPass np (take nq labels) (t .least) (fitsIn t np nq P labels) S
-
--- what a pass asks of the slices
-pub record Passable (np nq : ℕ) (t : Trial) (P : List Float) (Q labels w : List ℕ) : Type 0 where
-  pub sheet : Cornered np nq Q
-  pub room : Room np nq w
-  pub points : 3 * np ≤ length P
-  pub labels≤ : nq ≤ length labels
-  pub least≤ : t .least ≤ 1
-
--- a pass over the quads of Q leaves R, and counts r swaps
-pub record Passed (np nq : ℕ) (t : Trial) (P : List Float) (labels Q R : List ℕ) (r : ℕ) : Type 0 where
-  pub sheet : Cornered np nq R
-  pub quads : quadsOf nq R ≡ passIn np nq t P labels (quadsOf nq Q) .quads
-  pub count : r ≡ passIn np nq t P labels (quadsOf nq Q) .count
