@@ -1,5 +1,5 @@
--- The merge as the code makes it: masks as numbers, loops over the corners of a point, the tests of a tried diagonal, the
--- marks of the points near a merge, and the new name of a point in the quads around it.
+-- The merge as the code makes it: masks as numbers, loops over the corners of a point, the tests of a tried diagonal,
+-- the marks of the points near a merge, and the new name of a point in the quads around it.
 use Prim.Native.Nat.{ℕ, _+_, _-_, _/_, _%_}
 use mathlib.Core.Bool.{Bool, cond, not, _&&_, _||_}
 use mathlib.Core.List.{List, []}
@@ -25,14 +25,17 @@ use Rattle.coarsen_merge.specs.Regions.{usedIn}
 -- the masks a and c together have no opposite pair: no bit of one pair, or none of the other
 unfoldable pub noOpposite : ℕ → ℕ → Bool
 noOpposite a c =
-    (eqb (a % 2 + c % 2) 0 || eqb (a / 2 % 2 + c / 2 % 2) 0) && (eqb (a / 4 % 2 + c / 4 % 2) 0 || eqb (a / 8 % 2 + c / 8 % 2) 0)
-    && (eqb (a / 16 % 2 + c / 16 % 2) 0 || eqb (a / 32 % 2 + c / 32 % 2) 0) && (eqb (a / 64 % 2 + c / 64 % 2) 0 || eqb (a / 128 % 2 + c / 128 % 2) 0)
+    (eqb (a % 2 + c % 2) 0 || eqb (a / 2 % 2 + c / 2 % 2) 0)
+    && (eqb (a / 4 % 2 + c / 4 % 2) 0 || eqb (a / 8 % 2 + c / 8 % 2) 0)
+    && (eqb (a / 16 % 2 + c / 16 % 2) 0 || eqb (a / 32 % 2 + c / 32 % 2) 0)
+    && (eqb (a / 64 % 2 + c / 64 % 2) 0 || eqb (a / 128 % 2 + c / 128 % 2) 0)
 
 -- every bit of the mask a is one of c
 unfoldable pub partOf : ℕ → ℕ → Bool
 partOf a c =
     leb (a % 2) (c % 2) && leb (a / 2 % 2) (c / 2 % 2) && leb (a / 4 % 2) (c / 4 % 2) && leb (a / 8 % 2) (c / 8 % 2)
-    && leb (a / 16 % 2) (c / 16 % 2) && leb (a / 32 % 2) (c / 32 % 2) && leb (a / 64 % 2) (c / 64 % 2) && leb (a / 128 % 2) (c / 128 % 2)
+    && leb (a / 16 % 2) (c / 16 % 2) && leb (a / 32 % 2) (c / 32 % 2)
+    && leb (a / 64 % 2) (c / 64 % 2) && leb (a / 128 % 2) (c / 128 % 2)
 
 -- "The joined mask has no opposite pair and equals one of the two."
 unfoldable pub masksJoined : ℕ → ℕ → Bool
@@ -56,7 +59,8 @@ unmarked U v = eqb (getD U v 0) 0
 
 -- no corner of quad q is marked
 unfoldable pub quadFree : List ℕ → List ℕ → ℕ → Bool
-quadFree Q U q = unmarked U (corner Q q 0) && unmarked U (corner Q q 1) && unmarked U (corner Q q 2) && unmarked U (corner Q q 3)
+quadFree Q U q =
+    unmarked U (corner Q q 0) && unmarked U (corner Q q 1) && unmarked U (corner Q q 2) && unmarked U (corner Q q 3)
 
 -- no corner of the quad of corner t of a list is marked
 abbrev pub freeAt : List ℕ → List ℕ → List ℕ → ℕ → Bool
@@ -100,7 +104,8 @@ isMarked U v = not (unmarked U v)
 unfoldable pub usedOf : ℕ → List ℕ → List Bool
 usedOf n U = tabulate (isMarked U) n
 
--- the state: coordinates P, quads Q, marks R of the quads that are out, marks U of the barred points, and the merges so far
+-- the state: coordinates P, quads Q, marks R of the quads that are out, marks U of the barred points, and the merges so
+-- far
 unfoldable pub stateOf : ℕ → ℕ → List Float → List ℕ → List ℕ → List ℕ → ℕ → MergeState
 stateOf np nq P Q R U k = record { slots = slotsOf nq Q R; used = usedOf np U; points = pointsOf np P; count = k }
 
@@ -112,11 +117,16 @@ noLabels = []
 
 -- the sums before and after a merge of a and c
 unfoldable pub gainOf : ℕ → ℕ → ℕ → ℕ → ℕ → ℕ → List ℕ → Sums
-gainOf np nq a b c d w = record { before = sumBefore np (startIn np nq w) noLabels a b c d; after = sumAfter np (startIn np nq w) noLabels a b c d }
+gainOf np nq a b c d w =
+    record {
+      before = sumBefore np (startIn np nq w) noLabels a b c d;
+      after = sumAfter np (startIn np nq w) noLabels a b c d;
+    }
 
 -- a and c share only b and d as neighbours, and no further quad than f
 unfoldable pub meetOnly : ℕ → ℕ → ℕ → ℕ → ℕ → ℕ → ℕ → List ℕ → Bool
-meetOnly np nq f a b c d w = shareOnly np (startIn np nq w) noLabels a b c d && noFurther np (startIn np nq w) noLabels f a c
+meetOnly np nq f a b c d w =
+    shareOnly np (startIn np nq w) noLabels a b c d && noFurther np (startIn np nq w) noLabels f a c
 
 -- the tests that read masks and numbers of quads
 unfoldable pub worthIt : ℕ → ℕ → ℕ → ℕ → ℕ → ℕ → List ℕ → Bool
@@ -127,7 +137,8 @@ worthIt np nq a b c d w =
 -- all tests of a diagonal that do not read the points
 unfoldable pub allowedIn : ℕ → ℕ → ℕ → ℕ → ℕ → ℕ → ℕ → List ℕ → Bool
 allowedIn np nq f a b c d w =
-    worthIt np nq a b c d w && (meetOnly np nq f a b c d w && nearFree np (startIn np nq w) noLabels (usedOf np (usedIn np nq w)) a c)
+    worthIt np nq a b c d w
+    && (meetOnly np nq f a b c d w && nearFree np (startIn np nq w) noLabels (usedOf np (usedIn np nq w)) a c)
 
 -- ---- what a merge writes
 

@@ -13,14 +13,18 @@ ghost use Rattle.rule_sheet.specs.Flat.{corner, quadAt};
 ghost use Rattle.rule_sheet.specs.Squared.{sq};
 ghost use Rattle.rule_coarsen.specs.Coarse.{hasCorner};
 ghost use Rattle.incidence.specs.Corners.{Cornered};
-ghost use Rattle.coarsen_merge.specs.Steps.{noOpposite, partOf, masksJoined, sumOfFour, sumOfThree, unmarked, quadFree, notFurther, apartFrom, sharesAt, sharesNone, freeAround, noneFurther, sharedOnly, meetOnly, gainOf, worthIt, allowedIn, markedBy, markedIn, markedNear, renamedAt, renamedQuads};
-ghost use Rattle.coarsen_merge.specs.Conditions.{ListAsks, StartHolds, TouchedHolds, CornersOfLeaves, FaceAsks, MarkPointsAsks, RenameAsks, MergeAsks, BarLeaves, MergeLeaves};
+ghost use Rattle.coarsen_merge.specs.Steps.{noOpposite, partOf, masksJoined, sumOfFour, sumOfThree, unmarked};
+ghost use Rattle.coarsen_merge.specs.Steps.{quadFree, notFurther, apartFrom, sharesAt, sharesNone, freeAround};
+ghost use Rattle.coarsen_merge.specs.Steps.{noneFurther, sharedOnly, meetOnly, gainOf, worthIt, allowedIn};
+ghost use Rattle.coarsen_merge.specs.Steps.{markedBy, markedIn, markedNear, renamedAt, renamedQuads};
+ghost use Rattle.coarsen_merge.specs.Conditions.{ListAsks, StartHolds, TouchedHolds, CornersOfLeaves, FaceAsks};
+ghost use Rattle.coarsen_merge.specs.Conditions.{MarkPointsAsks, RenameAsks, MergeAsks, BarLeaves, MergeLeaves};
 ghost use Rattle.coarsen_merge.specs.Regions.{touchedAt, usedIn, touchedIn};
 ghost use Rattle.pass_map.specs.Regions.{wasIn, startIn};
 
-// Where the regions of a pass begin in the work slice, in units of points and quads together, behind those of its start:
-// the barred points, the quads that are out, the touched points, those at which a quad has a barred corner, and where the
-// last walk round each point ended. The unit before the touched points is the renumbering's.
+// Where the regions of a pass begin in the work slice, in units of points and quads together, behind those of its
+// start: the barred points, the quads that are out, the touched points, those at which a quad has a barred corner, and
+// where the last walk round each point ended. The unit before the touched points is the renumbering's.
 pub const USED: usize = 22;
 
 pub const REMOVED: usize = 23;
@@ -68,7 +72,7 @@ fn part_of(a: u32, c: u32) -> bool
 }
 
 // Two masks together have no opposite pair and are one of the two.
-pub fn masks_join(a: u32, c: u32) -> bool
+fn masks_join(a: u32, c: u32) -> bool
     ensures { λ r. ⌜ r ≡ masksJoined a c ⌝ }
 {
     no_opposite(a, c) & (part_of(c, a) | part_of(a, c))
@@ -88,7 +92,7 @@ fn square(k: usize) -> usize
 }
 
 // The sum over the four corners of a quad, by how many quads each has.
-pub fn sum_before(a: usize, b: usize, c: usize, d: usize) -> usize
+fn sum_before(a: usize, b: usize, c: usize, d: usize) -> usize
     requires { ⌜ a + b + c + d ≤ 16777216 ⌝ }
     ensures { λ r. ⌜ r ≡ sumOfFour a b c d ⌝ }
 {
@@ -96,7 +100,7 @@ pub fn sum_before(a: usize, b: usize, c: usize, d: usize) -> usize
 }
 
 // The sum over the merged point and the other two corners.
-pub fn sum_after(a: usize, b: usize, c: usize, d: usize) -> usize
+fn sum_after(a: usize, b: usize, c: usize, d: usize) -> usize
     requires { ⌜ a + b + c + d ≤ 16777216 ⌝ }
     requires { ⌜ 2 ≤ a + c ⌝ }
     requires { ⌜ 1 ≤ b ⌝ }
@@ -235,7 +239,9 @@ fn none_shared(np: usize, nq: usize, cs: &[u32], b: usize, d: usize, v: usize, w
     requires { ⌜ StartHolds np nq (now w) ⌝ }
     requires { ⌜ v < np ⌝ }
     requires { ⌜ ListAsks np nq (now cs) (wasIn np nq (now w)) ⌝ }
-    ensures { λ r. ⌜ r ≡ every (sharesNone (now (cs .entry)) (wasIn np nq (now (w .entry))) (startIn np nq (now (w .entry))) b d v) (length (now (cs .entry))) ⌝ }
+    ensures { λ r. ⌜ r ≡
+        every (sharesNone (now (cs .entry)) (wasIn np nq (now (w .entry))) (startIn np nq (now (w .entry))) b d v)
+        (length (now (cs .entry))) ⌝ }
 {
     let mut t = 0;
     while t < cs.len() {
@@ -270,7 +276,8 @@ fn valence_at(np: usize, nq: usize, v: usize, w: &[u32]) -> usize
     lists::at(w, pass_map::VALENCES * (np + nq) + v)
 }
 
-// The points a and c have no further quad than f in common, and only the two corners b and d as neighbours; the walk is round the point with fewer quads.
+// The points a and c have no further quad than f in common, and only the two corners b and d as neighbours; the walk is
+// round the point with fewer quads.
 fn meet_only(
     np: usize,
     nq: usize,
@@ -319,7 +326,8 @@ fn worth(np: usize, nq: usize, a: usize, b: usize, c: usize, d: usize, w: &[u32]
     masks_join(w[a], w[c]) & (4 <= vb) & (4 <= vd) & (s.after <= s.before)
 }
 
-// Whether the rule allows the merge of the corners a and c of quad f = (a, b, c, d), as far as it does not read the points.
+// Whether the rule allows the merge of the corners a and c of quad f = (a, b, c, d), as far as it does not read the
+// points.
 pub fn allowed(
     np: usize,
     nq: usize,
@@ -348,7 +356,8 @@ pub fn allowed(
 // Marks, in the np elements at to, the m points at from.
 fn mark_points(from: usize, m: usize, to: usize, np: usize, w: &mut [u32])
     requires { ⌜ MarkPointsAsks from m to np (part from m (now w)) (now w) ⌝ }
-    ensures { λ _. ⌜ Part to np (tabulate (markedBy (part from m (now (w .entry))) (part to np (now (w .entry))) m) np) (now (w .exit)) ⌝ }
+    ensures { λ _. ⌜ Part to np
+        (tabulate (markedBy (part from m (now (w .entry))) (part to np (now (w .entry))) m) np) (now (w .exit)) ⌝ }
     ensures { λ _. ⌜ Kept (Out to np) (now (w .entry)) (now (w .exit)) ⌝ }
 {
     let mut j = 0;
@@ -363,7 +372,8 @@ fn mark_points(from: usize, m: usize, to: usize, np: usize, w: &mut [u32])
 fn touch_quad(np: usize, nq: usize, q: usize, w: &mut [u32])
     requires { ⌜ StartHolds np nq (now w) ⌝ }
     requires { ⌜ q < nq ⌝ }
-    ensures { λ _. ⌜ Part (touchedAt np nq) np (tabulate (markedIn (wasIn np nq (now (w .entry))) (touchedIn np nq (now (w .entry))) q) np) (now (w .exit)) ⌝ }
+    ensures { λ _. ⌜ Part (touchedAt np nq) np
+        (tabulate (markedIn (wasIn np nq (now (w .entry))) (touchedIn np nq (now (w .entry))) q) np) (now (w .exit)) ⌝ }
     ensures { λ _. ⌜ Kept (Out (touchedAt np nq) np) (now (w .entry)) (now (w .exit)) ⌝ }
 {
     let n = np + nq;
@@ -374,7 +384,9 @@ fn touch_quad(np: usize, nq: usize, q: usize, w: &mut [u32])
 fn touch_around(np: usize, nq: usize, x: usize, w: &mut [u32])
     requires { ⌜ StartHolds np nq (now w) ⌝ }
     requires { ⌜ x < np ⌝ }
-    ensures { λ _. ⌜ Part (touchedAt np nq) np (tabulate (markedNear (wasIn np nq (now (w .entry))) (touchedIn np nq (now (w .entry))) nq x) np) (now (w .exit)) ⌝ }
+    ensures { λ _. ⌜ Part (touchedAt np nq) np
+        (tabulate (markedNear (wasIn np nq (now (w .entry))) (touchedIn np nq (now (w .entry))) nq x) np)
+        (now (w .exit)) ⌝ }
     ensures { λ _. ⌜ Kept (Out (touchedAt np nq) np) (now (w .entry)) (now (w .exit)) ⌝ }
 {
     let s = corners_of(np, nq, x, w);
@@ -387,7 +399,8 @@ fn touch_around(np: usize, nq: usize, x: usize, w: &mut [u32])
     }
 }
 
-// Bars the point x. The first time, the corners of all quads at it are touched, so a quad is touched at most four times a pass.
+// Bars the point x. The first time, the corners of all quads at it are touched, so a quad is touched at most four times
+// a pass.
 fn bar_point(np: usize, nq: usize, x: usize, w: &mut [u32])
     requires { ⌜ StartHolds np nq (now w) ⌝ }
     requires { ⌜ TouchedHolds np nq (now w) ⌝ }
@@ -407,7 +420,9 @@ fn bar_quad(np: usize, nq: usize, q: usize, w: &mut [u32])
     requires { ⌜ StartHolds np nq (now w) ⌝ }
     requires { ⌜ TouchedHolds np nq (now w) ⌝ }
     requires { ⌜ q < nq ⌝ }
-    ensures { λ _. ⌜ BarLeaves np nq (tabulate (markedIn (wasIn np nq (now (w .entry))) (usedIn np nq (now (w .entry))) q) np) (now (w .entry)) (now (w .exit)) ⌝ }
+    ensures { λ _. ⌜ BarLeaves np nq
+        (tabulate (markedIn (wasIn np nq (now (w .entry))) (usedIn np nq (now (w .entry))) q) np)
+        (now (w .entry)) (now (w .exit)) ⌝ }
 {
     let from = pass_map::WAS * (np + nq) + 4 * q;
     let mut j = 0;
@@ -422,7 +437,9 @@ fn bar_around(np: usize, nq: usize, v: usize, w: &mut [u32])
     requires { ⌜ StartHolds np nq (now w) ⌝ }
     requires { ⌜ TouchedHolds np nq (now w) ⌝ }
     requires { ⌜ v < np ⌝ }
-    ensures { λ _. ⌜ BarLeaves np nq (tabulate (markedNear (wasIn np nq (now (w .entry))) (usedIn np nq (now (w .entry))) nq v) np) (now (w .entry)) (now (w .exit)) ⌝ }
+    ensures { λ _. ⌜ BarLeaves np nq
+        (tabulate (markedNear (wasIn np nq (now (w .entry))) (usedIn np nq (now (w .entry))) nq v) np)
+        (now (w .entry)) (now (w .exit)) ⌝ }
 {
     let s = corners_of(np, nq, v, w);
     let from = s.from;
@@ -437,7 +454,9 @@ fn bar_around(np: usize, nq: usize, v: usize, w: &mut [u32])
 // The corners of a list become the point a.
 fn rename_corners(cs: &[u32], a: u32, quads: &mut [u32])
     requires { ⌜ RenameAsks (now cs) (length (now quads)) ⌝ }
-    ensures { λ _. ⌜ now (quads .exit) ≡ tabulate (renamedAt (now (cs .entry)) (now (quads .entry)) a (length (now (cs .entry)))) (length (now (quads .entry))) ⌝ }
+    ensures { λ _. ⌜ now (quads .exit) ≡
+        tabulate (renamedAt (now (cs .entry)) (now (quads .entry)) a (length (now (cs .entry))))
+        (length (now (quads .entry))) ⌝ }
 {
     let mut t = 0;
     while t < cs.len() {
@@ -476,7 +495,8 @@ pub fn merge(
     requires { ⌜ MergeAsks np nq f a c (length (now points)) (length (now quads)) ⌝ }
     requires { ⌜ TouchedHolds np nq (now w) ⌝ }
     ensures { λ _. ⌜ now (points .exit) ≡ withPoint (now (points .entry)) a p ⌝ }
-    ensures { λ _. ⌜ MergeLeaves np nq f a c (now (quads .entry)) (now (w .entry)) (now (quads .exit)) (now (w .exit)) ⌝ }
+    ensures { λ _. ⌜ MergeLeaves np nq f a c (now (quads .entry)) (now (w .entry))
+        (now (quads .exit)) (now (w .exit)) ⌝ }
 {
     points::put_point(points, a, p);
     rename(np, nq, c, a, quads, w);

@@ -13,7 +13,8 @@ ghost use Rattle.sheet.specs.Flat.{Holds};
 ghost use Rattle.sheet.specs.Tests.{goodQuadAt};
 ghost use Rattle.sheet.specs.Sheet.{masksOf};
 ghost use Rattle.coarsen_pass.specs.Steps.{sheetIn};
-ghost use Rattle.coarsen_pass.specs.Conditions.{ClearMarksLeaves, PrepareAsks, PrepareLeaves, MergePassAsks, MergePassLeaves};
+ghost use Rattle.coarsen_pass.specs.Conditions.{ClearMarksLeaves, PrepareAsks, PrepareLeaves, MergePassAsks};
+ghost use Rattle.coarsen_pass.specs.Conditions.{MergePassLeaves};
 
 // The masks of the points, as many as the slice has elements.
 fn fresh_masks(nq: usize, quads: &[u32], labels: &[u8], masks: &mut [u32])

@@ -46,7 +46,8 @@ pub record Holding (np nq p q l : ℕ) : Type 0 where
 abbrev pub InOrder : Diagonal → Ends → Type 0
 InOrder g e = ((e .first ≡ g .a) × (e .second ≡ g .c)) ⊎ ((e .first ≡ g .c) × (e .second ≡ g .a))
 
--- where a walk ended can be kept: its point is one or none, and its place lies among the corners by point or behind them
+-- where a walk ended can be kept: its point is one or none, and its place lies among the corners by point or behind
+-- them
 pub record Noted (np nq : ℕ) (e : Ended) : Type 0 where
   pub point≤ : e .point ≤ np
   pub place≤ : e .place ≤ pointsAt np nq + 4 * nq

@@ -1,5 +1,5 @@
--- The search for the merge in a quad, its two diagonals one after the other; and the visits of all quads in the words of
--- the rule.
+-- The search for the merge in a quad, its two diagonals one after the other; and the visits of all quads in the words
+-- of the rule.
 use Prim.Native.Nat.{ℕ, zero, suc, _+_, _-_, _%_, max}
 use mathlib.Core.Bool.{Bool, cond, _&&_}
 use mathlib.Core.List.{List, []}

@@ -13,8 +13,10 @@ ghost use Rattle.coarsen_merge.specs.Conditions.{StartHolds, TouchedHolds};
 ghost use Rattle.coarsen_merge.specs.Steps.{allowedIn};
 ghost use Rattle.pass_map.specs.Regions.{pointsAt};
 ghost use Rattle.coarsen_merge.specs.Regions.{endedAt};
-ghost use Rattle.coarsen_search.specs.Steps.{diagonalOf, betterOf, landingOf, stayAround, candidateOf, weighedOf, foundTo, triedIn};
-ghost use Rattle.coarsen_search.specs.Conditions.{DiagonalAsks, SearchAsks, Holding, Noted, InOrder, TakeAsks, TakeLeaves, MergePassHolds, VisitLeaves, VisitAllLeaves};
+ghost use Rattle.coarsen_search.specs.Steps.{diagonalOf, betterOf, landingOf, stayAround, candidateOf, weighedOf};
+ghost use Rattle.coarsen_search.specs.Steps.{foundTo, triedIn};
+ghost use Rattle.coarsen_search.specs.Conditions.{DiagonalAsks, SearchAsks, Holding, Noted, InOrder, TakeAsks};
+ghost use Rattle.coarsen_search.specs.Conditions.{TakeLeaves, MergePassHolds, VisitLeaves, VisitAllLeaves};
 ghost use Rattle.lists.specs.Regions.{Out, Kept};
 ghost use Rattle.rule_coarsen.specs.MergeFits.{mergeAt};
 ghost use mathlib.Core.Bool.{true};
@@ -150,7 +152,8 @@ fn merge_of(g: Diagonal, p: Point) -> Merge
     }
 }
 
-// Whether the other quads at the point v stay, if the merge of a diagonal lands at p; the walk begins where the last one round v ended.
+// Whether the other quads at the point v stay, if the merge of a diagonal lands at p; the walk begins where the last
+// one round v ended.
 fn stay_around(
     np: usize,
     nq: usize,
@@ -167,7 +170,8 @@ fn stay_around(
     requires { ⌜ 3 * np ≤ length (now points) ⌝ }
     requires { ⌜ nq ≤ length (now labels) ⌝ }
     requires { ⌜ v < np ⌝ }
-    ensures { λ r. ⌜ r .stays ≡ stayAround np nq g f len p (now (points .entry)) (now (labels .entry)) (now (w .entry)) v ⌝ }
+    ensures { λ r. ⌜ r .stays ≡ stayAround np nq g f len p (now (points .entry))
+        (now (labels .entry)) (now (w .entry)) v ⌝ }
     ensures { λ r. ⌜ r .at ≤ pointsAt np nq + 4 * nq ⌝ }
 {
     let n = np + nq;
@@ -245,7 +249,8 @@ fn weighed(
     requires { ⌜ 3 * np ≤ length (now points) ⌝ }
     requires { ⌜ nq ≤ length (now labels) ⌝ }
     requires { ⌜ allowedIn np nq (g .face) (g .a) (g .b) (g .c) (g .d) (now w) ≡ true ⌝ }
-    ensures { λ r. ⌜ r .best ≡ weighedOf np nq g f len p (now (points .entry)) (now (labels .entry)) (now (w .entry)) best ⌝ }
+    ensures { λ r. ⌜ r .best ≡ weighedOf np nq g f len p (now (points .entry))
+        (now (labels .entry)) (now (w .entry)) best ⌝ }
     ensures { λ r. ⌜ Noted np nq (r .ended) ⌝ }
 {
     let ends = ends_of(np, nq, g, w);
@@ -269,7 +274,7 @@ fn weighed(
 }
 
 // The merge that the rule takes in quad f.
-pub fn search(
+fn search(
     np: usize,
     nq: usize,
     f: usize,
@@ -284,7 +289,8 @@ pub fn search(
     requires { ⌜ SearchAsks np nq f (now quads) (now w) ⌝ }
     requires { ⌜ Holding np nq (length (now points)) (length (now quads)) (length (now labels)) ⌝ }
     requires { ⌜ TouchedHolds np nq (now w) ⌝ }
-    ensures { λ r. ⌜ r .choice ≡ foundTo np nq b len (now (points .entry)) (now (quads .entry)) (now (labels .entry)) (now (w .entry)) f 2 ⌝ }
+    ensures { λ r. ⌜ r .choice ≡ foundTo np nq b len (now (points .entry)) (now (quads .entry))
+        (now (labels .entry)) (now (w .entry)) f 2 ⌝ }
     ensures { λ r. ⌜ Noted np nq (r .first) ⌝ }
     ensures { λ r. ⌜ Noted np nq (r .second) ⌝ }
 {
@@ -340,7 +346,8 @@ fn take(
     requires { ⌜ StartHolds np nq (now w) ⌝ }
     requires { ⌜ TakeAsks np nq f choice (length (now points)) (length (now quads)) ⌝ }
     requires { ⌜ TouchedHolds np nq (now w) ⌝ }
-    ensures { λ r. ⌜ TakeLeaves np nq f choice r (now (points .entry)) (now (quads .entry)) (now (w .entry)) (now (points .exit)) (now (quads .exit)) (now (w .exit)) ⌝ }
+    ensures { λ r. ⌜ TakeLeaves np nq f choice r (now (points .entry)) (now (quads .entry)) (now (w .entry))
+        (now (points .exit)) (now (quads .exit)) (now (w .exit)) ⌝ }
 {
     match choice {
         Choice::None => 0,
@@ -361,7 +368,7 @@ fn remember(np: usize, nq: usize, e: Ended, w: &mut [u32])
 }
 
 // Visits quad f: makes the merge that the rule takes there, if any; answers how many merges that is.
-pub fn visit(
+fn visit(
     np: usize,
     nq: usize,
     f: usize,
@@ -375,7 +382,8 @@ pub fn visit(
     requires { ⌜ MergePassHolds np nq (now labels) (length (now points)) (now quads) (now w) ⌝ }
     requires { ⌜ f < nq ⌝ }
     requires { ⌜ len ≡ lengthOf b ⌝ }
-    ensures { λ r. ⌜ VisitLeaves b np nq (now (labels .entry)) f r (now (points .entry)) (now (quads .entry)) (now (w .entry)) (now (points .exit)) (now (quads .exit)) (now (w .exit)) ⌝ }
+    ensures { λ r. ⌜ VisitLeaves b np nq (now (labels .entry)) f r (now (points .entry)) (now (quads .entry))
+        (now (w .entry)) (now (points .exit)) (now (quads .exit)) (now (w .exit)) ⌝ }
 {
     if is_tried(np, nq, f, quads, w) {
         let found = search(np, nq, f, b, len, points, quads, labels, w);
@@ -401,7 +409,8 @@ pub fn visit_all(
 ) -> usize
     requires { ⌜ MergePassHolds np nq (now labels) (length (now points)) (now quads) (now w) ⌝ }
     requires { ⌜ len ≡ lengthOf b ⌝ }
-    ensures { λ r. ⌜ VisitAllLeaves b np nq (now (labels .entry)) r (now (points .entry)) (now (quads .entry)) (now (w .entry)) (now (points .exit)) (now (quads .exit)) (now (w .exit)) ⌝ }
+    ensures { λ r. ⌜ VisitAllLeaves b np nq (now (labels .entry)) r (now (points .entry)) (now (quads .entry))
+        (now (w .entry)) (now (points .exit)) (now (quads .exit)) (now (w .exit)) ⌝ }
 {
     let mut count = 0;
     let mut f = 0;

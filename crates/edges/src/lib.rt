@@ -1,5 +1,5 @@
-// The edges of a sheet. The edge map: is a pair of points an edge? The corners in the order of their edges, and a search
-// by halves among those of a smaller point. The walk over the corners in that order: what begins at each place.
+// The edges of a sheet. The edge map: is a pair of points an edge? The corners in the order of their edges, and a
+// search by halves among those of a smaller point. The walk over the corners in that order: what begins at each place.
 
 use incidence::Key;
 ghost use mathlib.Core.Path.{_≡_};
@@ -57,8 +57,8 @@ pub fn copy_quads(nq: usize, quads: &[u32], was: usize, w: &mut [u32])
     }
 }
 
-// The corners of nq quads by ascending (smaller, larger) point of their edges in the region at order, and where those of
-// each smaller point begin in the np + 1 elements at starts. The region at first is work.
+// The corners of nq quads by ascending (smaller, larger) point of their edges in the region at order, and where those
+// of each smaller point begin in the np + 1 elements at starts. The region at first is work.
 pub fn edge_map(
     np: usize,
     nq: usize,

@@ -45,3 +45,7 @@ wasIn np nq w = part (wasAt np nq) (4 * nq) w
 
 abbrev pub startIn : ℕ → ℕ → List ℕ → List Quad
 startIn np nq w = quadsOf nq (wasIn np nq w)
+
+-- their corners in the order of the edges
+abbrev pub edgesIn : ℕ → ℕ → List ℕ → List ℕ
+edgesIn np nq w = part (edgesAt np nq) (4 * nq) w

@@ -19,10 +19,10 @@ use Rattle.rule_regularize.specs.SwapFits.{heldOf, nextFits}
 use Rattle.pass_shapes.specs.SwapFits.{hexOf, SixBelow}
 use Rattle.pass_shapes.proofs.SwapFits.{swap-fits}
 use Rattle.pass_map.specs.Regions.{startIn}
-use Rattle.regularize_swap.specs.Regions.{sumIn}
+use Rattle.regularize_swap.specs.Regions.{sumIn, freeIn}
 use Rattle.regularize_swap.specs.Steps.{openIn, gainsIn, betterIn, sixAt, isHexagon}
 use Rattle.regularize_pass.specs.declared.Trial.{Trial}
-use Rattle.regularize_pass.specs.Steps.{fitsIn, diagonal, pickOf, mayTake, bestOf, freeIn, choiceIn}
+use Rattle.regularize_pass.specs.Steps.{fitsIn, diagonal, pickOf, mayTake, bestOf, choiceIn}
 use Rattle.regularize_pass.specs.Conditions.{TryAsks}
 
 -- ---- the higher gain

@@ -23,12 +23,12 @@ use Rattle.pass_shapes.specs.declared.Six.{Six}
 use Rattle.pass_shapes.specs.SwapFits.{hexOf}
 use Rattle.pass_shapes.proofs.SwapFits.{quad-there}
 use Rattle.pass_map.specs.Regions.{startIn}
-use Rattle.regularize_swap.specs.Regions.{barsOf, stateOf}
+use Rattle.regularize_swap.specs.Regions.{barsOf, stateOf, freeIn}
 use Rattle.regularize_swap.specs.Steps.{across, quadFrom, sixAt, sixApart, isHexagon, swapBy, meetsSix}
 use Rattle.regularize_swap.specs.Conditions.{MakeSwapAsks, MakeSwapLeaves}
 use Rattle.regularize_swap.proofs.Bars.{getD-bars}
 use Rattle.regularize_pass.specs.declared.Trial.{Trial}
-use Rattle.regularize_pass.specs.Steps.{fitsIn, diagonal, pickOf, freeIn, choiceIn, tryIn}
+use Rattle.regularize_pass.specs.Steps.{fitsIn, diagonal, pickOf, choiceIn, tryIn}
 use Rattle.regularize_pass.specs.Conditions.{TryAsks, StepLeaves}
 use Rattle.regularize_pass.proofs.Choices.{six-below}
 

@@ -7,7 +7,7 @@ use mathlib.Core.List.{List}
 use native.Mathlib.Omega.{arith}
 use lib.ListN.{length, take}
 use lib.Ieee.{Float}
-use Rattle.lists.specs.Regions.{part, Out, Kept}
+use Rattle.lists.specs.Regions.{Out, Kept}
 use Rattle.lists.proofs.Regions.{part-of, part-len, part-kept, kept-refl, kept-then}
 use Rattle.rule_sheet.specs.Quads.{Quad}
 use Rattle.rule_sheet.specs.Flat.{quadsOf}
@@ -17,7 +17,7 @@ use Rattle.incidence.specs.Corners.{edgeOrder}
 use Rattle.edges.specs.Steps.{pairAt}
 use Rattle.rule_regularize.specs.Swaps.{State, sweep, fresh, swapPass}
 use Rattle.regularize_swap.specs.Steps.{stepAt, stepsFrom}
-use Rattle.pass_map.specs.Regions.{wasAt, edgesAt, valencesAt, wasIn, startIn}
+use Rattle.pass_map.specs.Regions.{edgesIn, wasAt, edgesAt, valencesAt, wasIn, startIn}
 use Rattle.regularize_swap.specs.Regions.{stateOf, edgeCorner}
 use Rattle.regularize_swap.specs.Conditions.{BeginPassLeaves}
 use Rattle.regularize_swap.proofs.Fold.{steps-zero, steps-suc, steps-sweep}
@@ -28,17 +28,17 @@ use Rattle.regularize_pass.specs.Conditions.{TryAsks, StepLeaves, SwapPa
 -- ---- one place
 
 module _ {np nq : ℕ} {t : Trial} {P : List Float} {Q labels w : List ℕ} (T : TryAsks np nq t P Q labels w) (i count : ℕ) where
-  pub no-pair : (b : Bool) → b ≡ pairAt (wasIn np nq w) (4 * nq) (part (edgesAt np nq) (4 * nq) w) i → b ≡ false → StepLeaves np nq (stepIn np nq t P labels w i) count count Q w Q w
+  pub no-pair : (b : Bool) → b ≡ pairAt (wasIn np nq w) (4 * nq) (edgesIn np nq w) i → b ≡ false → StepLeaves np nq (stepIn np nq t P labels w i) count count Q w Q w
   unfolding stepAt
   no-pair b e z =
-      let no : pairAt (wasIn np nq w) (4 * nq) (part (edgesAt np nq) (4 * nq) w) i ≡ false = sym e ∙ z in
+      let no : pairAt (wasIn np nq w) (4 * nq) (edgesIn np nq w) i ≡ false = sym e ∙ z in
       record { holds = T .holds; is = rw no refl; kept = kept-refl _ w; most = omega arith }
 
-  pub a-pair : {R w′ : List ℕ} {r : ℕ} (b : Bool) (c d : ℕ) → b ≡ pairAt (wasIn np nq w) (4 * nq) (part (edgesAt np nq) (4 * nq) w) i → b ≡ true
+  pub a-pair : {R w′ : List ℕ} {r : ℕ} (b : Bool) (c d : ℕ) → b ≡ pairAt (wasIn np nq w) (4 * nq) (edgesIn np nq w) i → b ≡ true
       → c ≡ edgeCorner np nq w i → d ≡ edgeCorner np nq w (i + 1) → StepLeaves np nq (tryIn np nq t P labels w c d) count r Q w R w′ → StepLeaves np nq (stepIn np nq t P labels w i) count r Q w R w′
   unfolding stepAt
   a-pair {R} {w′} {r} b c d e z ec ed S =
-      let yes : pairAt (wasIn np nq w) (4 * nq) (part (edgesAt np nq) (4 * nq) w) i ≡ true = sym e ∙ z in
+      let yes : pairAt (wasIn np nq w) (4 * nq) (edgesIn np nq w) i ≡ true = sym e ∙ z in
       record {
         holds = S .holds;
         is = rw yes (S .is ∙ ap₂ (λ (x y : ℕ). tryIn np nq t P labels w x y (stateOf np nq Q w count)) ec ed);
@@ -50,7 +50,7 @@ module _ {np nq : ℕ} {t : Trial} {P : List Float} {Q labels w : List ℕ} (T :
 
 module _ (np nq : ℕ) (t : Trial) (P : List Float) (labels v : List ℕ) where
   abbrev step : State → ℕ → State
-  step = stepAt (startIn np nq v) (take nq labels) (t .least) (fitsIn t np nq P labels) (wasIn np nq v) (4 * nq) (part (edgesAt np nq) (4 * nq) v)
+  step = stepAt (startIn np nq v) (take nq labels) (t .least) (fitsIn t np nq P labels) (wasIn np nq v) (4 * nq) (edgesIn np nq v)
 
 pub record Sweeping (np nq : ℕ) (t : Trial) (P : List Float) (labels Q v R w : List ℕ) (count i : ℕ) : Type 0 where
   pub i≤ : i ≤ 4 * nq
@@ -78,7 +78,7 @@ module _ {np nq : ℕ} {t : Trial} {P : List Float} {labels Q v R w : List ℕ} 
   start-same : wasIn np nq w ≡ wasIn np nq v
   start-same = part-kept (part-of (wasAt np nq) (4 * nq) v (L .begun .holds .map .edges .in-was)) (L .kept) (λ l p q r s. omega arith) .is
 
-  edges-same : part (edgesAt np nq) (4 * nq) w ≡ part (edgesAt np nq) (4 * nq) v
+  edges-same : edgesIn np nq w ≡ edgesIn np nq v
   edges-same = part-kept (part-of (edgesAt np nq) (4 * nq) v (L .begun .holds .map .edges .at .fits)) (L .kept) (λ l p q r s. omega arith) .is
 
   pub sweeping-turn : {R′ w′ : List ℕ} {r : ℕ} → i < 4 * nq → length R′ ≡ length R → StepLeaves np nq (stepIn np nq t P labels w i) count r R w R′ w′ → Sweeping np nq t P labels Q v R′ w′ r (i + 1)

@@ -1,11 +1,10 @@
 -- The choice between the two diagonals of an edge by what the slices hold, and the steps of a pass.
 use Prim.Native.Nat.{ℕ, _+_, _*_, _/_}
-use mathlib.Core.Bool.{Bool, cond, not, _&&_}
+use mathlib.Core.Bool.{Bool, cond, _&&_}
 use mathlib.Core.List.{List}
-use lib.Dec.{eqb, ltb}
-use lib.ListN.{getD, take}
+use lib.Dec.{ltb}
+use lib.ListN.{take}
 use lib.Ieee.{Float}
-use Rattle.lists.specs.Regions.{part}
 use Rattle.points.specs.Points.{pointAt}
 use Rattle.rule_sheet.specs.Quads.{Quad, valence}
 use Rattle.rule_sheet.specs.Flat.{quadsOf}
@@ -16,8 +15,8 @@ use Rattle.pass_shapes.specs.declared.Six.{Six}
 use Rattle.rule_regularize.specs.declared.Held.{Held}
 use Rattle.rule_regularize.specs.SwapFits.{nextFits, fitsWith}
 use Rattle.pass_shapes.specs.SwapFits.{hexOf}
-use Rattle.pass_map.specs.Regions.{edgesAt, wasIn, startIn}
-use Rattle.regularize_swap.specs.Regions.{isBarred}
+use Rattle.pass_map.specs.Regions.{wasIn, startIn, edgesIn}
+use Rattle.regularize_swap.specs.Regions.{freeIn}
 use Rattle.regularize_swap.specs.Steps.{tryPair, stepAt, sixAt, isHexagon, gainsIn, betterIn}
 use Rattle.regularize_pass.specs.declared.Trial.{Trial}
 
@@ -45,11 +44,6 @@ abbrev pub bestOf : (np nq : ℕ) → List Float → Six → Held → Bool → B
 bestOf np nq P h held first second w =
     diagonal (mayTake np nq P h 1 held first w) (mayTake np nq P h 2 held second w) (betterIn np nq h w)
 
--- the quads i and j are not barred, and their labels agree
-abbrev pub freeIn : ℕ → ℕ → List ℕ → List ℕ → ℕ → ℕ → Bool
-freeIn np nq labels w i j =
-    not (isBarred np nq w i) && not (isBarred np nq w j) && eqb (getD labels i 0) (getD labels j 0)
-
 -- the diagonal that is taken at the corners c and d of an edge
 unfoldable pub choiceIn : ℕ → ℕ → Trial → List Float → List ℕ → List ℕ → ℕ → ℕ → List ℕ → ℕ
 choiceIn np nq t P Q labels c d w =
@@ -68,8 +62,8 @@ tryIn np nq t P labels w c d =
 -- the step at place i in the order of the edges
 abbrev pub stepIn : ℕ → ℕ → Trial → List Float → List ℕ → List ℕ → ℕ → State → State
 stepIn np nq t P labels w i st =
-    stepAt (startIn np nq w) (take nq labels) (t .least) (fitsIn t np nq P labels)
-    (wasIn np nq w) (4 * nq) (part (edgesAt np nq) (4 * nq) w) st i
+    stepAt (startIn np nq w) (take nq labels) (t .least) (fitsIn t np nq P labels) (wasIn np nq w) (4 * nq)
+    (edgesIn np nq w) st i
 
 -- the rule's pass over the quads S
 abbrev pub passIn : ℕ → ℕ → Trial → List Float → List ℕ → List Quad → State

@@ -104,7 +104,8 @@ fn choice(
     requires { ⌜ i < nq ⌝ }
     requires { ⌜ j < nq ⌝ }
     requires { ⌜ SixBelow np h ⌝ }
-    ensures { λ r. ⌜ r ≡ pickOf (startIn np nq (now (w .entry))) (take nq (now (labels .entry))) (t .least) (fitsIn t np nq (now (points .entry)) (now (labels .entry))) (quadsOf nq (now (quads .entry))) i j (hexOf h) ⌝ }
+    ensures { λ r. ⌜ r ≡ pickOf (startIn np nq (now (w .entry))) (take nq (now (labels .entry))) (t .least)
+        (fitsIn t np nq (now (points .entry)) (now (labels .entry))) (quadsOf nq (now (quads .entry))) i j (hexOf h) ⌝ }
 {
     let first = regularize_swap::is_open(np, nq, t.least, h, 1, w);
     let second = regularize_swap::is_open(np, nq, t.least, h, 2, w);
@@ -131,7 +132,8 @@ fn choice_at(
     requires { ⌜ TryAsks np nq t (now points) (now quads) (now labels) (now w) ⌝ }
     requires { ⌜ c < 4 * nq ⌝ }
     requires { ⌜ d < 4 * nq ⌝ }
-    ensures { λ r. ⌜ r ≡ choiceIn np nq t (now (points .entry)) (now (quads .entry)) (now (labels .entry)) c d (now (w .entry)) ⌝ }
+    ensures { λ r. ⌜ r ≡ choiceIn np nq t (now (points .entry)) (now (quads .entry))
+        (now (labels .entry)) c d (now (w .entry)) ⌝ }
 {
     if !regularize_swap::is_free(np, nq, labels, c / 4, d / 4, w) {
         return 0;
@@ -160,7 +162,8 @@ fn try_pair(
     requires { ⌜ c < 4 * nq ⌝ }
     requires { ⌜ d < 4 * nq ⌝ }
     requires { ⌜ count < 2 ^ 32 ⌝ }
-    ensures { λ r. ⌜ StepLeaves np nq (tryIn np nq t (now (points .entry)) (now (labels .entry)) (now (w .entry)) c d) count r (now (quads .entry)) (now (w .entry)) (now (quads .exit)) (now (w .exit)) ⌝ }
+    ensures { λ r. ⌜ StepLeaves np nq (tryIn np nq t (now (points .entry)) (now (labels .entry)) (now (w .entry)) c d)
+        count r (now (quads .entry)) (now (w .entry)) (now (quads .exit)) (now (w .exit)) ⌝ }
 {
     let k = choice_at(np, nq, t, points, quads, labels, c, d, w);
     if k == 0 {
@@ -171,7 +174,8 @@ fn try_pair(
     count + 1
 }
 
-// "Only an edge of exactly two unbarred quads running opposite ways is tried": the edge whose corners begin at place i; the swaps so far.
+// "Only an edge of exactly two unbarred quads running opposite ways is tried": the edge whose corners begin at place i;
+// the swaps so far.
 fn try_edge(
     np: usize,
     nq: usize,
@@ -186,7 +190,8 @@ fn try_edge(
     requires { ⌜ TryAsks np nq t (now points) (now quads) (now labels) (now w) ⌝ }
     requires { ⌜ i < 4 * nq ⌝ }
     requires { ⌜ count < 2 ^ 32 ⌝ }
-    ensures { λ r. ⌜ StepLeaves np nq (stepIn np nq t (now (points .entry)) (now (labels .entry)) (now (w .entry)) i) count r (now (quads .entry)) (now (w .entry)) (now (quads .exit)) (now (w .exit)) ⌝ }
+    ensures { λ r. ⌜ StepLeaves np nq (stepIn np nq t (now (points .entry)) (now (labels .entry)) (now (w .entry)) i)
+        count r (now (quads .entry)) (now (w .entry)) (now (quads .exit)) (now (w .exit)) ⌝ }
 {
     if !regularize_swap::is_pair(np, nq, i, w) {
         return count;
@@ -208,7 +213,8 @@ fn sweep(
 ) -> usize
     requires { ⌜ BeginPassLeaves np nq (now quads) (now w) ⌝ }
     requires { ⌜ TryAsks np nq t (now points) (now quads) (now labels) (now w) ⌝ }
-    ensures { λ r. ⌜ SwapPassLeaves np nq t (now (points .entry)) (now (labels .entry)) (now (quads .entry)) (now (quads .exit)) r ⌝ }
+    ensures { λ r. ⌜ SwapPassLeaves np nq t (now (points .entry)) (now (labels .entry))
+        (now (quads .entry)) (now (quads .exit)) r ⌝ }
 {
     let mut count = 0;
     let mut i = 0;
@@ -230,7 +236,8 @@ pub fn swap_pass(
     w: &mut [u32],
 ) -> usize
     requires { ⌜ SwapPassAsks np nq t (now points) (now quads) (now labels) (now w) ⌝ }
-    ensures { λ r. ⌜ SwapPassLeaves np nq t (now (points .entry)) (now (labels .entry)) (now (quads .entry)) (now (quads .exit)) r ⌝ }
+    ensures { λ r. ⌜ SwapPassLeaves np nq t (now (points .entry)) (now (labels .entry))
+        (now (quads .entry)) (now (quads .exit)) r ⌝ }
 {
     regularize_swap::begin_pass(np, nq, quads, w);
     sweep(np, nq, t, points, labels, quads, w)

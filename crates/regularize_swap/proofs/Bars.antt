@@ -9,7 +9,7 @@ use lib.Dec.{eqb, ltb}
 use lib.ListN.{length, getD}
 use borrow.Author.Tests.{lt-ltb, le-ltb}
 use Rattle.lists.specs.Sort.{tabulate}
-use Rattle.lists.specs.Regions.{part, Part, Out, Kept}
+use Rattle.lists.specs.Regions.{Part, Out, Kept}
 use Rattle.lists.proofs.Laws.{lt-or-le, getD-tab, length-tab, is-table, tab-ext}
 use Rattle.lists.proofs.Regions.{part-of, part-get, part-as, kept-then}
 use Rattle.rule_sheet.specs.Quads.{Quad}
@@ -21,7 +21,7 @@ use Rattle.rule_passes.specs.Choices.{noneQuad}
 use Rattle.pass_shapes.proofs.SwapFits.{quad-there}
 use Rattle.rule_regularize.proofs.Sweep.{bar-length}
 use Rattle.pass_map.specs.Regions.{pointStartsAt, pointsAt, wasIn, startIn}
-use Rattle.regularize_swap.specs.Regions.{marksAt, isBarred, barsOf}
+use Rattle.regularize_swap.specs.Regions.{marksIn, marksAt, isBarred, barsOf}
 use Rattle.pass_map.specs.Conditions.{WorkFits, MapHolds}
 use Rattle.pass_map.proofs.Maps.{map-kept, was-kept}
 use Rattle.regularize_swap.specs.Steps.{markIf}
@@ -50,7 +50,7 @@ start-kept M K = was-kept M K (λ i p q r s. omega arith)
 
 -- marks made one after the other
 pub record Marked (np nq : ℕ) (f : Quad → ℕ) (v w : List ℕ) : Type 0 where
-  pub marks : Part (marksAt np nq) nq (tabulate (markIf f (wasIn np nq v) (part (marksAt np nq) nq v)) nq) w
+  pub marks : Part (marksAt np nq) nq (tabulate (markIf f (wasIn np nq v) (marksIn np nq v)) nq) w
   pub kept : OnlyMarks np nq v w
 
 both : (x y z : ℕ) → cond (ltb 0 y) 1 (cond (ltb 0 x) 1 z) ≡ cond (ltb 0 (x + y)) 1 z
@@ -62,7 +62,7 @@ both x y z = ⊎-elim
 pub marked-then : {np nq : ℕ} {u v w : List ℕ} {f g : Quad → ℕ} → MapHolds np nq u → Marked np nq f u v → Marked np nq g v w → Marked np nq (λ q. f q + g q) u w
 marked-then {np} {nq} {u} {v} {w} {f} {g} B M N = record {
   marks = part-as (N .marks) (tab-ext _ _ nq (λ q h.
-      rw (start-kept B (M .kept), M .marks .is, getD-tab (markIf f (wasIn np nq u) (part (marksAt np nq) nq u)) nq q 0 h)
+      rw (start-kept B (M .kept), M .marks .is, getD-tab (markIf f (wasIn np nq u) (marksIn np nq u)) nq q 0 h)
       (both (f (quadAt (wasIn np nq u) q)) (g (quadAt (wasIn np nq u) q)) _)));
   kept = kept-then (M .kept) (N .kept) (λ i o. (o, o));
 }
@@ -98,8 +98,8 @@ bars-are {np} {nq} {v} {w} f t R M e =
     let bl : length (barsOf np nq v) ≡ length S = length-bars np nq v ∙ sym len in
     sym (is-table true (barList S (barsOf np nq v) t) (isBarred np nq w) nq (bar-length S (barsOf np nq v) t bl ∙ len) (λ q h.
     let P = part-of (marksAt np nq) nq v (omega (arith, R .long)) in
-    let a : getD w (marksAt np nq + q) 0 ≡ markIf f (wasIn np nq v) (part (marksAt np nq) nq v) q =
-    part-get 0 q (M .marks) h ∙ getD-tab (markIf f (wasIn np nq v) (part (marksAt np nq) nq v)) nq q 0 h in
+    let a : getD w (marksAt np nq + q) 0 ≡ markIf f (wasIn np nq v) (marksIn np nq v) q =
+    part-get 0 q (M .marks) h ∙ getD-tab (markIf f (wasIn np nq v) (marksIn np nq v)) nq q 0 h in
     getD-bar S (barsOf np nq v) t q bl (omega arith)
     ∙ rw (getD-bars np nq v q h, quad-there nq (wasIn np nq v) q h, e (quadAt (wasIn np nq v) q), a, ← part-get 0 q P h) (after (ltb 0 (f (quadAt (wasIn np nq v) q))) _)))
   where

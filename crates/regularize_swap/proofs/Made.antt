@@ -28,7 +28,7 @@ use Rattle.pass_shapes.specs.declared.Six as six
 use Rattle.pass_shapes.specs.SwapFits.{SixBelow}
 use Rattle.pass_shapes.proofs.SwapFits.{quad-there}
 use Rattle.pass_map.specs.Regions.{valencesAt, wasIn}
-use Rattle.regularize_swap.specs.Regions.{marksAt, isBarred, barsOf}
+use Rattle.regularize_swap.specs.Regions.{marksIn, marksAt, isBarred, barsOf}
 use Rattle.pass_map.specs.Conditions.{MapHolds}
 use Rattle.regularize_swap.specs.Conditions.{SwapPassHolds, MoveValencesAsks, MakeSwapAsks, MakeSwapLeaves}
 use Rattle.regularize_swap.specs.Steps.{turned, withPair, less, more, moved, markIf, usesSix, swapBy, meetsSix}
@@ -298,5 +298,5 @@ module _ {np nq : ℕ} {Q w : List ℕ} {h : six.Six} {i j : ℕ} (P : SwapPassH
     move-ready = (P .valences .fits, rw e (movable k))
 
     pub swap-done : {R u w′ : List ℕ} → R ≡ withPair Q i j g → Part (valencesAt np nq) np (moved (part (valencesAt np nq) np w) (h .h0) (h .h3) (g .h0) (g .h3)) u × Kept (Out (valencesAt np nq) np) w u
-        → Part (marksAt np nq) nq (tabulate (markIf (usesSix h) (wasIn np nq u) (part (marksAt np nq) nq u)) nq) w′ × OnlyMarks np nq u w′ → MakeSwapLeaves np nq k h i j Q w R w′
+        → Part (marksAt np nq) nq (tabulate (markIf (usesSix h) (wasIn np nq u) (marksIn np nq u)) nq) w′ × OnlyMarks np nq u w′ → MakeSwapLeaves np nq k h i j Q w R w′
     swap-done {R} {u} {w′} q m b = swap-made (m .1) k R w′ (q ∙ ap (withPair Q i j) e) (rw e at (m .0)) (record { marks = b .0; kept = b .1 })

@@ -27,7 +27,8 @@ tryPair S0 labels m fits c d st = takeOr st (tryPlaces S0 labels m fits st (plac
 
 -- the state after place i of the n places of L, the corners of the quads S0 of Q in the order of their edges
 unfoldable pub stepAt : List Quad → List ℕ → ℕ → Fits → List ℕ → ℕ → List ℕ → State → ℕ → State
-stepAt S0 labels m fits Q n L st i = cond (pairAt Q n L i) (tryPair S0 labels m fits (getD L i 0) (getD L (i + 1) 0) st) st
+stepAt S0 labels m fits Q n L st i =
+    cond (pairAt Q n L i) (tryPair S0 labels m fits (getD L i 0) (getD L (i + 1) 0) st) st
 
 -- k steps from place o on
 unfoldable pub stepsFrom : {A : Type 0} → (A → ℕ → A) → ℕ → ℕ → A → A
@@ -62,7 +63,8 @@ turned h k = cond (eqb k 1)
     (record { h0 = h .h1; h1 = h .h2; h2 = h .h3; h3 = h .h4; h4 = h .h5; h5 = h .h0 })
     (record { h0 = h .h2; h1 = h .h3; h2 = h .h4; h3 = h .h5; h4 = h .h0; h5 = h .h1 })
 
--- The diagonal k may be put in: it is no edge of the start's quads, and half the gain is at least m. The valences stand in w.
+-- The diagonal k may be put in: it is no edge of the start's quads, and half the gain is at least m. The valences stand
+-- in w.
 abbrev pub openIn : ℕ → ℕ → ℕ → Six → ℕ → List ℕ → Bool
 openIn np nq m h k w =
     not (isEdge (startIn np nq w) (turned h k .h0) (turned h k .h3))

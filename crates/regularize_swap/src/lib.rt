@@ -1,11 +1,9 @@
-// What a swap reads and writes: the quads, and in regions of one work slice the map of the pass's start, the valences and
-// the barred quads.
+// What a swap reads and writes: the quads, and in regions of one work slice the map of the pass's start, the valences
+// and the barred quads.
 
 use pass_shapes::Six;
 ghost use mathlib.Core.Path.{_≡_};
-ghost use mathlib.Core.Bool.{not, _&&_};
 ghost use Prim.Native.Nat.{_+_, _*_, _/_, _%_, _<_, _≤_, _^_};
-ghost use lib.Dec.{eqb};
 ghost use lib.ListN.{length, getD};
 ghost use Rattle.lists.specs.Sort.{tabulate};
 ghost use Rattle.lists.specs.Regions.{part, Part, Out, Kept};
@@ -13,11 +11,13 @@ ghost use Rattle.incidence.specs.Corners.{Known};
 ghost use Rattle.incidence.specs.Marks.{barredBy};
 ghost use Rattle.edges.specs.Steps.{pairAt};
 ghost use Rattle.pass_shapes.specs.SwapFits.{SixBelow};
-ghost use Rattle.pass_map.specs.Regions.{edgesAt, wasIn};
+ghost use Rattle.pass_map.specs.Regions.{wasIn, edgesIn};
 ghost use Rattle.pass_map.specs.Conditions.{WorkFits, MapAsks, MapHolds};
-ghost use Rattle.regularize_swap.specs.Regions.{marksAt, isBarred, sumIn, edgeCorner};
-ghost use Rattle.regularize_swap.specs.Steps.{sixAt, sixApart, isHexagon, turned, openIn, gainsIn, betterIn, withPair, moved, markIf, usesThree, usesSix};
-ghost use Rattle.regularize_swap.specs.Conditions.{SwapPassHolds, BeginPassLeaves, MoveValencesAsks, MakeSwapAsks, MakeSwapLeaves};
+ghost use Rattle.regularize_swap.specs.Regions.{marksAt, marksIn, freeIn, sumIn, edgeCorner};
+ghost use Rattle.regularize_swap.specs.Steps.{sixAt, sixApart, isHexagon, turned, openIn, gainsIn, betterIn};
+ghost use Rattle.regularize_swap.specs.Steps.{withPair, moved, markIf, usesThree, usesSix};
+ghost use Rattle.regularize_swap.specs.Conditions.{SwapPassHolds, BeginPassLeaves, MoveValencesAsks};
+ghost use Rattle.regularize_swap.specs.Conditions.{MakeSwapAsks, MakeSwapLeaves};
 
 // Where the marks of barred quads begin in the work slice, in units of all points and quads together.
 const MARKS: usize = 22;
@@ -26,7 +26,7 @@ const MARKS: usize = 22;
 pub fn is_pair(np: usize, nq: usize, i: usize, w: &[u32]) -> bool
     requires { ⌜ MapHolds np nq (now w) ⌝ }
     requires { ⌜ i < 4 * nq ⌝ }
-    ensures { λ r. ⌜ r ≡ pairAt (wasIn np nq (now (w .entry))) (4 * nq) (part (edgesAt np nq) (4 * nq) (now (w .entry))) i ⌝ }
+    ensures { λ r. ⌜ r ≡ pairAt (wasIn np nq (now (w .entry))) (4 * nq) (edgesIn np nq (now (w .entry))) i ⌝ }
 {
     let n = np + nq;
     let was = pass_map::WAS * n;
@@ -39,7 +39,7 @@ pub fn is_free(np: usize, nq: usize, labels: &[u8], i: usize, j: usize, w: &[u32
     requires { ⌜ nq ≤ length (now labels) ⌝ }
     requires { ⌜ i < nq ⌝ }
     requires { ⌜ j < nq ⌝ }
-    ensures { λ r. ⌜ r ≡ (not (isBarred np nq (now (w .entry)) i) && not (isBarred np nq (now (w .entry)) j) && eqb (getD (now (labels .entry)) i 0) (getD (now (labels .entry)) j 0)) ⌝ }
+    ensures { λ r. ⌜ r ≡ freeIn np nq (now (labels .entry)) (now (w .entry)) i j ⌝ }
 {
     let marks = MARKS * (np + nq);
     let a = lists::at(w, marks + i);
@@ -202,7 +202,8 @@ fn move_valences(np: usize, val: usize, a: usize, b: usize, c: usize, d: usize, 
 fn bar_point(np: usize, nq: usize, v: usize, w: &mut [u32])
     requires { ⌜ MapHolds np nq (now w) ⌝ }
     requires { ⌜ v < np ⌝ }
-    ensures { λ _. ⌜ Part (marksAt np nq) nq (tabulate (barredBy (wasIn np nq (now (w .entry))) v (part (marksAt np nq) nq (now (w .entry)))) nq) (now (w .exit)) ⌝ }
+    ensures { λ _. ⌜ Part (marksAt np nq) nq
+        (tabulate (barredBy (wasIn np nq (now (w .entry))) v (marksIn np nq (now (w .entry)))) nq) (now (w .exit)) ⌝ }
     ensures { λ _. ⌜ Kept (Out (marksAt np nq) nq) (now (w .entry)) (now (w .exit)) ⌝ }
 {
     let n = np + nq;
@@ -222,7 +223,9 @@ fn bar_point(np: usize, nq: usize, v: usize, w: &mut [u32])
 fn bar_three(np: usize, nq: usize, a: usize, b: usize, c: usize, w: &mut [u32])
     requires { ⌜ MapHolds np nq (now w) ⌝ }
     requires { ⌜ (a < np) × (b < np) × (c < np) ⌝ }
-    ensures { λ _. ⌜ Part (marksAt np nq) nq (tabulate (markIf (usesThree a b c) (wasIn np nq (now (w .entry))) (part (marksAt np nq) nq (now (w .entry)))) nq) (now (w .exit)) ⌝ }
+    ensures { λ _. ⌜ Part (marksAt np nq) nq
+        (tabulate (markIf (usesThree a b c) (wasIn np nq (now (w .entry))) (marksIn np nq (now (w .entry)))) nq)
+        (now (w .exit)) ⌝ }
     ensures { λ _. ⌜ Kept (Out (marksAt np nq) nq) (now (w .entry)) (now (w .exit)) ⌝ }
 {
     bar_point(np, nq, a, w);
@@ -234,7 +237,9 @@ fn bar_three(np: usize, nq: usize, a: usize, b: usize, c: usize, w: &mut [u32])
 fn bar_six(np: usize, nq: usize, h: Six, w: &mut [u32])
     requires { ⌜ MapHolds np nq (now w) ⌝ }
     requires { ⌜ SixBelow np h ⌝ }
-    ensures { λ _. ⌜ Part (marksAt np nq) nq (tabulate (markIf (usesSix h) (wasIn np nq (now (w .entry))) (part (marksAt np nq) nq (now (w .entry)))) nq) (now (w .exit)) ⌝ }
+    ensures { λ _. ⌜ Part (marksAt np nq) nq
+        (tabulate (markIf (usesSix h) (wasIn np nq (now (w .entry))) (marksIn np nq (now (w .entry)))) nq)
+        (now (w .exit)) ⌝ }
     ensures { λ _. ⌜ Kept (Out (marksAt np nq) nq) (now (w .entry)) (now (w .exit)) ⌝ }
 {
     bar_three(np, nq, h.h0, h.h1, h.h2, w);
@@ -264,7 +269,8 @@ pub fn make_swap(
 )
     requires { ⌜ SwapPassHolds np nq (now quads) (now w) ⌝ }
     requires { ⌜ MakeSwapAsks np nq (now quads) h i j ⌝ }
-    ensures { λ _. ⌜ MakeSwapLeaves np nq k h i j (now (quads .entry)) (now (w .entry)) (now (quads .exit)) (now (w .exit)) ⌝ }
+    ensures { λ _. ⌜ MakeSwapLeaves np nq k h i j (now (quads .entry)) (now (w .entry))
+        (now (quads .exit)) (now (w .exit)) ⌝ }
 {
     let g = turned_by(h, k);
     put_pair(quads, i, j, g);
