@@ -24,7 +24,7 @@ use Rattle.rule_coarsen.specs.MergeFits.{mergeFits, mergePosition}
 use Rattle.pass_shapes.proofs.MergeFits.{merge-finite}
 use Rattle.safety_rules.proofs.Fine.{Fine, fine-of, accepted-of}
 use Rattle.safety_rules.proofs.Demand.{coarse-fine, coarse-fewer}
-use Rattle.coarsen_pass.specs.Pass.{bandPass}
+use Rattle.coarsen_pass.specs.Steps.{bandPass}
 use Rattle.rule_coarsen.specs.Rule.{coarseSheet, passesVerdict, coarsenRule}
 use Rattle.coarsen.specs.Tested.{passCount, passLeaves, testedRun}
 

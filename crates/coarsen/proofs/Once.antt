@@ -28,11 +28,12 @@ use Rattle.rule_passes.specs.Runs.{Answer, run}
 use Rattle.rule_regularize.proofs.Runs.{idle}
 use Rattle.rule_coarsen.specs.Merges.{Slot}
 use Rattle.rule_coarsen.specs.Coarse.{MergeState, compact}
-use Rattle.coarsen_merge.specs.Layout.{removedAt, removedIn}
+use Rattle.coarsen_merge.specs.Regions.{removedAt, removedIn}
 use Rattle.coarsen_compact.specs.Compact.{compacted, Begins, Compacting}
 use Rattle.rule_coarsen.specs.Invariants.{slotsOf}
 use Rattle.safety_rules.proofs.Fine.{Fine, accepted-of}
-use Rattle.coarsen_pass.specs.Pass.{sheetIn, Mergeable, bandPass, Passed}
+use Rattle.coarsen_pass.specs.Steps.{sheetIn, bandPass}
+use Rattle.coarsen_pass.specs.Conditions.{MergePassAsks, MergePassLeaves}
 use Rattle.coarsen_pass.proofs.Pass.{passed-none}
 use Rattle.rule_coarsen.specs.Rule.{coarseSheet}
 use Rattle.coarsen.specs.Passes.{Coarsenable, Remains}
@@ -71,7 +72,7 @@ module _ {b : Band} {c : Counts} {P : List Float} {Q labels w : List ℕ} {f : �
       let g : goodCorners (c .points) (quadsOf (c .quads) Q) (take (c .labels) labels) ≡ true = rw (length-points (c .points) P) at (accepted-of held fine .corners) in
       corners-tested (c .points) (c .quads) Q labels (omega (arith, same-count, A .sheet .labels)) ∙ rw same-count at g
 
-  pub mergeable : Mergeable (c .points) (c .quads) P Q labels w
+  pub mergeable : MergePassAsks (c .points) (c .quads) P Q labels w
   mergeable = record {
     few = A .sheet .few .points≤;
     few-quads = A .sheet .few .quads≤;
@@ -87,7 +88,7 @@ module _ {b : Band} {c : Counts} {P : List Float} {Q labels w : List ℕ} {f : �
   sheet-in = rw (← same-count) refl
 
   -- after a pass with r merges
-  module _ {r : ℕ} {P′ : List Float} {Q′ w′ : List ℕ} (D : Passed b (c .points) (c .quads) (sheetIn (c .points) (c .quads) P Q labels) r P′ Q′ w′) where
+  module _ {r : ℕ} {P′ : List Float} {Q′ w′ : List ℕ} (D : MergePassLeaves b (c .points) (c .quads) (sheetIn (c .points) (c .quads) P Q labels) r P′ Q′ w′) where
     pass-of : bandPass b (sheetIn (c .points) (c .quads) P Q labels) ≡ bandPass b held
     pass-of = ap (bandPass b) sheet-in
 

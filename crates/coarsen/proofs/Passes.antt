@@ -20,7 +20,7 @@ use Rattle.rule_coarsen.specs.MergeFits.{mergeFits, mergePosition}
 use Rattle.pass_shapes.proofs.MergeFits.{merge-finite}
 use Rattle.safety_rules.proofs.Fine.{Fine}
 use Rattle.safety_rules.proofs.Demand.{coarse-fine, coarse-fewer}
-use Rattle.coarsen_pass.specs.Pass.{bandPass}
+use Rattle.coarsen_pass.specs.Steps.{bandPass}
 use Rattle.rule_coarsen.specs.declared.Merged.{Merged}
 use Rattle.rule_coarsen.specs.Rule.{coarseSheet}
 use Rattle.coarsen.specs.Passes.{Coarsenable, Remains}

@@ -7,7 +7,7 @@ use Rattle.rule_sheet.specs.Sheet.{Sheet, sheetVerdict}
 use Rattle.rule_sheet.specs.Outcomes.{Outcome, gives, afterTest}
 use Rattle.rule_passes.specs.Runs.{Answer}
 use Rattle.rule_coarsen.specs.Coarse.{nextSheet}
-use Rattle.coarsen_pass.specs.Pass.{bandPass}
+use Rattle.coarsen_pass.specs.Steps.{bandPass}
 
 -- the merges of a pass over a sheet, and the sheet after it
 abbrev pub passCount : Band → Sheet → ℕ

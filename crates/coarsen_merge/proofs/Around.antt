@@ -1,11 +1,11 @@
 -- The tests over the corners of a point are the rule's tests over all quads and all points. Assumes nothing.
 use mathlib.Core.Path.{_≡_, refl, sym, ap, _∙_}
 use mathlib.Core.Logic.{_⊎_, inl, inr, ⊎-elim}
-use mathlib.Core.Bool.{Bool, true, false, cond, not, _&&_, _||_, or-true, false≢true}
+use mathlib.Core.Bool.{Bool, true, false, cond, not, _&&_, _||_, false≢true}
 use Prim.Native.Nat.{ℕ, zero, suc, _+_, _*_, _/_, _%_, _≤_, _<_}
 use mathlib.Core.List.{List}
 use native.Mathlib.Omega.{arith}
-use lib.Dec.{eqb, ltb}
+use lib.Dec.{eqb}
 use lib.ListN.{length, getD}
 use borrow.Author.Tests.{lt-ltb, ltb-true, eq-eqb, eqb-true}
 use Rattle.lists.specs.Every.{every, some}
@@ -21,15 +21,14 @@ use Rattle.rule_sheet.proofs.Sums.{upto, sum-tab}
 use Rattle.sheet.proofs.Flat.{total-flat, length-quads, weight}
 use Rattle.incidence.specs.Corners.{Cornered}
 use Rattle.incidence.specs.Marks.{hits}
-use Rattle.incidence.proofs.Marks.{Uses, hits-uses, uses-find, uses-at}
+use Rattle.incidence.proofs.Marks.{hits-uses, uses-find, uses-at}
 use Rattle.rule_passes.specs.Choices.{noneQuad}
 use Rattle.rule_sheet.proofs.Base.{is-self}
 use Rattle.rule_sheet.proofs.Rings.{zero-or}
 use Rattle.rule_sheet.proofs.Weigh.{side-at-end}
 use Rattle.rule_coarsen.specs.Coarse.{hasCorner, near, shareOnly, noFurther, nearFree}
 use Rattle.rule_coarsen.proofs.Visits.{near-of}
-use Rattle.coarsen_merge.specs.Tests.{unmarked, quadFree, freeAt, notFurther, apartFrom, sharesNone, Listed}
-use Rattle.coarsen_merge.specs.State.{isMarked, usedOf}
+use Rattle.coarsen_merge.specs.Steps.{unmarked, quadFree, freeAt, notFurther, apartFrom, sharesNone, isMarked, usedOf}
 
 -- ---- sums over numbers
 

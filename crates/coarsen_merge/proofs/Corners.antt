@@ -10,7 +10,8 @@ use borrow.Author.Tests.{lt-ltb}
 use Rattle.rule_sheet.specs.Flat.{corner, quadAt}
 use Rattle.incidence.specs.Corners.{Cornered}
 use Rattle.rule_coarsen.specs.Coarse.{hasCorner}
-use Rattle.coarsen_merge.specs.Tests.{notFurther, Listed}
+use Rattle.coarsen_merge.specs.Steps.{notFurther}
+use Rattle.coarsen_merge.specs.Conditions.{ListAsks}
 
 -- a quad has the corner v if one of its four is v
 any-four : (x y z w : Bool) → ltb 0 (cond x 1 0 + (cond y 1 0 + (cond z 1 0 + cond w 1 0))) ≡ (x || y || z || w)
@@ -37,7 +38,7 @@ pub record Turn (np nq : ℕ) (cs Q : List ℕ) (t c : ℕ) : Type 0 where
   pub q< : c / 4 < nq
   pub room : 4 * (c / 4) + 3 < length Q
 
-pub listed-turn : {np nq : ℕ} {cs Q : List ℕ} (t c : ℕ) → Listed np nq cs Q → t < length cs → c ≡ getD cs t 0 → Turn np nq cs Q t c
+pub listed-turn : {np nq : ℕ} {cs Q : List ℕ} (t c : ℕ) → ListAsks np nq cs Q → t < length cs → c ≡ getD cs t 0 → Turn np nq cs Q t c
 listed-turn {np} {nq} {cs} {Q} t c L h e =
     let l = L .sheet .quads in
     let k = L .known t h in

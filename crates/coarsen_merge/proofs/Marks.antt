@@ -20,7 +20,8 @@ use Rattle.sheet.specs.Edges.{allCorners, pointCorners}
 use Rattle.incidence.specs.Marks.{hits}
 use Rattle.incidence.proofs.Marks.{hits-uses}
 use Rattle.rule_coarsen.specs.Coarse.{hasCorner}
-use Rattle.coarsen_merge.specs.Marks.{isAt, markedBy, markedIn, reaches, markedTo, markedNear, renamedAt, Marking, Nameable}
+use Rattle.coarsen_merge.specs.Steps.{isAt, markedBy, markedIn, reaches, markedTo, markedNear, renamedAt}
+use Rattle.coarsen_merge.specs.Conditions.{MarkPointsAsks, RenameAsks}
 use Rattle.coarsen_merge.proofs.Corners.{has-one}
 
 -- ---- one element more
@@ -43,11 +44,11 @@ more-points xs U np j c h e = tab-set (markedBy xs U j) (markedBy xs U (j + 1)) 
 
 pub record Pointing (xs U : List ℕ) (from m to np : ℕ) (v w : List ℕ) (j : ℕ) : Type 0 where
   pub j≤ : j ≤ m
-  pub reads : Marking from m to np xs w
+  pub reads : MarkPointsAsks from m to np xs w
   pub marks : Part to np (tabulate (markedBy xs U j) np) w
   pub kept : Kept (Out to np) v w
 
-pub pointing-start : {xs v : List ℕ} {from m to np : ℕ} → Marking from m to np xs v → Pointing xs (part to np v) from m to np v v 0
+pub pointing-start : {xs v : List ℕ} {from m to np : ℕ} → MarkPointsAsks from m to np xs v → Pointing xs (part to np v) from m to np v v 0
 pointing-start {xs} {v} {from} {m} {to} {np} M =
     let P : Part to np (part to np v) v = part-of to np v (M .in-to) in
     record {
@@ -144,11 +145,11 @@ more-marks {at} {np} {w} cs Q U X t c e x P = part-as P (tab-ext (markedIn Q X (
 
 pub record Naming (cs Q : List ℕ) (a : ℕ) (R : List ℕ) (t : ℕ) : Type 0 where
   pub t≤ : t ≤ length cs
-  pub known : Nameable cs (length Q)
+  pub known : RenameAsks cs (length Q)
   pub len : length R ≡ length Q
   pub is : R ≡ tabulate (renamedAt cs Q a t) (length Q)
 
-pub naming-start : (cs Q : List ℕ) (a : ℕ) → Nameable cs (length Q) → Naming cs Q a Q 0
+pub naming-start : (cs Q : List ℕ) (a : ℕ) → RenameAsks cs (length Q) → Naming cs Q a Q 0
 naming-start cs Q a h = record { t≤ = zero-le; known = h; len = refl; is = is-tab Q (renamedAt cs Q a 0) (length Q) refl (λ i l. rw (some-zero (isAt cs i))) }
 
 pub record NameTurn (cs Q : List ℕ) (a : ℕ) (R : List ℕ) (t c : ℕ) : Type 0 where

@@ -1,5 +1,5 @@
 -- The test of two masks as numbers is that of their labels. Assumes nothing.
-use mathlib.Core.Path.{_≡_, refl, _∙_}
+use mathlib.Core.Path.{_≡_, refl}
 use mathlib.Core.Bool.{Bool, true, false, not, _&&_, _||_}
 use Prim.Native.Nat.{ℕ, _+_, _*_, _/_, _%_}
 use mathlib.Core.List.{List}
@@ -9,7 +9,7 @@ use Rattle.lists.specs.Every.{every}
 use Rattle.rule_sheet.specs.Quads.{Quad, num, pack, hasLabel, maskOf}
 use Rattle.sheet.proofs.Masks.{bit-pack}
 use Rattle.rule_coarsen.specs.Coarse.{masksJoin}
-use Rattle.coarsen_merge.specs.Tests.{noOpposite, partOf, masksJoined}
+use Rattle.coarsen_merge.specs.Steps.{noOpposite, partOf, masksJoined}
 
 none-set : (x u : Bool) → eqb (num x + num u) 0 ≡ not (x || u)
 none-set true true = refl

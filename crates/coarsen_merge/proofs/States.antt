@@ -1,21 +1,20 @@
 -- A merge of the slices is a merge of the state that they have. Assumes nothing.
 use mathlib.Core.Path.{_≡_, refl, sym, ap, _∙_, subst}
 use mathlib.Core.Logic.{_⊎_, inl, inr, ⊎-elim}
-use mathlib.Core.Bool.{Bool, true, false, cond, not, _&&_, _||_, or-true, false≢true}
-use Prim.Native.Nat.{ℕ, zero, suc, _+_, _*_, _/_, _%_, _≤_, _<_}
+use mathlib.Core.Bool.{Bool, true, false, cond, not, _||_, or-true, false≢true}
+use Prim.Native.Nat.{ℕ, zero, suc, _+_, _*_, _≤_, _<_}
 use mathlib.Core.List.{List, [], _∷_, map}
 use native.Mathlib.Omega.{arith}
 use native.Mathlib.Numerals.{add-one}
-use lib.Dec.{eqb, ltb}
+use lib.Dec.{eqb}
 use lib.Ieee.{Float, nan}
 use lib.ListN.{length, getD, set, length-set, length-map, List·getD-map}
 use lib.Seq.{getD-set-same, getD-set-other}
-use borrow.Author.Tests.{eq-eqb, eqb-true, lt-ltb, ltb-true, ne-eqb}
+use borrow.Author.Tests.{eq-eqb, eqb-true, lt-ltb, ltb-true}
 use Rattle.lists.specs.Every.{some}
 use Rattle.lists.specs.Sort.{tabulate, itself}
-use Rattle.lists.specs.Regions.{part, Part, Kept}
 use Rattle.lists.proofs.Every.{bool-iff, or-split, some-at, some-find, and-left, and-right}
-use Rattle.lists.proofs.Laws.{eq-or-ne, length-tab, getD-tab, is-table, tab-ext, tab-set}
+use Rattle.lists.proofs.Laws.{eq-or-ne, length-tab, getD-tab, is-table, tab-set}
 use Rattle.lists.proofs.Order.{bucket-key, in-bucket}
 use Rattle.lists.proofs.Regions.{part-of, part-len}
 use Rattle.points.specs.declared.Point.{Point}
@@ -34,12 +33,12 @@ use Rattle.rule_coarsen.specs.Coarse.{hasCorner, near, mark, MergeState, MergeF
 use Rattle.rule_coarsen.specs.Invariants.{MInv, Used, weigh, slotAt, slotsOf}
 use Rattle.rule_coarsen.proofs.MergePass.{slot-inj}
 use Rattle.rule_coarsen.proofs.Visits.{near-of}
-use Rattle.coarsen_merge.specs.Tests.{unmarked}
-use Rattle.coarsen_merge.specs.State.{isMarked, usedOf, stateOf}
+use Rattle.coarsen_merge.specs.Steps.{unmarked, isMarked, usedOf, stateOf, isAt, joins, markedNear, markedBoth, renamedAt, renamedQuads}
 use Rattle.rule_coarsen.proofs.Slots.{slot-get}
-use Rattle.coarsen_merge.specs.Layout.{flatStart, startOf, usedIn, removedIn, removedAt, Grounds}
-use Rattle.coarsen_merge.specs.Marks.{isAt, joins, markedNear, markedBoth, renamedAt, renamedQuads, Merging, Joined}
-use Rattle.coarsen_merge.proofs.Around.{quad-get, used-get, Near, near-find}
+use Rattle.pass_map.specs.Regions.{wasIn, startIn}
+use Rattle.coarsen_merge.specs.Regions.{usedIn, removedIn, removedAt}
+use Rattle.coarsen_merge.specs.Conditions.{StartHolds, MergeAsks, MergeLeaves}
+use Rattle.coarsen_merge.proofs.Around.{quad-get, used-get, near-find}
 
 -- ---- points
 
@@ -217,16 +216,16 @@ module _ (np nq : ℕ) (Q0 Q R U : List ℕ) (f a c : ℕ) (long : 4 * nq ≤ le
 
 -- the state after a merge
 pub state-merged : (np nq f a c k : ℕ) (P P′ : List Float) (Q w Q′ w′ : List ℕ) (labels : List ℕ) (fits : MergeFits) (position : Position) (p : Point)
-    → Grounds np nq w → Merging np nq f a c (length P) (length Q) → MInv (startOf np nq w) (slotsOf nq Q (removedIn np nq w)) (Used (usedOf np (usedIn np nq w)))
-    → unmarked (usedIn np nq w) c ≡ true → position (pointsOf np P) a c ≡ p → P′ ≡ withPoint P a p → Joined np nq f a c Q w Q′ w′
-    → stateOf np nq P′ Q′ (removedIn np nq w′) (usedIn np nq w′) (k + 1) ≡ mergedState np (startOf np nq w) labels fits position (stateOf np nq P Q (removedIn np nq w) (usedIn np nq w) k) f a c
+    → StartHolds np nq w → MergeAsks np nq f a c (length P) (length Q) → MInv (startIn np nq w) (slotsOf nq Q (removedIn np nq w)) (Used (usedOf np (usedIn np nq w)))
+    → unmarked (usedIn np nq w) c ≡ true → position (pointsOf np P) a c ≡ p → P′ ≡ withPoint P a p → MergeLeaves np nq f a c Q w Q′ w′
+    → stateOf np nq P′ Q′ (removedIn np nq w′) (usedIn np nq w′) (k + 1) ≡ mergedState np (startIn np nq w) labels fits position (stateOf np nq P Q (removedIn np nq w) (usedIn np nq w) k) f a c
 unfolding stateOf
 state-merged np nq f a c k P P′ Q w Q′ w′ labels fits position p G M I u e d N =
     let R = removedIn np nq w in
     let U = usedIn np nq w in
-    let many = part-len (part-of (removedAt np nq) nq w (omega (arith, G .room))) in
-    same (rw (N .quads, N .removed) (slots-merged np nq (flatStart np nq w) Q R U f a c (M .quads) many (M .f<) (M .c<) u I))
-    (rw (N .used) (used-both np nq (flatStart np nq w) U a c))
+    let many = part-len (part-of (removedAt np nq) nq w (omega (arith, G .map .work .long))) in
+    same (rw (N .quads, N .removed) (slots-merged np nq (wasIn np nq w) Q R U f a c (M .quads) many (M .f<) (M .c<) u I))
+    (rw (N .used) (used-both np nq (wasIn np nq w) U a c))
     (rw (d, e) (points-put np P a p (M .a<) (M .points)))
   where
     same : {S T : List Slot} {X Y : List Bool} {ps qs : List Point} → S ≡ T → X ≡ Y → ps ≡ qs

@@ -15,8 +15,8 @@ use Rattle.lists.proofs.Laws.{eq-or-ne}
 use Rattle.rule_sheet.specs.Flat.{corner, quadAt}
 use Rattle.sheet.specs.Edges.{pointCorners}
 use Rattle.rule_coarsen.specs.Coarse.{hasCorner}
-use Rattle.coarsen_merge.specs.Tests.{unmarked, quadFree, freeAround, Listed}
-use Rattle.coarsen_merge.specs.Marks.{joins}
+use Rattle.coarsen_merge.specs.Steps.{unmarked, quadFree, freeAround, joins}
+use Rattle.coarsen_merge.specs.Conditions.{ListAsks}
 use Rattle.coarsen_merge.proofs.Corners.{within, has-one}
 use Rattle.coarsen_merge.proofs.Around.{around-every, free-quad}
 
@@ -79,7 +79,7 @@ free-again Q U nq x v h m = every-ext _ _ (length (pointCorners Q nq v)) (λ t _
 
 -- ---- no barred point
 
-pub free-fresh : {np nq : ℕ} {Q : List ℕ} (v : ℕ) → Listed np nq (pointCorners Q nq v) Q → freeAround Q (replicate np 0) nq v ≡ true
+pub free-fresh : {np nq : ℕ} {Q : List ℕ} (v : ℕ) → ListAsks np nq (pointCorners Q nq v) Q → freeAround Q (replicate np 0) nq v ≡ true
 unfolding freeAround
 free-fresh {np} {nq} {Q} v L = every-on _ 0 (length (pointCorners Q nq v)) (every-zero _) (omega arith) (λ t _ h.
     let k = L .known t h in

@@ -1,4 +1,3 @@
-pub mod Tests
-pub mod State
-pub mod Layout
-pub mod Marks
+pub mod Regions
+pub mod Steps
+pub mod Conditions

@@ -2,7 +2,7 @@
 
 use points::Point;
 ghost use mathlib.Core.Path.{_≡_};
-ghost use Prim.Native.Nat.{ℕ, _+_, _*_, _/_, _<_, _≤_};
+ghost use Prim.Native.Nat.{_+_, _*_, _/_, _<_, _≤_};
 ghost use lib.ListN.{length, set};
 ghost use Rattle.lists.specs.Every.{every};
 ghost use Rattle.lists.specs.Sort.{tabulate};
@@ -13,28 +13,18 @@ ghost use Rattle.rule_sheet.specs.Flat.{corner, quadAt};
 ghost use Rattle.rule_sheet.specs.Squared.{sq};
 ghost use Rattle.rule_coarsen.specs.Coarse.{hasCorner};
 ghost use Rattle.incidence.specs.Corners.{Cornered};
-ghost use Rattle.coarsen_merge.specs.Tests.{noOpposite, partOf, masksJoined, sumOfFour, sumOfThree, unmarked, quadFree, notFurther, apartFrom, sharesAt, sharesNone, freeAround, noneFurther, sharedOnly, Listed};
-ghost use Rattle.coarsen_merge.specs.Layout.{touchedAt, flatStart, startOf, usedIn, touchedIn, Grounds, Touched, Spanned, Face, meetOnly, gainOf, worthIt, allowedIn};
-ghost use Rattle.coarsen_merge.specs.Marks.{markedBy, markedIn, markedNear, renamedAt, Marking, Nameable, renamedQuads, Merging, Barred, Joined};
+ghost use Rattle.coarsen_merge.specs.Steps.{noOpposite, partOf, masksJoined, sumOfFour, sumOfThree, unmarked};
+ghost use Rattle.coarsen_merge.specs.Steps.{quadFree, notFurther, apartFrom, sharesAt, sharesNone, freeAround};
+ghost use Rattle.coarsen_merge.specs.Steps.{noneFurther, sharedOnly, meetOnly, gainOf, worthIt, allowedIn};
+ghost use Rattle.coarsen_merge.specs.Steps.{markedBy, markedIn, markedNear, renamedAt, renamedQuads};
+ghost use Rattle.coarsen_merge.specs.Conditions.{ListAsks, StartHolds, TouchedHolds, CornersOfLeaves, FaceAsks};
+ghost use Rattle.coarsen_merge.specs.Conditions.{MarkPointsAsks, RenameAsks, MergeAsks, BarLeaves, MergeLeaves};
+ghost use Rattle.coarsen_merge.specs.Regions.{touchedAt, usedIn, touchedIn};
+ghost use Rattle.pass_map.specs.Regions.{wasIn, startIn};
 
-// Regions of the work slice in a pass, in units of points and quads together, behind the masks: the quads at the pass's start, work of the sorts,
-// where the corners by edge begin and the corners, the same by point, how many quads each point has, the barred points, the quads that are out,
-// the touched points, those at which a quad has a barred corner, and where the last walk round each point ended. The unit before the touched points
-// is the renumbering's.
-pub const WAS: usize = 1;
-
-pub const FIRST: usize = 5;
-
-pub const EDGE_STARTS: usize = 9;
-
-pub const EDGES: usize = 11;
-
-pub const STARTS: usize = 15;
-
-pub const ORDER: usize = 17;
-
-pub const VALENCES: usize = 21;
-
+// Where the regions of a pass begin in the work slice, in units of points and quads together, behind those of its
+// start: the barred points, the quads that are out, the touched points, those at which a quad has a barred corner, and
+// where the last walk round each point ended. The unit before the touched points is the renumbering's.
 pub const USED: usize = 22;
 
 pub const REMOVED: usize = 23;
@@ -82,7 +72,7 @@ fn part_of(a: u32, c: u32) -> bool
 }
 
 // Two masks together have no opposite pair and are one of the two.
-pub fn masks_join(a: u32, c: u32) -> bool
+fn masks_join(a: u32, c: u32) -> bool
     ensures { λ r. ⌜ r ≡ masksJoined a c ⌝ }
 {
     no_opposite(a, c) & (part_of(c, a) | part_of(a, c))
@@ -102,7 +92,7 @@ fn square(k: usize) -> usize
 }
 
 // The sum over the four corners of a quad, by how many quads each has.
-pub fn sum_before(a: usize, b: usize, c: usize, d: usize) -> usize
+fn sum_before(a: usize, b: usize, c: usize, d: usize) -> usize
     requires { ⌜ a + b + c + d ≤ 16777216 ⌝ }
     ensures { λ r. ⌜ r ≡ sumOfFour a b c d ⌝ }
 {
@@ -110,7 +100,7 @@ pub fn sum_before(a: usize, b: usize, c: usize, d: usize) -> usize
 }
 
 // The sum over the merged point and the other two corners.
-pub fn sum_after(a: usize, b: usize, c: usize, d: usize) -> usize
+fn sum_after(a: usize, b: usize, c: usize, d: usize) -> usize
     requires { ⌜ a + b + c + d ≤ 16777216 ⌝ }
     requires { ⌜ 2 ≤ a + c ⌝ }
     requires { ⌜ 1 ≤ b ⌝ }
@@ -160,7 +150,7 @@ pub fn quad_free(np: usize, nq: usize, quads: &[u32], used: &[u32], q: usize) ->
 
 // No quad of the corners of a list has the corner v, but quad f.
 fn none_further(np: usize, nq: usize, cs: &[u32], quads: &[u32], f: usize, v: usize) -> bool
-    requires { ⌜ Listed np nq (now cs) (now quads) ⌝ }
+    requires { ⌜ ListAsks np nq (now cs) (now quads) ⌝ }
     ensures { λ r. ⌜ r ≡ every (notFurther (now (cs .entry)) (now (quads .entry)) f v) (length (now (cs .entry))) ⌝ }
 {
     let mut t = 0;
@@ -180,45 +170,47 @@ fn none_further(np: usize, nq: usize, cs: &[u32], quads: &[u32], f: usize, v: us
 
 // Where the corners of point v stand.
 fn corners_of(np: usize, nq: usize, v: usize, w: &[u32]) -> Span
-    requires { ⌜ Grounds np nq (now w) ⌝ }
+    requires { ⌜ StartHolds np nq (now w) ⌝ }
     requires { ⌜ v < np ⌝ }
-    ensures { λ r. ⌜ Spanned np nq v r (now (w .entry)) ⌝ }
+    ensures { λ r. ⌜ CornersOfLeaves np nq v r (now (w .entry)) ⌝ }
 {
     let n = np + nq;
-    let from = ORDER * n + lists::at(w, STARTS * n + v);
-    let to = ORDER * n + lists::at(w, STARTS * n + v + 1);
+    let starts = pass_map::POINT_STARTS * n;
+    let order = pass_map::POINTS * n;
+    let from = order + lists::at(w, starts + v);
+    let to = order + lists::at(w, starts + v + 1);
     Span { from, to }
 }
 
 // No quad at point v has a barred corner.
 fn near_free(np: usize, nq: usize, v: usize, w: &[u32]) -> bool
-    requires { ⌜ Grounds np nq (now w) ⌝ }
-    requires { ⌜ Touched np nq (now w) ⌝ }
+    requires { ⌜ StartHolds np nq (now w) ⌝ }
+    requires { ⌜ TouchedHolds np nq (now w) ⌝ }
     requires { ⌜ v < np ⌝ }
-    ensures { λ r. ⌜ r ≡ freeAround (flatStart np nq (now (w .entry))) (usedIn np nq (now (w .entry))) nq v ⌝ }
+    ensures { λ r. ⌜ r ≡ freeAround (wasIn np nq (now (w .entry))) (usedIn np nq (now (w .entry))) nq v ⌝ }
 {
     lists::at(w, TOUCHED * (np + nq) + v) == 0
 }
 
 // No quad at point v has the corner u, but quad f.
 fn no_further(np: usize, nq: usize, f: usize, v: usize, u: usize, w: &[u32]) -> bool
-    requires { ⌜ Grounds np nq (now w) ⌝ }
+    requires { ⌜ StartHolds np nq (now w) ⌝ }
     requires { ⌜ v < np ⌝ }
-    ensures { λ r. ⌜ r ≡ noneFurther (flatStart np nq (now (w .entry))) nq f v u ⌝ }
+    ensures { λ r. ⌜ r ≡ noneFurther (wasIn np nq (now (w .entry))) nq f v u ⌝ }
 {
     let s = corners_of(np, nq, v, w);
     let from = s.from;
     let to = s.to;
-    let was = WAS * (np + nq);
+    let was = pass_map::WAS * (np + nq);
     none_further(np, nq, &w[from..to], &w[was..was + 4 * nq], f, u)
 }
 
 // The point x is one of two corners, or no neighbour of v.
 fn apart_from(np: usize, nq: usize, b: usize, d: usize, v: usize, x: usize, w: &[u32]) -> bool
-    requires { ⌜ Grounds np nq (now w) ⌝ }
+    requires { ⌜ StartHolds np nq (now w) ⌝ }
     requires { ⌜ v < np ⌝ }
     requires { ⌜ x < np ⌝ }
-    ensures { λ r. ⌜ r ≡ apartFrom (startOf np nq (now (w .entry))) b d v x ⌝ }
+    ensures { λ r. ⌜ r ≡ apartFrom (startIn np nq (now (w .entry))) b d v x ⌝ }
 {
     if x == b {
         return true;
@@ -226,18 +218,17 @@ fn apart_from(np: usize, nq: usize, b: usize, d: usize, v: usize, x: usize, w: &
     if x == d {
         return true;
     }
-    let n = np + nq;
-    !edges::is_edge(np, nq, WAS * n, EDGE_STARTS * n, EDGES * n, v, x, w)
+    !pass_map::is_edge(np, nq, v, x, w)
 }
 
 // Both neighbours at corner c are one of two corners, or no neighbours of v.
 fn shares_none(np: usize, nq: usize, b: usize, d: usize, v: usize, c: usize, w: &[u32]) -> bool
-    requires { ⌜ Grounds np nq (now w) ⌝ }
+    requires { ⌜ StartHolds np nq (now w) ⌝ }
     requires { ⌜ v < np ⌝ }
     requires { ⌜ c < 4 * nq ⌝ }
-    ensures { λ r. ⌜ r ≡ sharesAt (flatStart np nq (now (w .entry))) (startOf np nq (now (w .entry))) b d v c ⌝ }
+    ensures { λ r. ⌜ r ≡ sharesAt (wasIn np nq (now (w .entry))) (startIn np nq (now (w .entry))) b d v c ⌝ }
 {
-    let was = WAS * (np + nq);
+    let was = pass_map::WAS * (np + nq);
     let x = lists::at(w, was + (c / 4 * 4 + (c + 3) % 4));
     let y = lists::at(w, was + (c / 4 * 4 + (c + 1) % 4));
     apart_from(np, nq, b, d, v, x, w) & apart_from(np, nq, b, d, v, y, w)
@@ -245,10 +236,12 @@ fn shares_none(np: usize, nq: usize, b: usize, d: usize, v: usize, c: usize, w: 
 
 // The same at every corner of a list.
 fn none_shared(np: usize, nq: usize, cs: &[u32], b: usize, d: usize, v: usize, w: &[u32]) -> bool
-    requires { ⌜ Grounds np nq (now w) ⌝ }
+    requires { ⌜ StartHolds np nq (now w) ⌝ }
     requires { ⌜ v < np ⌝ }
-    requires { ⌜ Listed np nq (now cs) (flatStart np nq (now w)) ⌝ }
-    ensures { λ r. ⌜ r ≡ every (sharesNone (now (cs .entry)) (flatStart np nq (now (w .entry))) (startOf np nq (now (w .entry))) b d v) (length (now (cs .entry))) ⌝ }
+    requires { ⌜ ListAsks np nq (now cs) (wasIn np nq (now w)) ⌝ }
+    ensures { λ r. ⌜ r ≡
+        every (sharesNone (now (cs .entry)) (wasIn np nq (now (w .entry))) (startIn np nq (now (w .entry))) b d v)
+        (length (now (cs .entry))) ⌝ }
 {
     let mut t = 0;
     while t < cs.len() {
@@ -263,10 +256,10 @@ fn none_shared(np: usize, nq: usize, cs: &[u32], b: usize, d: usize, v: usize, w
 
 // The points v and u share only the two corners b and d as neighbours.
 fn share_only(np: usize, nq: usize, v: usize, b: usize, u: usize, d: usize, w: &[u32]) -> bool
-    requires { ⌜ Grounds np nq (now w) ⌝ }
+    requires { ⌜ StartHolds np nq (now w) ⌝ }
     requires { ⌜ v < np ⌝ }
     requires { ⌜ u < np ⌝ }
-    ensures { λ r. ⌜ r ≡ sharedOnly (flatStart np nq (now (w .entry))) nq v b u d ⌝ }
+    ensures { λ r. ⌜ r ≡ sharedOnly (wasIn np nq (now (w .entry))) nq v b u d ⌝ }
 {
     let s = corners_of(np, nq, v, w);
     let from = s.from;
@@ -276,14 +269,15 @@ fn share_only(np: usize, nq: usize, v: usize, b: usize, u: usize, d: usize, w: &
 
 // How many quads point v has.
 fn valence_at(np: usize, nq: usize, v: usize, w: &[u32]) -> usize
-    requires { ⌜ Grounds np nq (now w) ⌝ }
+    requires { ⌜ StartHolds np nq (now w) ⌝ }
     requires { ⌜ v < np ⌝ }
-    ensures { λ r. ⌜ r ≡ valence (startOf np nq (now (w .entry))) v ⌝ }
+    ensures { λ r. ⌜ r ≡ valence (startIn np nq (now (w .entry))) v ⌝ }
 {
-    lists::at(w, VALENCES * (np + nq) + v)
+    lists::at(w, pass_map::VALENCES * (np + nq) + v)
 }
 
-// The points a and c have no further quad than f in common, and only the two corners b and d as neighbours; the walk is round the point with fewer quads.
+// The points a and c have no further quad than f in common, and only the two corners b and d as neighbours; the walk is
+// round the point with fewer quads.
 fn meet_only(
     np: usize,
     nq: usize,
@@ -294,7 +288,7 @@ fn meet_only(
     d: usize,
     w: &[u32],
 ) -> bool
-    requires { ⌜ Grounds np nq (now w) ⌝ }
+    requires { ⌜ StartHolds np nq (now w) ⌝ }
     requires { ⌜ a < np ⌝ }
     requires { ⌜ c < np ⌝ }
     ensures { λ r. ⌜ r ≡ meetOnly np nq f a b c d (now (w .entry)) ⌝ }
@@ -307,8 +301,8 @@ fn meet_only(
 
 // The sums before and after a merge of the corners a and c of a quad.
 pub fn sums_of(np: usize, nq: usize, a: usize, b: usize, c: usize, d: usize, w: &[u32]) -> Sums
-    requires { ⌜ Grounds np nq (now w) ⌝ }
-    requires { ⌜ Face np nq a b c d (now w) ⌝ }
+    requires { ⌜ StartHolds np nq (now w) ⌝ }
+    requires { ⌜ FaceAsks np nq a b c d (now w) ⌝ }
     ensures { λ r. ⌜ r ≡ gainOf np nq a b c d (now (w .entry)) ⌝ }
 {
     let va = valence_at(np, nq, a, w);
@@ -322,8 +316,8 @@ pub fn sums_of(np: usize, nq: usize, a: usize, b: usize, c: usize, d: usize, w: 
 
 // What the masks and the numbers of quads at the corners a, b, c and d say of a merge of a and c.
 fn worth(np: usize, nq: usize, a: usize, b: usize, c: usize, d: usize, w: &[u32]) -> bool
-    requires { ⌜ Grounds np nq (now w) ⌝ }
-    requires { ⌜ Face np nq a b c d (now w) ⌝ }
+    requires { ⌜ StartHolds np nq (now w) ⌝ }
+    requires { ⌜ FaceAsks np nq a b c d (now w) ⌝ }
     ensures { λ r. ⌜ r ≡ worthIt np nq a b c d (now (w .entry)) ⌝ }
 {
     let vb = valence_at(np, nq, b, w);
@@ -332,7 +326,8 @@ fn worth(np: usize, nq: usize, a: usize, b: usize, c: usize, d: usize, w: &[u32]
     masks_join(w[a], w[c]) & (4 <= vb) & (4 <= vd) & (s.after <= s.before)
 }
 
-// Whether the rule allows the merge of the corners a and c of quad f = (a, b, c, d), as far as it does not read the points.
+// Whether the rule allows the merge of the corners a and c of quad f = (a, b, c, d), as far as it does not read the
+// points.
 pub fn allowed(
     np: usize,
     nq: usize,
@@ -343,9 +338,9 @@ pub fn allowed(
     d: usize,
     w: &[u32],
 ) -> bool
-    requires { ⌜ Grounds np nq (now w) ⌝ }
-    requires { ⌜ Face np nq a b c d (now w) ⌝ }
-    requires { ⌜ Touched np nq (now w) ⌝ }
+    requires { ⌜ StartHolds np nq (now w) ⌝ }
+    requires { ⌜ FaceAsks np nq a b c d (now w) ⌝ }
+    requires { ⌜ TouchedHolds np nq (now w) ⌝ }
     ensures { λ r. ⌜ r ≡ allowedIn np nq f a b c d (now (w .entry)) ⌝ }
 {
     if worth(np, nq, a, b, c, d, w) {
@@ -360,8 +355,9 @@ pub fn allowed(
 
 // Marks, in the np elements at to, the m points at from.
 fn mark_points(from: usize, m: usize, to: usize, np: usize, w: &mut [u32])
-    requires { ⌜ Marking from m to np (part from m (now w)) (now w) ⌝ }
-    ensures { λ _. ⌜ Part to np (tabulate (markedBy (part from m (now (w .entry))) (part to np (now (w .entry))) m) np) (now (w .exit)) ⌝ }
+    requires { ⌜ MarkPointsAsks from m to np (part from m (now w)) (now w) ⌝ }
+    ensures { λ _. ⌜ Part to np
+        (tabulate (markedBy (part from m (now (w .entry))) (part to np (now (w .entry))) m) np) (now (w .exit)) ⌝ }
     ensures { λ _. ⌜ Kept (Out to np) (now (w .entry)) (now (w .exit)) ⌝ }
 {
     let mut j = 0;
@@ -374,20 +370,23 @@ fn mark_points(from: usize, m: usize, to: usize, np: usize, w: &mut [u32])
 
 // Touches the corners of quad q.
 fn touch_quad(np: usize, nq: usize, q: usize, w: &mut [u32])
-    requires { ⌜ Grounds np nq (now w) ⌝ }
+    requires { ⌜ StartHolds np nq (now w) ⌝ }
     requires { ⌜ q < nq ⌝ }
-    ensures { λ _. ⌜ Part (touchedAt np nq) np (tabulate (markedIn (flatStart np nq (now (w .entry))) (touchedIn np nq (now (w .entry))) q) np) (now (w .exit)) ⌝ }
+    ensures { λ _. ⌜ Part (touchedAt np nq) np
+        (tabulate (markedIn (wasIn np nq (now (w .entry))) (touchedIn np nq (now (w .entry))) q) np) (now (w .exit)) ⌝ }
     ensures { λ _. ⌜ Kept (Out (touchedAt np nq) np) (now (w .entry)) (now (w .exit)) ⌝ }
 {
     let n = np + nq;
-    mark_points(WAS * n + 4 * q, 4, TOUCHED * n, np, w);
+    mark_points(pass_map::WAS * n + 4 * q, 4, TOUCHED * n, np, w);
 }
 
 // Touches the corners of all quads at point x.
 fn touch_around(np: usize, nq: usize, x: usize, w: &mut [u32])
-    requires { ⌜ Grounds np nq (now w) ⌝ }
+    requires { ⌜ StartHolds np nq (now w) ⌝ }
     requires { ⌜ x < np ⌝ }
-    ensures { λ _. ⌜ Part (touchedAt np nq) np (tabulate (markedNear (flatStart np nq (now (w .entry))) (touchedIn np nq (now (w .entry))) nq x) np) (now (w .exit)) ⌝ }
+    ensures { λ _. ⌜ Part (touchedAt np nq) np
+        (tabulate (markedNear (wasIn np nq (now (w .entry))) (touchedIn np nq (now (w .entry))) nq x) np)
+        (now (w .exit)) ⌝ }
     ensures { λ _. ⌜ Kept (Out (touchedAt np nq) np) (now (w .entry)) (now (w .exit)) ⌝ }
 {
     let s = corners_of(np, nq, x, w);
@@ -400,12 +399,13 @@ fn touch_around(np: usize, nq: usize, x: usize, w: &mut [u32])
     }
 }
 
-// Bars the point x. The first time, the corners of all quads at it are touched, so a quad is touched at most four times a pass.
+// Bars the point x. The first time, the corners of all quads at it are touched, so a quad is touched at most four times
+// a pass.
 fn bar_point(np: usize, nq: usize, x: usize, w: &mut [u32])
-    requires { ⌜ Grounds np nq (now w) ⌝ }
-    requires { ⌜ Touched np nq (now w) ⌝ }
+    requires { ⌜ StartHolds np nq (now w) ⌝ }
+    requires { ⌜ TouchedHolds np nq (now w) ⌝ }
     requires { ⌜ x < np ⌝ }
-    ensures { λ _. ⌜ Barred np nq (set (usedIn np nq (now (w .entry))) x 1) (now (w .entry)) (now (w .exit)) ⌝ }
+    ensures { λ _. ⌜ BarLeaves np nq (set (usedIn np nq (now (w .entry))) x 1) (now (w .entry)) (now (w .exit)) ⌝ }
 {
     let at = USED * (np + nq) + x;
     let first = w[at] == 0;
@@ -417,12 +417,14 @@ fn bar_point(np: usize, nq: usize, x: usize, w: &mut [u32])
 
 // Bars the corners of quad q.
 fn bar_quad(np: usize, nq: usize, q: usize, w: &mut [u32])
-    requires { ⌜ Grounds np nq (now w) ⌝ }
-    requires { ⌜ Touched np nq (now w) ⌝ }
+    requires { ⌜ StartHolds np nq (now w) ⌝ }
+    requires { ⌜ TouchedHolds np nq (now w) ⌝ }
     requires { ⌜ q < nq ⌝ }
-    ensures { λ _. ⌜ Barred np nq (tabulate (markedIn (flatStart np nq (now (w .entry))) (usedIn np nq (now (w .entry))) q) np) (now (w .entry)) (now (w .exit)) ⌝ }
+    ensures { λ _. ⌜ BarLeaves np nq
+        (tabulate (markedIn (wasIn np nq (now (w .entry))) (usedIn np nq (now (w .entry))) q) np)
+        (now (w .entry)) (now (w .exit)) ⌝ }
 {
-    let from = WAS * (np + nq) + 4 * q;
+    let from = pass_map::WAS * (np + nq) + 4 * q;
     let mut j = 0;
     while j < 4 {
         bar_point(np, nq, lists::at(w, from + j), w);
@@ -432,10 +434,12 @@ fn bar_quad(np: usize, nq: usize, q: usize, w: &mut [u32])
 
 // Bars the corners of all quads at point v.
 fn bar_around(np: usize, nq: usize, v: usize, w: &mut [u32])
-    requires { ⌜ Grounds np nq (now w) ⌝ }
-    requires { ⌜ Touched np nq (now w) ⌝ }
+    requires { ⌜ StartHolds np nq (now w) ⌝ }
+    requires { ⌜ TouchedHolds np nq (now w) ⌝ }
     requires { ⌜ v < np ⌝ }
-    ensures { λ _. ⌜ Barred np nq (tabulate (markedNear (flatStart np nq (now (w .entry))) (usedIn np nq (now (w .entry))) nq v) np) (now (w .entry)) (now (w .exit)) ⌝ }
+    ensures { λ _. ⌜ BarLeaves np nq
+        (tabulate (markedNear (wasIn np nq (now (w .entry))) (usedIn np nq (now (w .entry))) nq v) np)
+        (now (w .entry)) (now (w .exit)) ⌝ }
 {
     let s = corners_of(np, nq, v, w);
     let from = s.from;
@@ -449,8 +453,10 @@ fn bar_around(np: usize, nq: usize, v: usize, w: &mut [u32])
 
 // The corners of a list become the point a.
 fn rename_corners(cs: &[u32], a: u32, quads: &mut [u32])
-    requires { ⌜ Nameable (now cs) (length (now quads)) ⌝ }
-    ensures { λ _. ⌜ now (quads .exit) ≡ tabulate (renamedAt (now (cs .entry)) (now (quads .entry)) a (length (now (cs .entry)))) (length (now (quads .entry))) ⌝ }
+    requires { ⌜ RenameAsks (now cs) (length (now quads)) ⌝ }
+    ensures { λ _. ⌜ now (quads .exit) ≡
+        tabulate (renamedAt (now (cs .entry)) (now (quads .entry)) a (length (now (cs .entry))))
+        (length (now (quads .entry))) ⌝ }
 {
     let mut t = 0;
     while t < cs.len() {
@@ -461,11 +467,11 @@ fn rename_corners(cs: &[u32], a: u32, quads: &mut [u32])
 
 // The corners at c become the point a.
 fn rename(np: usize, nq: usize, c: usize, a: usize, quads: &mut [u32], w: &[u32])
-    requires { ⌜ Grounds np nq (now w) ⌝ }
+    requires { ⌜ StartHolds np nq (now w) ⌝ }
     requires { ⌜ c < np ⌝ }
     requires { ⌜ a < np ⌝ }
     requires { ⌜ 4 * nq ≤ length (now quads) ⌝ }
-    ensures { λ _. ⌜ now (quads .exit) ≡ renamedQuads (flatStart np nq (now (w .entry))) nq c a (now (quads .entry)) ⌝ }
+    ensures { λ _. ⌜ now (quads .exit) ≡ renamedQuads (wasIn np nq (now (w .entry))) nq c a (now (quads .entry)) ⌝ }
 {
     let s = corners_of(np, nq, c, w);
     let from = s.from;
@@ -485,11 +491,12 @@ pub fn merge(
     quads: &mut [u32],
     w: &mut [u32],
 )
-    requires { ⌜ Grounds np nq (now w) ⌝ }
-    requires { ⌜ Merging np nq f a c (length (now points)) (length (now quads)) ⌝ }
-    requires { ⌜ Touched np nq (now w) ⌝ }
+    requires { ⌜ StartHolds np nq (now w) ⌝ }
+    requires { ⌜ MergeAsks np nq f a c (length (now points)) (length (now quads)) ⌝ }
+    requires { ⌜ TouchedHolds np nq (now w) ⌝ }
     ensures { λ _. ⌜ now (points .exit) ≡ withPoint (now (points .entry)) a p ⌝ }
-    ensures { λ _. ⌜ Joined np nq f a c (now (quads .entry)) (now (w .entry)) (now (quads .exit)) (now (w .exit)) ⌝ }
+    ensures { λ _. ⌜ MergeLeaves np nq f a c (now (quads .entry)) (now (w .entry))
+        (now (quads .exit)) (now (w .exit)) ⌝ }
 {
     points::put_point(points, a, p);
     rename(np, nq, c, a, quads, w);

@@ -20,11 +20,12 @@ use Rattle.rule_coarsen.specs.Merges.{Slot, out, slot}
 use Rattle.rule_coarsen.specs.Coarse.{MergeState, MergeFits, Position, sumBefore, sumAfter, mayMerge, mergedState, tryFace, visit, freshMerge, mergePass}
 use Rattle.rule_coarsen.proofs.MergePass.{slot-inj}
 use Rattle.rule_coarsen.specs.Invariants.{slotsOf}
-use Rattle.coarsen_merge.specs.Tests.{unmarked}
-use Rattle.coarsen_merge.specs.Layout.{removedIn}
+use Rattle.coarsen_merge.specs.Steps.{unmarked}
+use Rattle.coarsen_merge.specs.Regions.{removedIn}
 use Rattle.rule_coarsen.proofs.Slots.{slot-get, length-slots, slot-at}
 use Rattle.rule_coarsen.specs.MergeFits.{mergeFits, mergePosition}
-use Rattle.coarsen_pass.specs.Pass.{bandPass, Passed}
+use Rattle.coarsen_pass.specs.Steps.{bandPass}
+use Rattle.coarsen_pass.specs.Conditions.{MergePassLeaves}
 
 -- ---- visits count what they take
 
@@ -76,7 +77,7 @@ here-quad true q r e = slot-inj q r e
 here-quad false q r e = cc
 
 -- and in the slices the points and the quads of the sheet
-module _ {b : Band} {np nq r : ℕ} {s : Sheet} {P : List Float} {Q w : List ℕ} (R : Passed b np nq s r P Q w) (e : r ≡ 0) where
+module _ {b : Band} {np nq r : ℕ} {s : Sheet} {P : List Float} {Q w : List ℕ} (R : MergePassLeaves b np nq s r P Q w) (e : r ≡ 0) where
   start-left : bandPass b s ≡ freshMerge s
   start-left = pass-none b s (sym (R .count) ∙ e)
 

@@ -15,11 +15,12 @@ use Rattle.rule_sheet.specs.Sheet.{Sheet, pointsOf}
 use Rattle.sheet.proofs.Flat.{length-quads}
 use Rattle.sheet.proofs.Tests.{length-points}
 use Rattle.rule_coarsen.specs.Coarse.{MergeState, mergePass}
-use Rattle.coarsen_merge.specs.State.{stateOf}
+use Rattle.coarsen_merge.specs.Steps.{stateOf}
 use Rattle.rule_coarsen.specs.MergeFits.{movedTo, fitsAt, mergeFits, mergePosition}
-use Rattle.pass_map.specs.Starts.{Started}
-use Rattle.coarsen_search.specs.Choices.{stateIn, visitsFrom, VisitedAll}
-use Rattle.coarsen_pass.specs.Pass.{sheetIn, bandPass, Passed}
+use Rattle.coarsen_pass.specs.Conditions.{PrepareLeaves, MergePassLeaves}
+use Rattle.coarsen_search.specs.Steps.{stateIn, visitsFrom}
+use Rattle.coarsen_search.specs.Conditions.{VisitAllLeaves}
+use Rattle.coarsen_pass.specs.Steps.{sheetIn, bandPass}
 use Rattle.coarsen_pass.proofs.Start.{start-is, state-is}
 
 -- ---- the parameters of the rule read the quads and labels of the start, and no points
@@ -42,18 +43,18 @@ module _ (b : Band) (S : List Quad) (labels : List ℕ) (p q : List Point) where
 
 -- ---- the pass
 
-module _ (b : Band) {np nq : ℕ} {Q labels w : List ℕ} (P : List Float) (S : Started np nq Q labels w) where
+module _ (b : Band) {np nq : ℕ} {Q labels w : List ℕ} (P : List Float) (S : PrepareLeaves np nq Q labels w) where
   -- the visits from the start on are the rule's pass
   pass-is : visitsFrom b np nq labels w nq 0 (stateIn np nq P Q w 0) ≡ bandPass b (sheetIn np nq P Q labels)
   unfolding bandPass mergePass
   pass-is = rw (state-is S P, start-is S, length-points np P, length-quads nq Q, fits-same b (quadsOf nq Q) (take nq labels) [] (pointsOf np P), position-same b (quadsOf nq Q) (take nq labels) [] (pointsOf np P))
 
   -- what the visits leave is what the rule's pass leaves
-  pub passed-of : {r : ℕ} {P′ : List Float} {Q′ w′ : List ℕ} → VisitedAll b np nq labels r P Q w P′ Q′ w′ → Passed b np nq (sheetIn np nq P Q labels) r P′ Q′ w′
+  pub passed-of : {r : ℕ} {P′ : List Float} {Q′ w′ : List ℕ} → VisitAllLeaves b np nq labels r P Q w P′ Q′ w′ → MergePassLeaves b np nq (sheetIn np nq P Q labels) r P′ Q′ w′
   unfolding stateOf
   passed-of {r} {P′} {Q′} {w′} A =
       let e = A .state 0 ∙ pass-is in
-      record { count = zero-add r ∙ ap (λ (s : MergeState). s .count) e; slots = ap (λ (s : MergeState). s .slots) e; points = ap (λ (s : MergeState). s .points) e; sheet = A .passing .sheet; most = A .most }
+      record { count = zero-add r ∙ ap (λ (s : MergeState). s .count) e; slots = ap (λ (s : MergeState). s .slots) e; points = ap (λ (s : MergeState). s .points) e; sheet = A .holds .sheet; most = A .most }
     where
       zero-add : (n : ℕ) → n ≡ 0 + n
       zero-add n = omega arith

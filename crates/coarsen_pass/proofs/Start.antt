@@ -2,7 +2,7 @@
 use mathlib.Core.Path.{_≡_, sym, ap, _∙_, subst}
 use mathlib.Core.Bool.{true, false, cond, not}
 use Prim.Native.Nat.{ℕ, _*_, _<_}
-use mathlib.Core.List.{List, [], _∷_, map}
+use mathlib.Core.List.{List, map}
 use native.Mathlib.Omega.{arith}
 use native.Mathlib.Decide.{ℕ-discrete}
 use lib.Dec.{eqb}
@@ -26,14 +26,15 @@ use Rattle.rule_passes.specs.Choices.{noneQuad}
 use Rattle.rule_regularize.proofs.Tests.{low-of, differ-of}
 use Rattle.rule_coarsen.specs.Merges.{out, slot}
 use Rattle.rule_coarsen.specs.Coarse.{freshMerge}
-use Rattle.coarsen_merge.specs.State.{isMarked, usedOf, stateOf}
+use Rattle.coarsen_merge.specs.Steps.{isMarked, usedOf, stateOf}
 use Rattle.rule_coarsen.specs.Invariants.{slotAt, slotsOf}
 use Rattle.rule_coarsen.proofs.Slots.{slot-at, inv-fresh}
-use Rattle.coarsen_merge.specs.Layout.{startOf}
+use Rattle.pass_map.specs.Regions.{startIn}
 use Rattle.coarsen_merge.proofs.Around.{Positive, upto-find, quad-get}
-use Rattle.pass_map.specs.Starts.{Startable, Started}
-use Rattle.coarsen_search.specs.Choices.{Passing, stateIn}
-use Rattle.coarsen_pass.specs.Pass.{sheetIn, Mergeable}
+use Rattle.coarsen_pass.specs.Conditions.{PrepareAsks, PrepareLeaves, MergePassAsks}
+use Rattle.coarsen_search.specs.Conditions.{MergePassHolds}
+use Rattle.coarsen_search.specs.Steps.{stateIn}
+use Rattle.coarsen_pass.specs.Steps.{sheetIn}
 
 -- ---- what the corners say
 
@@ -51,16 +52,20 @@ below-of {np} {nq} {Q} C v h = go (ℕ-discrete (from Q (F .i)) v)
 
 -- ---- what a pass asks
 
-module _ {np nq : ℕ} {P : List Float} {Q labels w : List ℕ} (M : Mergeable np nq P Q labels w) where
+module _ {np nq : ℕ} {P : List Float} {Q labels w : List ℕ} (M : MergePassAsks np nq P Q labels w) where
   good-corners : goodCorners np (quadsOf nq Q) (take nq labels) ≡ true
   good-corners = sym (corners-tested np nq Q labels (M .labelled)) ∙ M .good
 
   pub sheet-of : Cornered np nq Q
   sheet-of = cornered np nq Q (take nq labels) good-corners (M .few-quads) (M .quads)
 
-  pub startable : Startable np nq Q labels w
-  startable = record {
-    map = record { sheet = sheet-of; few = M .few; some = M .some; room = M .work };
+  -- a corner is a point
+  some-points : 0 < np
+  some-points = let c = sheet-of .points 0 (omega (arith, M .some)) in omega arith
+
+  pub prepare-asks : PrepareAsks np nq Q labels w
+  prepare-asks = record {
+    map = record { sheet = sheet-of; work = record { some = some-points; few = M .few; long = M .work } };
     holds = record { quads = M .quads; labels≤ = M .labelled };
     good = M .good;
   }
@@ -85,9 +90,9 @@ used-fresh : (np : ℕ) → usedOf np (replicate np 0) ≡ replicate np false
 unfolding usedOf
 used-fresh np = tab-ext (isMarked (replicate np 0)) (always false) np (λ v h. ap (λ (m : ℕ). not (eqb m 0)) (getD-replicate np v 0 0 h)) ∙ tab-same false np
 
-module _ {np nq : ℕ} {Q labels w : List ℕ} (S : Started np nq Q labels w) where
+module _ {np nq : ℕ} {Q labels w : List ℕ} (S : PrepareLeaves np nq Q labels w) where
   -- the quads at the start are those of the slice
-  pub start-is : startOf np nq w ≡ quadsOf nq Q
+  pub start-is : startIn np nq w ≡ quadsOf nq Q
   start-is = ap (quadsOf nq) (S .quads .is) ∙ quads-take nq Q
 
   -- the slices have the rule's state at the start of a pass
@@ -96,9 +101,9 @@ module _ {np nq : ℕ} {Q labels w : List ℕ} (S : Started np nq Q labels w) wh
   state-is P = rw (S .removed, S .used, slots-fresh nq Q, used-fresh np, length-points np P)
 
   -- a sheet that was prepared can be visited
-  pub passing-of : {P : List Float} {v : List ℕ} → Mergeable np nq P Q labels v → Passing np nq labels (length P) Q w
-  passing-of {P} {v} M = record {
-    grounds = S .grounds;
+  pub holds-of : {P : List Float} {v : List ℕ} → MergePassAsks np nq P Q labels v → MergePassHolds np nq labels (length P) Q w
+  holds-of {P} {v} M = record {
+    start = S .start;
     touched = S .touched;
     masked = S .masked;
     labelled = M .labelled;

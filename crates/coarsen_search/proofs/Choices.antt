@@ -6,7 +6,7 @@ use Prim.Native.Nat.{ℕ, zero, suc, _+_, _-_, _≤_, _<_}
 use mathlib.Core.List.{List}
 use native.Mathlib.Omega.{arith}
 use native.Mathlib.Numerals.{add-one}
-use lib.Dec.{leb, ltb}
+use lib.Dec.{leb}
 use lib.Ieee.{Float}
 use lib.ListN.{getD}
 use borrow.Author.Tests.{leb-true, not-false}
@@ -18,31 +18,32 @@ use Rattle.projection.specs.declared.Projected.{Projected}
 use Rattle.projection.specs.declared.Projected.the-variants.{Onto, Refused}
 use Rattle.rule_sheet.specs.Quads.{valence}
 use Rattle.rule_coarsen.specs.Coarse.{sumBefore, sumAfter}
-use Rattle.coarsen_merge.specs.Tests.{masksJoined}
-use Rattle.coarsen_merge.specs.Layout.{startOf, noLabels, gainOf, worthIt, allowedIn}
+use Rattle.coarsen_merge.specs.Steps.{masksJoined, noLabels, gainOf, worthIt, allowedIn}
+use Rattle.pass_map.specs.Regions.{startIn}
 use Rattle.coarsen_search.specs.declared.Diagonal.{Diagonal}
 use Rattle.coarsen_search.specs.declared.Choice.{Choice}
 use Rattle.coarsen_search.specs.declared.Choice.the-variants.{None}
 use Rattle.coarsen_search.specs.declared.Candidate.{Candidate}
 use Rattle.coarsen_search.specs.declared.Ends.{Ends}
-use Rattle.coarsen_search.specs.Choices.{diagonalOf, betterOf, landingOf, stayAround, candidateOf, weighedOf, foundTo, Tried, Searching, InOrder}
+use Rattle.coarsen_search.specs.Steps.{diagonalOf, betterOf, landingOf, stayAround, candidateOf, weighedOf, foundTo}
+use Rattle.coarsen_search.specs.Conditions.{DiagonalAsks, SearchAsks, InOrder}
 
 -- an allowed merge gains
 pub allowed-gains : (np nq f a b c d : ℕ) (w : List ℕ) → allowedIn np nq f a b c d w ≡ true → (gainOf np nq a b c d w) .after ≤ (gainOf np nq a b c d w) .before
 unfolding allowedIn worthIt gainOf
 allowed-gains np nq f a b c d w e =
-    let h = and-left (masksJoined (getD w a 0) (getD w c 0) && leb 4 (valence (startOf np nq w) b) && leb 4 (valence (startOf np nq w) d)
-    && leb (sumAfter np (startOf np nq w) noLabels a b c d) (sumBefore np (startOf np nq w) noLabels a b c d)) _ e in
-    leb-true (sumAfter np (startOf np nq w) noLabels a b c d) (sumBefore np (startOf np nq w) noLabels a b c d)
-    (and-right (masksJoined (getD w a 0) (getD w c 0) && leb 4 (valence (startOf np nq w) b) && leb 4 (valence (startOf np nq w) d)) _ h)
+    let h = and-left (masksJoined (getD w a 0) (getD w c 0) && leb 4 (valence (startIn np nq w) b) && leb 4 (valence (startIn np nq w) d)
+    && leb (sumAfter np (startIn np nq w) noLabels a b c d) (sumBefore np (startIn np nq w) noLabels a b c d)) _ e in
+    leb-true (sumAfter np (startIn np nq w) noLabels a b c d) (sumBefore np (startIn np nq w) noLabels a b c d)
+    (and-right (masksJoined (getD w a 0) (getD w c 0) && leb 4 (valence (startIn np nq w) b) && leb 4 (valence (startIn np nq w) d)) _ h)
 
 -- and the masks join
 pub allowed-joins : (np nq f a b c d : ℕ) (w : List ℕ) → allowedIn np nq f a b c d w ≡ true → masksJoined (getD w a 0) (getD w c 0) ≡ true
 unfolding allowedIn worthIt
 allowed-joins np nq f a b c d w e =
-    let h = and-left (masksJoined (getD w a 0) (getD w c 0) && leb 4 (valence (startOf np nq w) b) && leb 4 (valence (startOf np nq w) d)
-    && leb (sumAfter np (startOf np nq w) noLabels a b c d) (sumBefore np (startOf np nq w) noLabels a b c d)) _ e in
-    and-left _ _ (and-left _ _ (and-left (masksJoined (getD w a 0) (getD w c 0) && leb 4 (valence (startOf np nq w) b) && leb 4 (valence (startOf np nq w) d)) _ h))
+    let h = and-left (masksJoined (getD w a 0) (getD w c 0) && leb 4 (valence (startIn np nq w) b) && leb 4 (valence (startIn np nq w) d)
+    && leb (sumAfter np (startIn np nq w) noLabels a b c d) (sumBefore np (startIn np nq w) noLabels a b c d)) _ e in
+    and-left _ _ (and-left _ _ (and-left (masksJoined (getD w a 0) (getD w c 0) && leb 4 (valence (startIn np nq w) b) && leb 4 (valence (startIn np nq w) d)) _ h))
 
 -- ---- a diagonal whose merge lands
 
@@ -74,18 +75,18 @@ pub second-end : (g : Diagonal) (n : Ends) → InOrder g n → (n .second ≡ g 
 second-end g n (inl i) = inr (i .1)
 second-end g n (inr i) = inl (i .1)
 
-pub end-below : {np nq : ℕ} {g : Diagonal} {w : List ℕ} {v : ℕ} → Tried np nq g w → (v ≡ g .a) ⊎ (v ≡ g .c) → v < np
+pub end-below : {np nq : ℕ} {g : Diagonal} {w : List ℕ} {v : ℕ} → DiagonalAsks np nq g w → (v ≡ g .a) ⊎ (v ≡ g .c) → v < np
 end-below T (inl i) = rw i (T .face .a<)
 end-below T (inr i) = rw i (T .face .c<)
 
 -- ---- the search
 
-pub tried-at : {np nq f : ℕ} {Q w : List ℕ} (k : ℕ) → Searching np nq f Q w → k < 2 → Tried np nq (diagonalOf Q f k) w
+pub tried-at : {np nq f : ℕ} {Q w : List ℕ} (k : ℕ) → SearchAsks np nq f Q w → k < 2 → DiagonalAsks np nq (diagonalOf Q f k) w
 tried-at zero S h = S .first
 tried-at (suc zero) S h = S .second
 tried-at (suc (suc k)) S h = absurd (omega arith)
 
-pub tried-of : {np nq f k : ℕ} {Q w : List ℕ} (g : Diagonal) → Searching np nq f Q w → k < 2 → g ≡ diagonalOf Q f k → Tried np nq g w
+pub tried-of : {np nq f k : ℕ} {Q w : List ℕ} (g : Diagonal) → SearchAsks np nq f Q w → k < 2 → g ≡ diagonalOf Q f k → DiagonalAsks np nq g w
 tried-of {np} {nq} {f} {k} {Q} {w} g S h e = rw e (tried-at k S h)
 
 -- the two cases of a projection

@@ -7,10 +7,16 @@ use points::Point;
 use projection::Projected;
 use rule_coarsen::Merge;
 ghost use mathlib.Core.Path.{_≡_};
-ghost use Prim.Native.Nat.{ℕ, _+_, _*_, _<_, _≤_, max};
+ghost use Prim.Native.Nat.{_+_, _*_, _<_, _≤_, max};
 ghost use lib.ListN.{length};
-ghost use Rattle.coarsen_merge.specs.Layout.{Grounds, Touched, allowedIn, orderAt, endedAt};
-ghost use Rattle.coarsen_search.specs.Choices.{diagonalOf, betterOf, landingOf, stayAround, candidateOf, weighedOf, foundTo, Tried, Searching, Holding, Noted, InOrder, triedIn, Takeable, Taken, Passing, VisitedFace, VisitedAll};
+ghost use Rattle.coarsen_merge.specs.Conditions.{StartHolds, TouchedHolds};
+ghost use Rattle.coarsen_merge.specs.Steps.{allowedIn};
+ghost use Rattle.pass_map.specs.Regions.{pointsAt};
+ghost use Rattle.coarsen_merge.specs.Regions.{endedAt};
+ghost use Rattle.coarsen_search.specs.Steps.{diagonalOf, betterOf, landingOf, stayAround, candidateOf, weighedOf};
+ghost use Rattle.coarsen_search.specs.Steps.{foundTo, triedIn};
+ghost use Rattle.coarsen_search.specs.Conditions.{DiagonalAsks, SearchAsks, Holding, Noted, InOrder, TakeAsks};
+ghost use Rattle.coarsen_search.specs.Conditions.{TakeLeaves, MergePassHolds, VisitLeaves, VisitAllLeaves};
 ghost use Rattle.lists.specs.Regions.{Out, Kept};
 ghost use Rattle.rule_coarsen.specs.MergeFits.{mergeAt};
 ghost use mathlib.Core.Bool.{true};
@@ -106,10 +112,10 @@ fn landing(
     points: &[f64],
     w: &[u32],
 ) -> Projected
-    requires { ⌜ Grounds np nq (now w) ⌝ }
-    requires { ⌜ Tried np nq g (now w) ⌝ }
+    requires { ⌜ StartHolds np nq (now w) ⌝ }
+    requires { ⌜ DiagonalAsks np nq g (now w) ⌝ }
     requires { ⌜ 3 * np ≤ length (now points) ⌝ }
-    requires { ⌜ Touched np nq (now w) ⌝ }
+    requires { ⌜ TouchedHolds np nq (now w) ⌝ }
     ensures { λ r. ⌜ r ≡ landingOf np nq g b len (now (points .entry)) (now (w .entry)) ⌝ }
 {
     if coarsen_merge::allowed(np, nq, g.face, g.a, g.b, g.c, g.d, w) {
@@ -146,7 +152,8 @@ fn merge_of(g: Diagonal, p: Point) -> Merge
     }
 }
 
-// Whether the other quads at the point v stay, if the merge of a diagonal lands at p; the walk begins where the last one round v ended.
+// Whether the other quads at the point v stay, if the merge of a diagonal lands at p; the walk begins where the last
+// one round v ended.
 fn stay_around(
     np: usize,
     nq: usize,
@@ -159,12 +166,13 @@ fn stay_around(
     w: &[u32],
     v: usize,
 ) -> Stay
-    requires { ⌜ Grounds np nq (now w) ⌝ }
+    requires { ⌜ StartHolds np nq (now w) ⌝ }
     requires { ⌜ 3 * np ≤ length (now points) ⌝ }
     requires { ⌜ nq ≤ length (now labels) ⌝ }
     requires { ⌜ v < np ⌝ }
-    ensures { λ r. ⌜ r .stays ≡ stayAround np nq g f len p (now (points .entry)) (now (labels .entry)) (now (w .entry)) v ⌝ }
-    ensures { λ r. ⌜ r .at ≤ orderAt np nq + 4 * nq ⌝ }
+    ensures { λ r. ⌜ r .stays ≡ stayAround np nq g f len p (now (points .entry))
+        (now (labels .entry)) (now (w .entry)) v ⌝ }
+    ensures { λ r. ⌜ r .at ≤ pointsAt np nq + 4 * nq ⌝ }
 {
     let n = np + nq;
     let m = merge_of(g, p);
@@ -176,9 +184,9 @@ fn stay_around(
         len,
         points,
         labels,
-        coarsen_merge::WAS * n,
-        coarsen_merge::STARTS * n,
-        coarsen_merge::ORDER * n,
+        pass_map::WAS * n,
+        pass_map::POINT_STARTS * n,
+        pass_map::POINTS * n,
         v,
         m,
         place,
@@ -188,11 +196,11 @@ fn stay_around(
 
 // The ends of a diagonal, the one with fewer quads first.
 fn ends_of(np: usize, nq: usize, g: Diagonal, w: &[u32]) -> Ends
-    requires { ⌜ Grounds np nq (now w) ⌝ }
-    requires { ⌜ Tried np nq g (now w) ⌝ }
+    requires { ⌜ StartHolds np nq (now w) ⌝ }
+    requires { ⌜ DiagonalAsks np nq g (now w) ⌝ }
     ensures { λ r. ⌜ InOrder g r ⌝ }
 {
-    let valences = coarsen_merge::VALENCES * (np + nq);
+    let valences = pass_map::VALENCES * (np + nq);
     let a = lists::at(w, valences + g.a);
     let c = lists::at(w, valences + g.c);
     if c < a {
@@ -209,8 +217,8 @@ fn ends_of(np: usize, nq: usize, g: Diagonal, w: &[u32]) -> Ends
 
 // The candidate of a diagonal whose merge lands at p.
 fn candidate_of(np: usize, nq: usize, g: Diagonal, p: Point, w: &[u32]) -> Candidate
-    requires { ⌜ Grounds np nq (now w) ⌝ }
-    requires { ⌜ Tried np nq g (now w) ⌝ }
+    requires { ⌜ StartHolds np nq (now w) ⌝ }
+    requires { ⌜ DiagonalAsks np nq g (now w) ⌝ }
     requires { ⌜ allowedIn np nq (g .face) (g .a) (g .b) (g .c) (g .d) (now w) ≡ true ⌝ }
     ensures { λ r. ⌜ r ≡ candidateOf np nq g p (now (w .entry)) ⌝ }
 {
@@ -236,12 +244,13 @@ fn weighed(
     w: &[u32],
     best: Choice,
 ) -> Weighing
-    requires { ⌜ Grounds np nq (now w) ⌝ }
-    requires { ⌜ Tried np nq g (now w) ⌝ }
+    requires { ⌜ StartHolds np nq (now w) ⌝ }
+    requires { ⌜ DiagonalAsks np nq g (now w) ⌝ }
     requires { ⌜ 3 * np ≤ length (now points) ⌝ }
     requires { ⌜ nq ≤ length (now labels) ⌝ }
     requires { ⌜ allowedIn np nq (g .face) (g .a) (g .b) (g .c) (g .d) (now w) ≡ true ⌝ }
-    ensures { λ r. ⌜ r .best ≡ weighedOf np nq g f len p (now (points .entry)) (now (labels .entry)) (now (w .entry)) best ⌝ }
+    ensures { λ r. ⌜ r .best ≡ weighedOf np nq g f len p (now (points .entry))
+        (now (labels .entry)) (now (w .entry)) best ⌝ }
     ensures { λ r. ⌜ Noted np nq (r .ended) ⌝ }
 {
     let ends = ends_of(np, nq, g, w);
@@ -265,7 +274,7 @@ fn weighed(
 }
 
 // The merge that the rule takes in quad f.
-pub fn search(
+fn search(
     np: usize,
     nq: usize,
     f: usize,
@@ -276,11 +285,12 @@ pub fn search(
     labels: &[u8],
     w: &[u32],
 ) -> Found
-    requires { ⌜ Grounds np nq (now w) ⌝ }
-    requires { ⌜ Searching np nq f (now quads) (now w) ⌝ }
+    requires { ⌜ StartHolds np nq (now w) ⌝ }
+    requires { ⌜ SearchAsks np nq f (now quads) (now w) ⌝ }
     requires { ⌜ Holding np nq (length (now points)) (length (now quads)) (length (now labels)) ⌝ }
-    requires { ⌜ Touched np nq (now w) ⌝ }
-    ensures { λ r. ⌜ r .choice ≡ foundTo np nq b len (now (points .entry)) (now (quads .entry)) (now (labels .entry)) (now (w .entry)) f 2 ⌝ }
+    requires { ⌜ TouchedHolds np nq (now w) ⌝ }
+    ensures { λ r. ⌜ r .choice ≡ foundTo np nq b len (now (points .entry)) (now (quads .entry))
+        (now (labels .entry)) (now (w .entry)) f 2 ⌝ }
     ensures { λ r. ⌜ Noted np nq (r .first) ⌝ }
     ensures { λ r. ⌜ Noted np nq (r .second) ⌝ }
 {
@@ -312,7 +322,7 @@ pub fn search(
 
 // Quad f is still here, and none of its corners is barred.
 fn is_tried(np: usize, nq: usize, f: usize, quads: &[u32], w: &[u32]) -> bool
-    requires { ⌜ Grounds np nq (now w) ⌝ }
+    requires { ⌜ StartHolds np nq (now w) ⌝ }
     requires { ⌜ Cornered np nq (now quads) ⌝ }
     requires { ⌜ f < nq ⌝ }
     ensures { λ r. ⌜ r ≡ triedIn np nq f (now (quads .entry)) (now (w .entry)) ⌝ }
@@ -333,10 +343,11 @@ fn take(
     quads: &mut [u32],
     w: &mut [u32],
 ) -> usize
-    requires { ⌜ Grounds np nq (now w) ⌝ }
-    requires { ⌜ Takeable np nq f choice (length (now points)) (length (now quads)) ⌝ }
-    requires { ⌜ Touched np nq (now w) ⌝ }
-    ensures { λ r. ⌜ Taken np nq f choice r (now (points .entry)) (now (quads .entry)) (now (w .entry)) (now (points .exit)) (now (quads .exit)) (now (w .exit)) ⌝ }
+    requires { ⌜ StartHolds np nq (now w) ⌝ }
+    requires { ⌜ TakeAsks np nq f choice (length (now points)) (length (now quads)) ⌝ }
+    requires { ⌜ TouchedHolds np nq (now w) ⌝ }
+    ensures { λ r. ⌜ TakeLeaves np nq f choice r (now (points .entry)) (now (quads .entry)) (now (w .entry))
+        (now (points .exit)) (now (quads .exit)) (now (w .exit)) ⌝ }
 {
     match choice {
         Choice::None => 0,
@@ -349,7 +360,7 @@ fn take(
 
 // Keeps where a walk ended for the next one round the same point.
 fn remember(np: usize, nq: usize, e: Ended, w: &mut [u32])
-    requires { ⌜ Grounds np nq (now w) ⌝ }
+    requires { ⌜ StartHolds np nq (now w) ⌝ }
     requires { ⌜ Noted np nq e ⌝ }
     ensures { λ _. ⌜ Kept (Out (endedAt np nq) (np + 1)) (now (w .entry)) (now (w .exit)) ⌝ }
 {
@@ -357,7 +368,7 @@ fn remember(np: usize, nq: usize, e: Ended, w: &mut [u32])
 }
 
 // Visits quad f: makes the merge that the rule takes there, if any; answers how many merges that is.
-pub fn visit(
+fn visit(
     np: usize,
     nq: usize,
     f: usize,
@@ -368,10 +379,11 @@ pub fn visit(
     labels: &[u8],
     w: &mut [u32],
 ) -> usize
-    requires { ⌜ Passing np nq (now labels) (length (now points)) (now quads) (now w) ⌝ }
+    requires { ⌜ MergePassHolds np nq (now labels) (length (now points)) (now quads) (now w) ⌝ }
     requires { ⌜ f < nq ⌝ }
     requires { ⌜ len ≡ lengthOf b ⌝ }
-    ensures { λ r. ⌜ VisitedFace b np nq (now (labels .entry)) f r (now (points .entry)) (now (quads .entry)) (now (w .entry)) (now (points .exit)) (now (quads .exit)) (now (w .exit)) ⌝ }
+    ensures { λ r. ⌜ VisitLeaves b np nq (now (labels .entry)) f r (now (points .entry)) (now (quads .entry))
+        (now (w .entry)) (now (points .exit)) (now (quads .exit)) (now (w .exit)) ⌝ }
 {
     if is_tried(np, nq, f, quads, w) {
         let found = search(np, nq, f, b, len, points, quads, labels, w);
@@ -395,9 +407,10 @@ pub fn visit_all(
     labels: &[u8],
     w: &mut [u32],
 ) -> usize
-    requires { ⌜ Passing np nq (now labels) (length (now points)) (now quads) (now w) ⌝ }
+    requires { ⌜ MergePassHolds np nq (now labels) (length (now points)) (now quads) (now w) ⌝ }
     requires { ⌜ len ≡ lengthOf b ⌝ }
-    ensures { λ r. ⌜ VisitedAll b np nq (now (labels .entry)) r (now (points .entry)) (now (quads .entry)) (now (w .entry)) (now (points .exit)) (now (quads .exit)) (now (w .exit)) ⌝ }
+    ensures { λ r. ⌜ VisitAllLeaves b np nq (now (labels .entry)) r (now (points .entry)) (now (quads .entry))
+        (now (w .entry)) (now (points .exit)) (now (quads .exit)) (now (w .exit)) ⌝ }
 {
     let mut count = 0;
     let mut f = 0;

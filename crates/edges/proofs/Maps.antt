@@ -24,7 +24,8 @@ use Rattle.sheet.proofs.Edges.{edge-flat, edge-corners}
 use Rattle.incidence.specs.declared.Key.the-variants.{Smaller, Larger}
 use Rattle.incidence.specs.Corners.{keyOf, Cornered, edgeOrder, cornersAt, firstAt}
 use Rattle.incidence.proofs.Corners.{ByLarger, ordered, tab-front}
-use Rattle.edges.specs.Maps.{firstEdge, Mapped, Standing, Ascending, Narrowed}
+use Rattle.edges.specs.Steps.{firstEdge}
+use Rattle.edges.specs.Conditions.{EdgeMapHolds, PointMapHolds, Ascending, Narrowed}
 
 -- ---- the copy
 
@@ -101,7 +102,7 @@ module _ (nq : ℕ) (Q : List ℕ) where
 
 -- the map stands where the copied quads, the order and the starts stand
 pub mapped : {np nq was starts order : ℕ} {Q w : List ℕ} → Cornered np nq Q → Part was (4 * nq) (take (4 * nq) Q) w → Part order (4 * nq) (edgeOrder np nq Q) w
-    → Part starts (np + 1) (tabulate (firstEdge np nq Q) (np + 1)) w → Mapped np nq was starts order w
+    → Part starts (np + 1) (tabulate (firstEdge np nq Q) (np + 1)) w → EdgeMapHolds np nq was starts order w
 mapped {np} {nq} {was} {starts} {order} {Q} {w} C W O S = record {
   sheet = rw (W .is) (take-cornered nq Q C);
   in-was = W .fits;
@@ -110,7 +111,7 @@ mapped {np} {nq} {was} {starts} {order} {Q} {w} C W O S = record {
 }
 
 pub standing : {np nq was starts order : ℕ} {Q w : List ℕ} → Cornered np nq Q → Part was (4 * nq) (take (4 * nq) Q) w → Part order (4 * nq) (cornersAt np nq Q) w
-    → Part starts (np + 1) (tabulate (firstAt nq Q) (np + 1)) w → Standing np nq was starts order w
+    → Part starts (np + 1) (tabulate (firstAt nq Q) (np + 1)) w → PointMapHolds np nq was starts order w
 standing {np} {nq} {was} {starts} {order} {Q} {w} C W O S = record {
   sheet = rw (W .is) (take-cornered nq Q C);
   in-was = W .fits;
@@ -124,7 +125,7 @@ Within at n P = (i : ℕ) → at ≤ i → i < at + n → P i
 
 -- they survive whatever keeps their regions
 module _ {np nq was starts order : ℕ} {v w : List ℕ} {P : ℕ → Type 0} where
-  pub mapped-kept : Mapped np nq was starts order v → Kept P v w → Within was (4 * nq) P → Within starts (np + 1) P → Within order (4 * nq) P → Mapped np nq was starts order w
+  pub mapped-kept : EdgeMapHolds np nq was starts order v → Kept P v w → Within was (4 * nq) P → Within starts (np + 1) P → Within order (4 * nq) P → EdgeMapHolds np nq was starts order w
   mapped-kept M K a b c =
       let W = part-kept (part-of was (4 * nq) v (M .in-was)) K a in
       record {
@@ -134,8 +135,8 @@ module _ {np nq was starts order : ℕ} {v w : List ℕ} {P : ℕ → Type 0} wh
         begin = rw (W .is) (part-kept (M .begin) K b);
       }
 
-  pub standing-kept : Standing np nq was starts order v → Kept P v w → Within was (4 * nq) P → Within starts (np + 1) P → Within order (4 * nq) P
-      → Standing np nq was starts order w
+  pub standing-kept : PointMapHolds np nq was starts order v → Kept P v w → Within was (4 * nq) P → Within starts (np + 1) P → Within order (4 * nq) P
+      → PointMapHolds np nq was starts order w
   standing-kept M K a b c =
       let W = part-kept (part-of was (4 * nq) v (M .in-was)) K a in
       record {
@@ -282,7 +283,7 @@ run-at key xs {np} {n} {starts} {order} {s} {e} {w} a O B h fs fe =
     record { s≤ = omega arith; e≤ = omega (arith, P .fits); is = rw (es, ee) (rw g (P .is)) }
 
 -- the corners at the point v
-pub point-run : {np nq was starts order s e : ℕ} {w : List ℕ} (v : ℕ) → Standing np nq was starts order w → v < np
+pub point-run : {np nq was starts order s e : ℕ} {w : List ℕ} (v : ℕ) → PointMapHolds np nq was starts order w → v < np
     → s ≡ getD w (starts + v) 0 → e ≡ getD w (starts + v + 1) 0 → RunAt order s e (pointCorners (part was (4 * nq) w) nq v) w
 unfolding firstAt cornersAt
 point-run {np} {nq} {was} {starts} {order} {s} {e} {w} v M h fs fe = run-at (from (part was (4 * nq) w)) (allCorners nq) v (M .at) (M .begin) h fs fe
@@ -319,7 +320,7 @@ pub record Rising (np nq was order a s e : ℕ) (w : List ℕ) : Type 0 where
   pub is : (b : ℕ) → a ≤ b → b < np
       → ltb 0 (countOf (larger (part was (was + 4 * nq - was) w)) (part (order + s) (order + e - (order + s)) w) b) ≡ isEdge (quadsOf nq (part was (4 * nq) w)) a b
 
-pub rising : {np nq was starts order s e : ℕ} {w : List ℕ} (a : ℕ) → Mapped np nq was starts order w → a < np
+pub rising : {np nq was starts order s e : ℕ} {w : List ℕ} (a : ℕ) → EdgeMapHolds np nq was starts order w → a < np
     → s ≡ getD w (starts + a) 0 → e ≡ getD w (starts + a + 1) 0 → Rising np nq was order a s e w
 unfolding firstEdge edgeOrder
 rising {np} {nq} {was} {starts} {order} {s} {e} {w} a M h fs fe =

@@ -25,8 +25,8 @@ fn put_counts(answer: &mut [u64], q: Quality, tight: bool, valid: bool)
     answer[5] = q.bad_vertex_links as u64;
     answer[6] = q.duplicate_faces as u64;
     answer[7] = q.invalid_cells as u64;
-    answer[8] = quality_counts::one_if(tight) as u64;
-    answer[9] = quality_counts::one_if(valid) as u64;
+    answer[8] = sheet::one_if(tight) as u64;
+    answer[9] = sheet::one_if(valid) as u64;
 }
 
 // Writes the measures of a record.

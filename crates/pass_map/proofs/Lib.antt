@@ -1,2 +1,2 @@
--- `Starts` has the regions that a pass starts with.
-pub mod Starts
+-- `Maps` has the laws of `specs/Conditions.antt`: how the map is made, and what keeps it.
+pub mod Maps

@@ -22,7 +22,7 @@ use Rattle.rule_sheet.specs.Flat.{quadAt}
 use Rattle.sheet.specs.Edges.{allCorners, pointCorners}
 use Rattle.incidence.specs.Marks.{hits}
 use Rattle.incidence.proofs.Marks.{hits-uses}
-use Rattle.edges.specs.Maps.{Standing}
+use Rattle.edges.specs.Conditions.{PointMapHolds}
 use Rattle.edges.proofs.Maps.{RunAt}
 use Rattle.rule_coarsen.specs.Coarse.{hasCorner}
 use Rattle.rule_coarsen.specs.declared.Merge.{Merge}
@@ -125,7 +125,7 @@ pub run-part : {order s e : ℕ} {l w : List ℕ} → RunAt order s e l w → Pa
 run-part R = record { fits = omega (arith, R .s≤, R .e≤); is = R .is }
 
 -- what the walk is lent: the quads, and corners of them
-pub quads-lent : {np nq was starts order : ℕ} {w : List ℕ} (P : List Float) → Standing np nq was starts order w → 3 * np ≤ length P → Positioned np nq P (part was (was + 4 * nq - was) w)
+pub quads-lent : {np nq was starts order : ℕ} {w : List ℕ} (P : List Float) → PointMapHolds np nq was starts order w → 3 * np ≤ length P → Positioned np nq P (part was (was + 4 * nq - was) w)
 quads-lent {np} {nq} {was} P S h = let g : was + 4 * nq - was ≡ 4 * nq = omega arith in record { cornered = rw g (S .sheet); points = h }
 
 pub corners-in : {s n : ℕ} {w : List ℕ} (Q : List ℕ) (nq v a b : ℕ) → Part s n (pointCorners Q nq v) w → s ≤ a → a ≤ b → b ≤ s + n → CornersIn nq a b w

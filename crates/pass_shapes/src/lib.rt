@@ -17,7 +17,7 @@ ghost use Rattle.lists.specs.Every.{every};
 ghost use Rattle.lists.specs.Regions.{part};
 ghost use Rattle.rule_sheet.specs.Flat.{quadAt};
 ghost use Rattle.incidence.specs.Corners.{Cornered, Positioned};
-ghost use Rattle.edges.specs.Maps.{Standing};
+ghost use Rattle.edges.specs.Conditions.{PointMapHolds};
 ghost use Rattle.rule_passes.specs.Shapes.{quadShape, noWorse};
 ghost use Rattle.rule_sheet.specs.Places.{centreOf};
 ghost use Rattle.pass_shapes.specs.Shaped.{quadIs, fourAt, FourBelow};
@@ -370,7 +370,7 @@ pub fn quads_stay(
     place: usize,
     w: &[u32],
 ) -> Stay
-    requires { ⌜ Standing np nq was starts order (now w) ⌝ }
+    requires { ⌜ PointMapHolds np nq was starts order (now w) ⌝ }
     requires { ⌜ 3 * np ≤ length (now points) ⌝ }
     requires { ⌜ nq ≤ length (now labels) ⌝ }
     requires { ⌜ v < np ⌝ }

@@ -19,8 +19,9 @@ use Rattle.sheet.specs.Sheet.{LentSheet}
 use Rattle.sheet.proofs.Flat.{length-quads}
 use Rattle.sheet.proofs.Tests.{lent-is, length-points}
 use Rattle.incidence.specs.Corners.{firstAt, cornersAt}
-use Rattle.quality_counts.specs.declared.EdgeCounts.{EdgeCounts}
-use Rattle.quality_counts.specs.Census.{edgeCounts, tightBy}
+use Rattle.edges.specs.declared.EdgeCounts.{EdgeCounts}
+use Rattle.edges.specs.Steps.{edgeCounts}
+use Rattle.quality_counts.specs.Steps.{tightBy}
 use Rattle.rule_quality.specs.Census.{duplicateFaces, tight}
 use Rattle.quality_counts.proofs.Tight.{tight-counts}
 use Rattle.quality_links.specs.Links.{LinkRoom}

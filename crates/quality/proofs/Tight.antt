@@ -17,7 +17,8 @@ use Rattle.rule_sheet.specs.Flat.{quadsOf}
 use Rattle.rule_sheet.specs.Sheet.{sheetOf, lentVerdict, sheetVerdict}
 use Rattle.sheet.proofs.Tests.{length-points}
 use Rattle.rule_quality.specs.Census.{badLinks, tight}
-use Rattle.quality_counts.specs.Census.{edgeCounts, tightBy}
+use Rattle.edges.specs.Steps.{edgeCounts}
+use Rattle.quality_counts.specs.Steps.{tightBy}
 use Rattle.quality_counts.proofs.Tight.{tight-counts, tight-closed}
 use Rattle.quality_counts.proofs.Links.{tight-rings}
 use Rattle.rule_quality.specs.declared.Measures.{Measures}

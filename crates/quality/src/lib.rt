@@ -1,7 +1,7 @@
 // `quality`: the counts and measures of a sheet, and whether it is tight.
 
 use band::Band;
-use quality_counts::EdgeCounts;
+use edges::EdgeCounts;
 use rule_quality::Measured;
 use rule_quality::Measures;
 use rule_quality::report::Assessed;
@@ -13,7 +13,7 @@ ghost use lib.ListN.{length, replicate};
 ghost use Rattle.numeric.specs.Num.{zeroF};
 ghost use Rattle.rule_sheet.specs.Flat.{quadsOf};
 ghost use Rattle.rule_sheet.specs.Sheet.{sheetOf};
-ghost use Rattle.quality_counts.specs.Census.{edgeCounts};
+ghost use Rattle.edges.specs.Steps.{edgeCounts};
 ghost use Rattle.rule_quality.specs.Census.{duplicateFaces, tight};
 ghost use Rattle.rule_quality.specs.Measure.{measureRule};
 ghost use Rattle.rule_quality.specs.declared.report.Assessed.the-variants.{Done};
@@ -57,7 +57,7 @@ fn count_edges(np: usize, nq: usize, quads: &[u32], work: &mut [u32]) -> EdgeCou
     let order = 4 * n;
     let pos = 8 * n;
     incidence::edge_order(np, nq, quads, 0, pos, order, work);
-    quality_counts::edge_counts(np, nq, quads, order, work)
+    edges::edge_counts(np, nq, quads, order, work)
 }
 
 // The quads whose corners an earlier quad has, by the order of the quads by their corners.

@@ -11,8 +11,8 @@ use borrow.Author.Tests.{eqb-true, eq-eqb, ne-eqb}
 use Rattle.lists.proofs.Laws.{eq-or-ne, lt-or-le}
 use Rattle.rule_sheet.specs.Quads.{Quad, quad, num, is, sum, side}
 use Rattle.rule_sheet.specs.Closed.{ind, arc, atPoint}
-use Rattle.quality_counts.proofs.Corners.{pos-split, is-positive}
-use Rattle.quality_counts.proofs.Counting.{num-le}
+use Rattle.edges.proofs.Corners.{pos-split, is-positive}
+use Rattle.edges.proofs.Counting.{num-le}
 
 -- ---- one pair
 

@@ -15,9 +15,9 @@ use Rattle.rule_sheet.specs.Quads.{Quad, is, sum, all, at, valence, side}
 use Rattle.rule_sheet.specs.Closed.{ind, arc, cyc, Ring, atPoint, Closed, Rings}
 use Rattle.rule_sheet.specs.Tests.{proper}
 use Rattle.rule_quality.specs.Census.{degree, joined, reached, reaches, connected, noneOrTwo, goodLink, badLinks, tight}
-use Rattle.quality_counts.proofs.Corners.{weighty, at-positive, is-same, is-other, is-positive, pos-split}
+use Rattle.edges.proofs.Corners.{weighty, at-positive, is-same, is-other, is-positive, pos-split}
 use Rattle.quality_counts.proofs.Tight.{tight-closed, closed-tight}
-use Rattle.quality_counts.proofs.Sides.{length-sum}
+use Rattle.edges.proofs.Sides.{length-sum}
 use Rattle.quality_counts.proofs.Arcs.{ind-positive, ind-same, ind-first, ind-second, arc-more, arc-from, arc-to, arc-le, arc-plus, Ends, pairSum, cornersOf, corners-sum, pair-le, pair-plus, Taken, take-from, side-end}
 
 -- ---- from a good link to a ring: pairs that are balanced at each point, walked from one of them

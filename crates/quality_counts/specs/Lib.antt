@@ -1,2 +1,2 @@
-pub mod Census
-pub mod Places
+pub mod Steps
+pub mod Conditions

@@ -22,8 +22,8 @@ use Rattle.rule_sheet.specs.Tests.{proper}
 use Rattle.rule_sheet.proofs.Sums.{upto, sum-tab}
 use Rattle.sheet.proofs.Flat.{total-flat}
 use Rattle.rule_quality.specs.Census.{degree, noneOrTwo}
-use Rattle.quality_counts.proofs.Corners.{is-same, is-positive, pos-split}
-use Rattle.quality_counts.proofs.Sides.{bucket-sum}
+use Rattle.edges.proofs.Corners.{is-same, is-positive, pos-split}
+use Rattle.edges.proofs.Sides.{bucket-sum}
 use Rattle.quality_links.specs.Links.{joinsTo, twoAt}
 use Rattle.quality_links.proofs.Rounds.{touch, twos}
 

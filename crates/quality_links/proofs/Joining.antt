@@ -16,8 +16,8 @@ use Rattle.lists.proofs.Regions.{part-get, part-kept, kept-refl, kept-set, kept
 use Rattle.rule_sheet.specs.Quads.{is}
 use Rattle.sheet.specs.Flat.{before, to}
 use Rattle.incidence.specs.Corners.{Known}
-use Rattle.quality_counts.proofs.Corners.{is-same, is-other}
-use Rattle.quality_counts.proofs.Counting.{num-le}
+use Rattle.edges.proofs.Corners.{is-same, is-other}
+use Rattle.edges.proofs.Counting.{num-le}
 use Rattle.quality_links.proofs.Rounds.{is-none}
 use Rattle.quality_links.specs.Links.{otherEnd, joinsTo, degreeTo, othersTo, otherSum, registered, Registering, Joining, Joins, Unjoined}
 

@@ -23,7 +23,7 @@ use Rattle.incidence.specs.Corners.{cornersAt, firstAt}
 use Rattle.incidence.proofs.Corners.{valence-turn}
 use Rattle.incidence.proofs.Marks.{corners-part}
 use Rattle.rule_quality.specs.Census.{connected, noneOrTwo, goodLink, badLinks}
-use Rattle.quality_counts.proofs.Counting.{Counted, counted-start, counted-turn, counted-end}
+use Rattle.edges.proofs.Counting.{Counted, counted-start, counted-turn, counted-end}
 use Rattle.quality_counts.proofs.Arcs.{ind-same}
 use Rattle.quality_links.specs.Links.{otherEnd, joinsTo, degreeTo, othersTo, Joining, Joins, Unjoined, twoAt, Twos, Walkable, OneLink, oneRound, LinkRoom}
 use Rattle.quality_links.proofs.Rounds.{touch, twos, joined-below}

@@ -16,8 +16,8 @@ use Rattle.rule_sheet.specs.Flat.{quadsOf}
 use Rattle.rule_sheet.specs.Closed.{ind, arc, atPoint}
 use Rattle.rule_sheet.specs.Tests.{proper}
 use Rattle.rule_quality.specs.Census.{degree, joined, reached, reaches, connected, noneOrTwo}
-use Rattle.quality_counts.proofs.Corners.{weighty, at-positive, is-same, is-other, is-positive, pos-split}
-use Rattle.quality_counts.proofs.Sides.{length-sum}
+use Rattle.edges.proofs.Corners.{weighty, at-positive, is-same, is-other, is-positive, pos-split}
+use Rattle.edges.proofs.Sides.{length-sum}
 use Rattle.quality_counts.proofs.Arcs.{ind-positive, ind-first, ind-second, arc-more, arc-from, arc-to, arc-le, arc-plus, Ends, pairSum, cornersOf, corners-sum, pair-le}
 use Rattle.quality_counts.proofs.Links.{reached-more, along}
 use Rattle.quality_links.specs.Links.{otherEnd, Twos, Walkable}

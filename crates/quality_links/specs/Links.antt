@@ -44,7 +44,8 @@ otherSum d s y = cond (eqb d 0) y (cond (eqb d 1) (s + y) s)
 
 -- the slice with one more join of x, to y
 abbrev pub registered : ℕ → ℕ → ℕ → ℕ → List ℕ → List ℕ
-registered deg acc x y w = set (set w (acc + x) (otherSum (getD w (deg + x) 0) (getD w (acc + x) 0) y)) (deg + x) (getD w (deg + x) 0 + 1)
+registered deg acc x y w =
+    set (set w (acc + x) (otherSum (getD w (deg + x) 0) (getD w (acc + x) 0) y)) (deg + x) (getD w (deg + x) 0 + 1)
 
 -- what one more join of x to y asks
 pub record Registering (deg acc x y : ℕ) (w : List ℕ) : Type 0 where
@@ -114,7 +115,8 @@ pub record OneLink (np nq : ℕ) (Q : List ℕ) (v from m deg acc : ℕ) (w : Li
 abbrev pub oneRound : ℕ → List Quad → ℕ → Bool
 oneRound n S v = connected n S v && every (noneOrTwo S v) n
 
--- w has the corners of good quads by point at `order`, where they begin at `starts`, and room for np counts at `deg` and np sums at `acc`
+-- w has the corners of good quads by point at `order`, where they begin at `starts`, and room for np counts at `deg`
+-- and np sums at `acc`
 pub record LinkRoom (np nq : ℕ) (Q : List ℕ) (starts order deg acc : ℕ) (w : List ℕ) : Type 0 where
   pub sheet : Cornered np nq Q
   pub good : all (proper np) (quadsOf nq Q) ≡ true

@@ -1,4 +1,5 @@
-// The links of the points: the graph of a point's neighbours, in which each corner at the point joins the point before it to the point after it.
+// The links of the points: the graph of a point's neighbours, in which each corner at the point joins the point before
+// it to the point after it.
 
 ghost use mathlib.Core.Path.{_≡_};
 ghost use Prim.Native.Nat.{ℕ, _+_, _<_};
@@ -11,7 +12,9 @@ ghost use Rattle.sheet.specs.Flat.{before, to};
 ghost use Rattle.rule_sheet.specs.Flat.{quadsOf};
 ghost use Rattle.incidence.specs.Corners.{Known};
 ghost use Rattle.rule_quality.specs.Census.{connected, goodLink, badLinks};
-ghost use Rattle.quality_links.specs.Links.{degreeTo, othersTo, otherSum, registered, Registering, Joining, Joins, Unjoined, bothTwo, twoAt, Walkable, OneLink, oneRound, LinkRoom};
+ghost use Rattle.quality_links.specs.Links.{degreeTo, othersTo, otherSum, registered, Registering, Joining};
+ghost use Rattle.quality_links.specs.Links.{Joins, Unjoined, bothTwo, twoAt, Walkable, OneLink};
+ghost use Rattle.quality_links.specs.Links.{oneRound, LinkRoom};
 
 // The sum of the first two joins of a point that has d joins of the sum s, with a join to y.
 fn other_sum(d: u32, s: u32, y: u32) -> u32
@@ -51,14 +54,15 @@ fn register(deg: usize, acc: usize, x: usize, y: usize, w: &mut [u32])
 fn join_all(np: usize, quads: &[u32], from: usize, m: usize, deg: usize, acc: usize, w: &mut [u32])
     requires { ⌜ Joining np (now quads) (part from m (now w)) from m deg acc (now w) ⌝ }
     requires { ⌜ (Unjoined np deg (now w)) ⌝ }
-    ensures { λ _. ⌜ Joins np (degreeTo (now (quads .entry)) (part from m (now (w .entry))) m) (othersTo (now (quads .entry)) (part from m (now (w .entry))) m) deg acc (now (w .exit)) ⌝ }
+    ensures { λ _. ⌜ Joins np (degreeTo (now (quads .entry)) (part from m (now (w .entry))) m)
+        (othersTo (now (quads .entry)) (part from m (now (w .entry))) m) deg acc (now (w .exit)) ⌝ }
     ensures { λ _. ⌜ Kept (Out2 deg np acc np) (now (w .entry)) (now (w .exit)) ⌝ }
 {
     let mut j = 0;
     while j < m {
         let c = lists::at(w, from + j);
         let p = point_before(quads, c);
-        let n = quality_counts::point_after(quads, c);
+        let n = edges::point_after(quads, c);
         register(deg, acc, p, n, w);
         register(deg, acc, n, p, w);
         j += 1;
@@ -73,7 +77,7 @@ fn both_two(quads: &[u32], c: usize, deg: usize, w: &[u32]) -> bool
     ensures { λ r. ⌜ r ≡ bothTwo (now (quads .entry)) deg (now (w .entry)) c ⌝ }
 {
     let a = lists::at(w, deg + point_before(quads, c));
-    let b = lists::at(w, deg + quality_counts::point_after(quads, c));
+    let b = lists::at(w, deg + edges::point_after(quads, c));
     (a == 2) & (b == 2)
 }
 
@@ -120,7 +124,7 @@ fn clear_joins(
     while j < m {
         let c = lists::at(w, from + j);
         let p = point_before(quads, c);
-        let n = quality_counts::point_after(quads, c);
+        let n = edges::point_after(quads, c);
         w[deg + p] = 0;
         w[deg + n] = 0;
         j += 1;
@@ -139,7 +143,8 @@ fn round_length(
     w: &[u32],
 ) -> usize
     requires { ⌜ Walkable np nq (now quads) v acc u first (now w) ⌝ }
-    ensures { λ r. ⌜ eqb r (valence (quadsOf nq (now (quads .entry))) v) ≡ connected np (quadsOf nq (now (quads .entry))) v ⌝ }
+    ensures { λ r. ⌜ eqb r (valence (quadsOf nq (now (quads .entry))) v) ≡
+        connected np (quadsOf nq (now (quads .entry))) v ⌝ }
 {
     let mut last = u;
     let mut x = first;
@@ -173,7 +178,7 @@ fn is_round(
     }
     let c = lists::at(w, from);
     let p = point_before(quads, c);
-    let n = quality_counts::point_after(quads, c);
+    let n = edges::point_after(quads, c);
     round_length(np, nq, quads, v, acc, p, n, w) == m
 }
 
@@ -207,7 +212,8 @@ fn is_good_link(
     r
 }
 
-// Counts the points whose link is empty, not connected, or has a node of another degree than 2, from the corners by point, at order. The regions at deg and acc are work.
+// Counts the points whose link is empty, not connected, or has a node of another degree than 2, from the corners by
+// point, at order. The regions at deg and acc are work.
 pub fn bad_links(
     np: usize,
     nq: usize,
@@ -226,9 +232,7 @@ pub fn bad_links(
     let mut count = 0;
     let mut v = 0;
     while v < np {
-        count += quality_counts::one_if(
-            !is_good_link(np, nq, quads, v, starts, order, deg, acc, w),
-        );
+        count += sheet::one_if(!is_good_link(np, nq, quads, v, starts, order, deg, acc, w));
         v += 1;
     }
     count

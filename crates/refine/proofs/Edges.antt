@@ -1,29 +1,30 @@
 -- Among the corners in the order of their edges those of one edge stand side by side, in their own order; so the first request of an edge is
 -- found by a look at the corner before. Assumes nothing.
-use Prim.Native.Nat.{ℕ, zero, suc, _+_, _-_, _*_, _/_, _%_, _≤_, _<_, min, max, suc-le-suc, zero-le}
+use Prim.Native.Nat.{ℕ, zero, suc, _+_, _-_, _*_, _/_, _%_, _≤_, _<_, suc-le-suc, zero-le}
 use mathlib.Core.Logic.{_⊎_, inl, inr, ⊎-elim}
 use mathlib.Core.Path.{_≡_, refl, sym, ap, _∙_}
-use mathlib.Core.Bool.{Bool, true, false, cond, _&&_, _||_, or-true, false≢true}
+use mathlib.Core.Bool.{Bool, true, false, cond, _||_, false≢true}
 use mathlib.Core.List.{List, [], _∷_}
 use native.Mathlib.Omega.{arith}
 use native.Mathlib.Numerals.{add-one}
 use native.Mathlib.Nat.{le-of-suc-le-suc, mul-add-mod-self-right, mul-add-div-right, mod-eq-of-lt, div-eq-of-lt, suc-mul, mul-le-mul-right}
 use lib.ListN.{length, getD, set}
 use lib.Dec.{eqb}
-use borrow.Author.Tests.{eq-eqb, ne-eqb, eqb-true}
+use borrow.Author.Tests.{eq-eqb, ne-eqb}
 use Rattle.lists.specs.Sort.{tabulate, bucket, sortBy, consIf, itself}
 use Rattle.lists.specs.Steps.{start}
 use Rattle.lists.specs.Every.{some}
 use Rattle.lists.proofs.Laws.{eq-or-ne, lt-or-le, length-tab, getD-tab, start-mono, getD-sort, Place, place, tab-ext, tab-set}
-use Rattle.lists.proofs.Every.{some-at, or-split, and-left, and-right}
+use Rattle.lists.proofs.Every.{some-at}
 use Rattle.lists.proofs.Order.{Each, each-bucket, bucket-key, In, in-bucket, below-tab, below-sort}
-use Rattle.sheet.specs.Flat.{from, to}
 use Rattle.sheet.specs.Edges.{smaller, larger, allCorners}
 use Rattle.rule_sheet.proofs.FirstUse.{First, place-first, first-unique}
 use Rattle.incidence.specs.declared.Key.the-variants.{Smaller, Larger}
 use Rattle.incidence.specs.Corners.{keyOf, Cornered, edgeOrder}
 use Rattle.incidence.proofs.Corners.{key-below}
-use Rattle.refine.specs.Requests.{requestOf, keyAt, firstOf, sameEdge, linkedTo, isLinked}
+use Rattle.edges.specs.Steps.{sameEdge}
+use Rattle.edges.proofs.Blocks.{keys-same, same-keys}
+use Rattle.refine.specs.Requests.{requestOf, keyAt, firstOf, linkedTo, isLinked}
 
 -- ---- lists that ascend, and their sorts
 
@@ -349,37 +350,8 @@ module _ {np nq : ℕ} {Q : List ℕ} (C : Cornered np nq Q) where
 
 -- ---- the test of two corners
 
-same-pair : (a b c d : ℕ) → ((a ≡ c) × (b ≡ d)) ⊎ ((a ≡ d) × (b ≡ c)) → (min a b ≡ min c d) × (max a b ≡ max c d)
-same-pair a b c d (inl (p, q)) = (omega arith, omega arith)
-same-pair a b c d (inr (p, q)) = (omega arith, omega arith)
-
-pair-same : (a b c d : ℕ) → min a b ≡ min c d → max a b ≡ max c d → ((a ≡ c) × (b ≡ d)) ⊎ ((a ≡ d) × (b ≡ c))
-pair-same a b c d l h = ⊎-elim (λ (e : a ≡ c). inl (e, one a b c d l h e)) (λ (ne : a ≡ c → ⊥). inr (two a b c d l h ne)) (eq-or-ne a c)
-  where
-    one : (a b c d : ℕ) → min a b ≡ min c d → max a b ≡ max c d → a ≡ c → b ≡ d
-    one a b c d l h e = omega arith
-
-    two : (a b c d : ℕ) → min a b ≡ min c d → max a b ≡ max c d → (a ≡ c → ⊥) → (a ≡ d) × (b ≡ c)
-    two a b c d l h e = (omega arith, omega arith)
-
 pub same-yes : (Q : List ℕ) (c d : ℕ) → sameEdge Q c d ≡ true → Same Q c d
-unfolding sameEdge smaller larger
-same-yes Q c d e =
-    let p = same-pair (from Q c) (to Q c) (from Q d) (to Q d) (go (or-split (eqb (from Q c) (from Q d) && eqb (to Q c) (to Q d)) (eqb (from Q c) (to Q d) && eqb (to Q c) (from Q d)) e)) in
-    record { low = p .0; high = p .1 }
-  where
-    go : ((eqb (from Q c) (from Q d) && eqb (to Q c) (to Q d)) ≡ true) ⊎ ((eqb (from Q c) (to Q d) && eqb (to Q c) (from Q d)) ≡ true)
-        → ((from Q c ≡ from Q d) × (to Q c ≡ to Q d)) ⊎ ((from Q c ≡ to Q d) × (to Q c ≡ from Q d))
-    go (inl k) = inl (eqb-true (from Q c) (from Q d) (and-left (eqb (from Q c) (from Q d)) (eqb (to Q c) (to Q d)) k), eqb-true (to Q c) (to Q d) (and-right (eqb (from Q c) (from Q d)) (eqb (to Q c) (to Q d)) k))
-    go (inr k) = inr (eqb-true (from Q c) (to Q d) (and-left (eqb (from Q c) (to Q d)) (eqb (to Q c) (from Q d)) k), eqb-true (to Q c) (from Q d) (and-right (eqb (from Q c) (to Q d)) (eqb (to Q c) (from Q d)) k))
+same-yes Q c d e = let p = same-keys Q c d e in record { low = p .0; high = p .1 }
 
 pub same-no : (Q : List ℕ) (c d : ℕ) → sameEdge Q c d ≡ false → Same Q c d → ⊥
-unfolding sameEdge smaller larger
-same-no Q c d e s = go (pair-same (from Q c) (to Q c) (from Q d) (to Q d) (s .low) (s .high))
-  where
-    go : ((from Q c ≡ from Q d) × (to Q c ≡ to Q d)) ⊎ ((from Q c ≡ to Q d) × (to Q c ≡ from Q d)) → ⊥
-    go (inl (p, q)) = false≢true (sym (rw (eq-eqb (from Q c) (from Q d) p, eq-eqb (to Q c) (to Q d) q) at e))
-    go (inr (p, q)) =
-        let x = eqb (from Q c) (from Q d) && eqb (to Q c) (to Q d) in
-        let z : (x || true) ≡ false = rw (eq-eqb (from Q c) (to Q d) p, eq-eqb (to Q c) (from Q d) q) at e in
-        false≢true (sym z ∙ or-true x)
+same-no Q c d e s = false≢true (sym e ∙ keys-same Q c d (s .low) (s .high))

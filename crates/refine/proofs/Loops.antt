@@ -24,9 +24,10 @@ use Rattle.rule_sheet.specs.Sheet.{flatPoints}
 use Rattle.sheet.specs.Results.{Front}
 use Rattle.sheet.proofs.Fronts.{front-none, front-point, front-quad, length-with, length-with-quad}
 use Rattle.incidence.specs.Corners.{edgeOrder, Positioned}
-use Rattle.refine.specs.Requests.{requestOf, firstOf, own, numberOf, sameEdge, linkedTo, positionIn, childAt}
+use Rattle.refine.specs.Requests.{requestOf, firstOf, own, numberOf, linkedTo, positionIn, childAt}
 use Rattle.refine.specs.Loops.{lowAt, Linking, Numbering, Numbered, Writing, madeTo, putRequest}
 use Rattle.lists.specs.Steps.{nth}
+use Rattle.edges.specs.Steps.{sameEdge}
 use Rattle.refine.proofs.Edges.{Same, sorted, same-yes, same-no, linked-new, linked-same, linked-end}
 
 -- ---- the links

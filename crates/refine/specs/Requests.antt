@@ -1,6 +1,6 @@
 -- The requests for new points by their places: request 5 q + j is for the edge of corner j of quad q, or for the centre where j is 4.
 use Prim.Native.Nat.{ℕ, _+_, _*_, _/_, _%_}
-use mathlib.Core.Bool.{Bool, cond, _&&_, _||_}
+use mathlib.Core.Bool.{Bool, cond}
 use mathlib.Core.List.{List}
 use lib.Dec.{eqb}
 use lib.ListN.{getD}
@@ -10,7 +10,6 @@ use Rattle.lists.specs.Sort.{tabulate}
 use Rattle.lists.specs.Every.{countTo, some}
 use Rattle.rule_sheet.specs.Quads.{Quad, quad}
 use Rattle.rule_sheet.specs.Flat.{corner}
-use Rattle.sheet.specs.Flat.{from, to}
 use Rattle.rule_sheet.specs.FirstUse.{place}
 use Rattle.incidence.specs.Corners.{edgeOrder}
 use Rattle.rule_finer.specs.Finer.{edgeKey, centreKey, Request, request}
@@ -68,10 +67,6 @@ own F t = eqb (getD F t 0) t
 -- the number of the point of request t, behind n points, F having the first request of each key
 unfoldable pub numberOf : ℕ → List ℕ → ℕ → ℕ
 numberOf n F t = n + countTo (own F) (getD F t 0)
-
--- two corners have one edge
-unfoldable pub sameEdge : List ℕ → ℕ → ℕ → Bool
-sameEdge Q c d = (eqb (from Q c) (from Q d) && eqb (to Q c) (to Q d)) || (eqb (from Q c) (to Q d) && eqb (to Q c) (from Q d))
 
 -- request t is that of corner i of the corners E
 abbrev pub isLinked : List ℕ → ℕ → ℕ → Bool

@@ -22,7 +22,7 @@ ghost use Rattle.rule_sheet.specs.Results.{Leaves};
 ghost use Rattle.sheet.specs.Results.{Fills, Front};
 ghost use Rattle.incidence.specs.Corners.{Cornered, Positioned};
 ghost use Rattle.rule_finer.specs.Finer.{finerSheet, madeOrShort, refineRule};
-ghost use Rattle.refine.specs.Requests.{requestOf, sameEdge, positionIn, positionAt, firstOf, linkedTo, own, numberOf, childAt, labelAt, firstsOf};
+ghost use Rattle.refine.specs.Requests.{requestOf, positionIn, positionAt, firstOf, linkedTo, own, numberOf, childAt, labelAt, firstsOf};
 ghost use Rattle.refine.specs.Loops.{lowAt, Linking, Numbering, putRequest, madeTo, Writing, Numbered, Behind, Worked, Finished, Refinable, pointsAfter};
 ghost use Rattle.lists.specs.Steps.{nth};
 
@@ -58,19 +58,6 @@ fn request_of(c: usize) -> usize
     c / 4 * 5 + c % 4
 }
 
-// Whether two corners have one edge.
-fn same_edge(quads: &[u32], c: usize, d: usize) -> bool
-    requires { ⌜ c / 4 * 4 + 3 < length (now quads) ⌝ }
-    requires { ⌜ d / 4 * 4 + 3 < length (now quads) ⌝ }
-    ensures { λ r. ⌜ r ≡ sameEdge (now (quads .entry)) c d ⌝ }
-{
-    let a = lists::at(quads, c);
-    let b = lists::at(quads, c / 4 * 4 + (c + 1) % 4);
-    let e = lists::at(quads, d);
-    let f = lists::at(quads, d / 4 * 4 + (d + 1) % 4);
-    ((a == e) & (b == f)) | ((a == f) & (b == e))
-}
-
 // Corner i in the order of edges takes over the first request of the corner before it, if that has the same edge.
 fn link(np: usize, nq: usize, quads: &[u32], order: usize, first: usize, i: usize, w: &mut [u32])
     requires { ⌜ Linking np nq (now quads) order first i (now w) ⌝ }
@@ -83,7 +70,7 @@ fn link(np: usize, nq: usize, quads: &[u32], order: usize, first: usize, i: usiz
     }
     let p = w[order + i - 1] as usize;
     let c = w[order + i] as usize;
-    if same_edge(quads, p, c) {
+    if edges::same_edge(quads, p, c) {
         w[first + request_of(c)] = w[first + request_of(p)];
         return;
     }

@@ -30,7 +30,7 @@ use Rattle.rule_passes.specs.Runs.{Answer, capped}
 use Rattle.rule_regularize.specs.Swaps.{swapRun}
 use Rattle.rule_regularize.specs.SwapFits.{fitsWith, swapFits}
 use Rattle.regularize_pass.specs.declared.Trial.{Trial}
-use Rattle.regularize_pass.specs.Choice.{Passable}
+use Rattle.regularize_pass.specs.Conditions.{SwapPassAsks}
 use Rattle.rule_regularize.specs.declared.Cleaned as answers
 use Rattle.regularize.specs.Runs.{Ran}
 use Rattle.rule_regularize.specs.Rule.{swapSheet, cleanRule, Leaves}
@@ -86,7 +86,7 @@ module _ {b : Band} {least : ℕ} {c : Counts} {P : List Float} {Q labels w : Li
   same-count : c .labels ≡ c .quads
   same-count = labels-match c P not-bare
 
-  pub passable : (x : Float) → x ≡ lengthOf b → Passable (c .points) (c .quads) (record { least = least; field = b .field; length = x }) P Q labels w
+  pub passable : (x : Float) → x ≡ lengthOf b → SwapPassAsks (c .points) (c .quads) (record { least = least; field = b .field; length = x }) P Q labels w
   passable x e =
       let k = same-count in
       let g : goodCorners (c .points) (quadsOf (c .quads) Q) (take (c .labels) labels) ≡ true = rw (length-points (c .points) P) at (accepted-is b (sheetOf c P Q labels) (A .accepted) .1) in

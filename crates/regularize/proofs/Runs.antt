@@ -14,7 +14,8 @@ use Rattle.rule_passes.specs.Runs.{Answer, run, capped}
 use Rattle.rule_regularize.proofs.Runs.{idle, capped-add}
 use Rattle.rule_regularize.proofs.Sweep.{pass-none}
 use Rattle.regularize_pass.specs.declared.Trial.{Trial}
-use Rattle.regularize_pass.specs.Choice.{fitsIn, passIn, Passable, Passed}
+use Rattle.regularize_pass.specs.Steps.{fitsIn, passIn}
+use Rattle.regularize_pass.specs.Conditions.{SwapPassAsks, SwapPassLeaves}
 use Rattle.regularize.specs.Runs.{Ran}
 
 module _ (np nq : ℕ) (t : Trial) (P : List Float) (labels : List ℕ) where
@@ -31,14 +32,14 @@ module _ (np nq : ℕ) (t : Trial) (P : List Float) (labels : List ℕ) where
 
 -- after some passes: `left` of them may follow, and end as all k passes over the quads of Q
 pub record Running (np nq : ℕ) (t : Trial) (P : List Float) (labels : List ℕ) (k : ℕ) (Q v R w : List ℕ) (total left : ℕ) : Type 0 where
-  pub passable : Passable np nq t P R labels w
+  pub passable : SwapPassAsks np nq t P R labels w
   pub len : length R ≡ length Q
   pub room : length w ≡ length v
   pub swaps : ℕ
   pub total-is : total ≡ capped swaps
   pub same : runFrom np nq t P labels left (quadsOf nq R) swaps ≡ runFrom np nq t P labels k (quadsOf nq Q) 0
 
-pub running-start : {np nq : ℕ} {t : Trial} {P : List Float} {labels : List ℕ} {k : ℕ} {Q v : List ℕ} → Passable np nq t P Q labels v → Running np nq t P labels k Q v Q v 0 k
+pub running-start : {np nq : ℕ} {t : Trial} {P : List Float} {labels : List ℕ} {k : ℕ} {Q v : List ℕ} → SwapPassAsks np nq t P Q labels v → Running np nq t P labels k Q v Q v 0 k
 running-start A = record { passable = A; len = refl; room = refl; swaps = 0; total-is = omega arith; same = refl }
 
 module _ {np nq : ℕ} {t : Trial} {P : List Float} {labels : List ℕ} {k : ℕ} {Q v R w : List ℕ} {total left : ℕ} (G : Running np nq t P labels k Q v R w total left) where
@@ -54,7 +55,7 @@ module _ {np nq : ℕ} {t : Trial} {P : List Float} {labels : List ℕ} {k : ℕ
   pub running-end : left ≤ 0 → Ran np nq t P labels k Q R total
   running-end h = let z : left ≡ 0 = omega arith in ends-as refl (ap (λ (l : ℕ). runFrom np nq t P labels l S (G .swaps)) z)
 
-  module _ {R′ : List ℕ} {count : ℕ} (D : Passed np nq t P labels R R′ count) where
+  module _ {R′ : List ℕ} {count : ℕ} (D : SwapPassLeaves np nq t P labels R R′ count) where
     -- a pass that swaps nothing is the last
     pub running-none : count ≡ 0 → Ran np nq t P labels k Q R′ total
     running-none e =

@@ -8,7 +8,7 @@ use Rattle.rule_sheet.specs.Flat.{quadsOf}
 use Rattle.rule_passes.specs.Runs.{capped}
 use Rattle.rule_regularize.specs.Swaps.{swapRun}
 use Rattle.regularize_pass.specs.declared.Trial.{Trial}
-use Rattle.regularize_pass.specs.Choice.{fitsIn}
+use Rattle.regularize_pass.specs.Steps.{fitsIn}
 
 -- at most k passes over the quads of Q leave R, and count r swaps
 pub record Ran (np nq : ℕ) (t : Trial) (P : List Float) (labels : List ℕ) (k : ℕ) (Q R : List ℕ) (r : ℕ) : Type 0 where

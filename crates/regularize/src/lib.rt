@@ -10,7 +10,7 @@ ghost use Prim.Native.Nat.{_+_, _≤_};
 ghost use lib.ListN.{length, replicate};
 ghost use Rattle.numeric.specs.Num.{zeroF};
 ghost use Rattle.rule_sheet.specs.Sheet.{sheetOf};
-ghost use Rattle.regularize_pass.specs.Choice.{Passable};
+ghost use Rattle.regularize_pass.specs.Conditions.{SwapPassAsks};
 ghost use Rattle.rule_passes.specs.Runs.{capped};
 ghost use Rattle.regularize.specs.Runs.{Ran};
 ghost use Rattle.regularize.specs.Rule.{Cleanable, Cleans};
@@ -45,7 +45,7 @@ fn run_passes(
     quads: &mut [u32],
     w: &mut [u32],
 ) -> usize
-    requires { ⌜ Passable np nq t (now points) (now quads) (now labels) (now w) ⌝ }
+    requires { ⌜ SwapPassAsks np nq t (now points) (now quads) (now labels) (now w) ⌝ }
     ensures { λ r. ⌜ Ran np nq t (now (points .entry)) (now (labels .entry)) passes (now (quads .entry)) (now (quads .exit)) r ⌝ }
 {
     let mut total: usize = 0;

@@ -18,10 +18,12 @@ use Rattle.rule_regularize.specs.declared.Held.{Held}
 use Rattle.rule_regularize.specs.SwapFits.{heldOf, nextFits}
 use Rattle.pass_shapes.specs.SwapFits.{hexOf, SixBelow}
 use Rattle.pass_shapes.proofs.SwapFits.{swap-fits}
-use Rattle.regularize_swap.specs.Slices.{startOf, sumIn}
-use Rattle.regularize_swap.specs.Swapped.{openIn, gainsIn, betterIn, sixAt, isHexagon}
+use Rattle.pass_map.specs.Regions.{startIn}
+use Rattle.regularize_swap.specs.Regions.{sumIn, freeIn}
+use Rattle.regularize_swap.specs.Steps.{openIn, gainsIn, betterIn, sixAt, isHexagon}
 use Rattle.regularize_pass.specs.declared.Trial.{Trial}
-use Rattle.regularize_pass.specs.Choice.{fitsIn, diagonal, pickOf, mayTake, bestOf, freeIn, choiceIn, Trying}
+use Rattle.regularize_pass.specs.Steps.{fitsIn, diagonal, pickOf, mayTake, bestOf, choiceIn}
+use Rattle.regularize_pass.specs.Conditions.{TryAsks}
 
 -- ---- the higher gain
 
@@ -63,10 +65,10 @@ best-told np nq P h held first second w x y z r ex ey ez e = rw (← ex, ← ey,
 
 -- ---- the valences in the work slice
 
-module _ {np nq : ℕ} {t : Trial} {P : List Float} {Q labels w : List ℕ} (T : Trying np nq t P Q labels w) where
+module _ {np nq : ℕ} {t : Trial} {P : List Float} {Q labels w : List ℕ} (T : TryAsks np nq t P Q labels w) where
   sum-is : (u v : ℕ) → u < np → v < np → sumIn np nq w u v ≡ valence (quadsOf nq Q) u + valence (quadsOf nq Q) v
   sum-is u v hu hv =
-      let N = T .passing .valences in
+      let N = T .holds .valences in
       ap₂ _+_ (part-get 0 u N hu ∙ getD-tab (valence (quadsOf nq Q)) np u 0 hu) (part-get 0 v N hv ∙ getD-tab (valence (quadsOf nq Q)) np v 0 hv)
 
   module _ (i j : ℕ) (h : Six) (hi : i < nq) (hj : j < nq) (B : SixBelow np h) where
@@ -76,11 +78,11 @@ module _ {np nq : ℕ} {t : Trial} {P : List Float} {Q labels w : List ℕ} (T :
 
     fits-is : (k : ℕ) (positive : Bool) → fitsIn t np nq P labels (quadsOf nq Q) i j (hexOf h) k positive ≡ nextFits (pointAt P) (hexOf h) k heldIn positive
     fits-is k positive =
-        sym (swap-fits (t .field) (t .length) np nq P Q (take nq labels) i j h k positive (T .passing .sheet) hi hj B)
+        sym (swap-fits (t .field) (t .length) np nq P Q (take nq labels) i j h k positive (T .holds .sheet) hi hj B)
         ∙ ap (λ (l : ℕ). nextFits (pointAt P) (hexOf h) k (heldOf (t .field) (t .length) (pointAt P) l (quadAt Q i) (quadAt Q j) (hexOf h)) positive) (getD-take nq labels i 0 hi)
 
     abbrev S0 : List Quad
-    S0 = quadsOf nq (startOf np nq w)
+    S0 = startIn np nq w
 
     may-one : may S0 (take nq labels) (t .least) (fitsIn t np nq P labels) (quadsOf nq Q) i j (hexOf h) 1 (h .h0) (h .h3) (h .h1) (h .h4) ≡ mayTake np nq P h 1 heldIn (openIn np nq (t .least) h 1 w) w
     may-one = rw (sum-is (h .h1) (h .h4) (B .h1<) (B .h4<), sum-is (h .h0) (h .h3) (B .h0<) (B .h3<), fits-is 1)
@@ -111,11 +113,11 @@ module _ {np nq : ℕ} {t : Trial} {P : List Float} {Q labels w : List ℕ} (T :
 
   module _ (c d : ℕ) (hc : c < 4 * nq) (hd : d < 4 * nq) where
     pub known-corner : (e : ℕ) → e < 4 * nq → e / 4 * 4 + 3 < length Q
-    known-corner e l = omega (arith, T .passing .sheet .quads)
+    known-corner e l = omega (arith, T .holds .sheet .quads)
 
     pub six-below : SixBelow np (sixAt Q c d)
     six-below =
-        let p = T .passing .sheet .points in
+        let p = T .holds .sheet .points in
         record {
           h0< = p c hc;
           h1< = p (d / 4 * 4 + (d + 2) % 4) (omega arith);
@@ -138,10 +140,10 @@ module _ {np nq : ℕ} {t : Trial} {P : List Float} {Q labels w : List ℕ} (T :
         rw (a, b) refl
 
     pub choice-told : (f g : Bool) (h : Six) (r : ℕ) → f ≡ freeIn np nq labels w (c / 4) (d / 4) → f ≡ true → h ≡ sixAt Q c d → g ≡ isHexagon Q d h → g ≡ true
-        → r ≡ pickOf (quadsOf nq (startOf np nq w)) (take nq labels) (t .least) (fitsIn t np nq P labels) (quadsOf nq Q) (c / 4) (d / 4) (hexOf h) → r ≡ choiceIn np nq t P Q labels c d w
+        → r ≡ pickOf (startIn np nq w) (take nq labels) (t .least) (fitsIn t np nq P labels) (quadsOf nq Q) (c / 4) (d / 4) (hexOf h) → r ≡ choiceIn np nq t P Q labels c d w
     unfolding choiceIn
     choice-told f g h r e z eh eg y er =
         let a : freeIn np nq labels w (c / 4) (d / 4) ≡ true = sym e ∙ z in
         let b : isHexagon Q d (sixAt Q c d) ≡ true = ap (isHexagon Q d) (sym eh) ∙ sym eg ∙ y in
         rw (a, b)
-        (er ∙ ap (λ (x : Six). pickOf (quadsOf nq (startOf np nq w)) (take nq labels) (t .least) (fitsIn t np nq P labels) (quadsOf nq Q) (c / 4) (d / 4) (hexOf x)) eh)
+        (er ∙ ap (λ (x : Six). pickOf (startIn np nq w) (take nq labels) (t .least) (fitsIn t np nq P labels) (quadsOf nq Q) (c / 4) (d / 4) (hexOf x)) eh)

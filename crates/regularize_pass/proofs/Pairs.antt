@@ -22,12 +22,14 @@ use Rattle.rule_regularize.proofs.Swap.{corners-turn}
 use Rattle.pass_shapes.specs.declared.Six.{Six}
 use Rattle.pass_shapes.specs.SwapFits.{hexOf}
 use Rattle.pass_shapes.proofs.SwapFits.{quad-there}
-use Rattle.regularize_swap.specs.Slices.{startOf, barsOf, stateOf}
-use Rattle.regularize_swap.specs.Swapped.{across, quadFrom, sixAt, sixApart, isHexagon}
-use Rattle.regularize_swap.specs.Made.{Swappable, swapBy, meetsSix, Made}
+use Rattle.pass_map.specs.Regions.{startIn}
+use Rattle.regularize_swap.specs.Regions.{barsOf, stateOf, freeIn}
+use Rattle.regularize_swap.specs.Steps.{across, quadFrom, sixAt, sixApart, isHexagon, swapBy, meetsSix}
+use Rattle.regularize_swap.specs.Conditions.{MakeSwapAsks, MakeSwapLeaves}
 use Rattle.regularize_swap.proofs.Bars.{getD-bars}
 use Rattle.regularize_pass.specs.declared.Trial.{Trial}
-use Rattle.regularize_pass.specs.Choice.{fitsIn, diagonal, pickOf, freeIn, choiceIn, Trying, Stepped, tryIn}
+use Rattle.regularize_pass.specs.Steps.{fitsIn, diagonal, pickOf, choiceIn, tryIn}
+use Rattle.regularize_pass.specs.Conditions.{TryAsks, StepLeaves}
 use Rattle.regularize_pass.proofs.Choices.{six-below}
 
 -- ---- a quad read from one of its corners on
@@ -71,12 +73,12 @@ any-default [] i d e h = absurd (omega arith)
 any-default (x ∷ l) zero d e h = refl
 any-default (x ∷ l) (suc i) d e h = any-default l i d e (omega arith)
 
-module _ {np nq : ℕ} {t : Trial} {P : List Float} {Q labels w : List ℕ} (T : Trying np nq t P Q labels w) (c d count : ℕ) (hc : c < 4 * nq) (hd : d < 4 * nq) where
+module _ {np nq : ℕ} {t : Trial} {P : List Float} {Q labels w : List ℕ} (T : TryAsks np nq t P Q labels w) (c d count : ℕ) (hc : c < 4 * nq) (hd : d < 4 * nq) where
   abbrev S : List Quad
   S = quadsOf nq Q
 
   abbrev S0 : List Quad
-  S0 = quadsOf nq (startOf np nq w)
+  S0 = startIn np nq w
 
   abbrev h : Six
   h = sixAt Q c d
@@ -141,9 +143,9 @@ module _ {np nq : ℕ} {t : Trial} {P : List Float} {Q labels w : List ℕ} (T :
 
   -- ---- nothing is taken
 
-  pub step-none : (k : ℕ) → k ≡ K → k ≡ 0 → Stepped np nq (tryIn np nq t P labels w c d) count count Q w Q w
+  pub step-none : (k : ℕ) → k ≡ K → k ≡ 0 → StepLeaves np nq (tryIn np nq t P labels w c d) count count Q w Q w
   step-none k e z = record {
-    passing = T .passing;
+    holds = T .holds;
     is = sym (pair-chosen ∙ ap (λ (x : ℕ). cond (eqb x 0) (stateOf np nq Q w count) (after K)) (sym e ∙ z));
     kept = kept-refl _ w;
     most = omega arith;
@@ -164,7 +166,7 @@ module _ {np nq : ℕ} {t : Trial} {P : List Float} {Q labels w : List ℕ} (T :
         go true f = refl
         go false f = absurd (z (e ∙ ap (λ (x : Bool). cond (freeIn np nq labels w (c / 4) (d / 4)) (cond x picked 0) 0) f ∙ zeros (freeIn np nq labels w (c / 4) (d / 4))))
 
-    pub swappable : Swappable np nq Q h (c / 4) (d / 4)
+    pub swappable : MakeSwapAsks np nq Q h (c / 4) (d / 4)
     swappable =
         let a = and-left (eqb (to Q d) (from Q c) && eqb (from Q d) (to Q c)) (sixApart h) hexagon in
         let p = eqb-true (to Q d) (from Q c) (and-left (eqb (to Q d) (from Q c)) (eqb (from Q d) (to Q c)) a) in
@@ -178,9 +180,9 @@ module _ {np nq : ℕ} {t : Trial} {P : List Float} {Q labels w : List ℕ} (T :
           second = λ f. corners-from Q d f ∙ ap₂ (λ (x y : ℕ). corners f (quad x y (across Q d) (before Q d))) q p;
         }
 
-    pub step-made : {R w′ : List ℕ} (g : Six) → g ≡ h → Made np nq k g (c / 4) (d / 4) Q w R w′ → Stepped np nq (tryIn np nq t P labels w c d) count (count + 1) Q w R w′
+    pub step-made : {R w′ : List ℕ} (g : Six) → g ≡ h → MakeSwapLeaves np nq k g (c / 4) (d / 4) Q w R w′ → StepLeaves np nq (tryIn np nq t P labels w c d) count (count + 1) Q w R w′
     step-made {R} {w′} g eg N = record {
-      passing = N .passing;
+      holds = N .holds;
       is = made (N .quads ∙ ap (swapBy k S (c / 4) (d / 4)) eg ∙ ap (λ (x : ℕ). swapBy x S (c / 4) (d / 4) h) e)
           (N .bars ∙ ap (λ (x : Six). barList S0 (barsOf np nq w) (meetsSix x)) eg)
           ∙ sym (pair-chosen ∙ ap (λ (b : Bool). cond b (stateOf np nq Q w count) (after K)) (ne-eqb K 0 (λ x. z (e ∙ x))));

@@ -8,8 +8,11 @@ ghost use Prim.Native.Nat.{_+_, _*_, _/_, _<_, _≤_, _^_};
 ghost use lib.ListN.{length, take};
 ghost use Rattle.rule_sheet.specs.Flat.{quadsOf};
 ghost use Rattle.pass_shapes.specs.SwapFits.{SixBelow, hexOf};
-ghost use Rattle.regularize_swap.specs.Slices.{startOf, Room, Begun};
-ghost use Rattle.regularize_pass.specs.Choice.{fitsIn, diagonal, pickOf, mayTake, bestOf, choiceIn, Trying, Stepped, tryIn, stepIn, Passable, Passed};
+ghost use Rattle.pass_map.specs.Regions.{startIn};
+ghost use Rattle.pass_map.specs.Conditions.{WorkFits};
+ghost use Rattle.regularize_swap.specs.Conditions.{BeginPassLeaves};
+ghost use Rattle.regularize_pass.specs.Steps.{fitsIn, diagonal, pickOf, mayTake, bestOf, choiceIn, tryIn, stepIn};
+ghost use Rattle.regularize_pass.specs.Conditions.{TryAsks, StepLeaves, SwapPassAsks, SwapPassLeaves};
 
 // What swaps are tried with: the least half gain, the field, the length of the band.
 pub struct Trial {
@@ -29,7 +32,7 @@ fn may_take(
     free: bool,
     w: &[u32],
 ) -> bool
-    requires { ⌜ Room np nq (now w) ⌝ }
+    requires { ⌜ WorkFits np nq (now w) ⌝ }
     requires { ⌜ SixBelow np h ⌝ }
     requires { ⌜ 3 * np ≤ length (now points) ⌝ }
     ensures { λ r. ⌜ r ≡ mayTake np nq (now (points .entry)) h k held free (now (w .entry)) ⌝ }
@@ -74,7 +77,7 @@ fn best(
     second: bool,
     w: &[u32],
 ) -> usize
-    requires { ⌜ Room np nq (now w) ⌝ }
+    requires { ⌜ WorkFits np nq (now w) ⌝ }
     requires { ⌜ SixBelow np h ⌝ }
     requires { ⌜ 3 * np ≤ length (now points) ⌝ }
     ensures { λ r. ⌜ r ≡ bestOf np nq (now (points .entry)) h held first second (now (w .entry)) ⌝ }
@@ -97,11 +100,12 @@ fn choice(
     h: Six,
     w: &[u32],
 ) -> usize
-    requires { ⌜ Trying np nq t (now points) (now quads) (now labels) (now w) ⌝ }
+    requires { ⌜ TryAsks np nq t (now points) (now quads) (now labels) (now w) ⌝ }
     requires { ⌜ i < nq ⌝ }
     requires { ⌜ j < nq ⌝ }
     requires { ⌜ SixBelow np h ⌝ }
-    ensures { λ r. ⌜ r ≡ pickOf (quadsOf nq (startOf np nq (now (w .entry)))) (take nq (now (labels .entry))) (t .least) (fitsIn t np nq (now (points .entry)) (now (labels .entry))) (quadsOf nq (now (quads .entry))) i j (hexOf h) ⌝ }
+    ensures { λ r. ⌜ r ≡ pickOf (startIn np nq (now (w .entry))) (take nq (now (labels .entry))) (t .least)
+        (fitsIn t np nq (now (points .entry)) (now (labels .entry))) (quadsOf nq (now (quads .entry))) i j (hexOf h) ⌝ }
 {
     let first = regularize_swap::is_open(np, nq, t.least, h, 1, w);
     let second = regularize_swap::is_open(np, nq, t.least, h, 2, w);
@@ -125,10 +129,11 @@ fn choice_at(
     d: usize,
     w: &[u32],
 ) -> usize
-    requires { ⌜ Trying np nq t (now points) (now quads) (now labels) (now w) ⌝ }
+    requires { ⌜ TryAsks np nq t (now points) (now quads) (now labels) (now w) ⌝ }
     requires { ⌜ c < 4 * nq ⌝ }
     requires { ⌜ d < 4 * nq ⌝ }
-    ensures { λ r. ⌜ r ≡ choiceIn np nq t (now (points .entry)) (now (quads .entry)) (now (labels .entry)) c d (now (w .entry)) ⌝ }
+    ensures { λ r. ⌜ r ≡ choiceIn np nq t (now (points .entry)) (now (quads .entry))
+        (now (labels .entry)) c d (now (w .entry)) ⌝ }
 {
     if !regularize_swap::is_free(np, nq, labels, c / 4, d / 4, w) {
         return 0;
@@ -153,11 +158,12 @@ fn try_pair(
     quads: &mut [u32],
     w: &mut [u32],
 ) -> usize
-    requires { ⌜ Trying np nq t (now points) (now quads) (now labels) (now w) ⌝ }
+    requires { ⌜ TryAsks np nq t (now points) (now quads) (now labels) (now w) ⌝ }
     requires { ⌜ c < 4 * nq ⌝ }
     requires { ⌜ d < 4 * nq ⌝ }
     requires { ⌜ count < 2 ^ 32 ⌝ }
-    ensures { λ r. ⌜ Stepped np nq (tryIn np nq t (now (points .entry)) (now (labels .entry)) (now (w .entry)) c d) count r (now (quads .entry)) (now (w .entry)) (now (quads .exit)) (now (w .exit)) ⌝ }
+    ensures { λ r. ⌜ StepLeaves np nq (tryIn np nq t (now (points .entry)) (now (labels .entry)) (now (w .entry)) c d)
+        count r (now (quads .entry)) (now (w .entry)) (now (quads .exit)) (now (w .exit)) ⌝ }
 {
     let k = choice_at(np, nq, t, points, quads, labels, c, d, w);
     if k == 0 {
@@ -168,7 +174,8 @@ fn try_pair(
     count + 1
 }
 
-// "Only an edge of exactly two unbarred quads running opposite ways is tried": the edge whose corners begin at place i; the swaps so far.
+// "Only an edge of exactly two unbarred quads running opposite ways is tried": the edge whose corners begin at place i;
+// the swaps so far.
 fn try_edge(
     np: usize,
     nq: usize,
@@ -180,10 +187,11 @@ fn try_edge(
     quads: &mut [u32],
     w: &mut [u32],
 ) -> usize
-    requires { ⌜ Trying np nq t (now points) (now quads) (now labels) (now w) ⌝ }
+    requires { ⌜ TryAsks np nq t (now points) (now quads) (now labels) (now w) ⌝ }
     requires { ⌜ i < 4 * nq ⌝ }
     requires { ⌜ count < 2 ^ 32 ⌝ }
-    ensures { λ r. ⌜ Stepped np nq (stepIn np nq t (now (points .entry)) (now (labels .entry)) (now (w .entry)) i) count r (now (quads .entry)) (now (w .entry)) (now (quads .exit)) (now (w .exit)) ⌝ }
+    ensures { λ r. ⌜ StepLeaves np nq (stepIn np nq t (now (points .entry)) (now (labels .entry)) (now (w .entry)) i)
+        count r (now (quads .entry)) (now (w .entry)) (now (quads .exit)) (now (w .exit)) ⌝ }
 {
     if !regularize_swap::is_pair(np, nq, i, w) {
         return count;
@@ -203,9 +211,10 @@ fn sweep(
     quads: &mut [u32],
     w: &mut [u32],
 ) -> usize
-    requires { ⌜ Begun np nq (now quads) (now w) ⌝ }
-    requires { ⌜ Trying np nq t (now points) (now quads) (now labels) (now w) ⌝ }
-    ensures { λ r. ⌜ Passed np nq t (now (points .entry)) (now (labels .entry)) (now (quads .entry)) (now (quads .exit)) r ⌝ }
+    requires { ⌜ BeginPassLeaves np nq (now quads) (now w) ⌝ }
+    requires { ⌜ TryAsks np nq t (now points) (now quads) (now labels) (now w) ⌝ }
+    ensures { λ r. ⌜ SwapPassLeaves np nq t (now (points .entry)) (now (labels .entry))
+        (now (quads .entry)) (now (quads .exit)) r ⌝ }
 {
     let mut count = 0;
     let mut i = 0;
@@ -226,8 +235,9 @@ pub fn swap_pass(
     quads: &mut [u32],
     w: &mut [u32],
 ) -> usize
-    requires { ⌜ Passable np nq t (now points) (now quads) (now labels) (now w) ⌝ }
-    ensures { λ r. ⌜ Passed np nq t (now (points .entry)) (now (labels .entry)) (now (quads .entry)) (now (quads .exit)) r ⌝ }
+    requires { ⌜ SwapPassAsks np nq t (now points) (now quads) (now labels) (now w) ⌝ }
+    ensures { λ r. ⌜ SwapPassLeaves np nq t (now (points .entry)) (now (labels .entry))
+        (now (quads .entry)) (now (quads .exit)) r ⌝ }
 {
     regularize_swap::begin_pass(np, nq, quads, w);
     sweep(np, nq, t, points, labels, quads, w)

@@ -9,13 +9,13 @@ use lib.ListN.{length, getD}
 use borrow.Author.Tests.{le-leb, lt-leb}
 use Rattle.lists.proofs.Regions.{part-get, part-of, part-len}
 use Rattle.rule_sheet.specs.Quads.{isEdge}
-use Rattle.rule_sheet.specs.Flat.{quadsOf}
-use Rattle.quality_counts.proofs.Walk.{walked-of}
-use Rattle.edges.specs.Maps.{Mapped}
+use Rattle.edges.proofs.Walk.{walked-of}
 use Rattle.pass_shapes.specs.declared.Six.{Six}
 use Rattle.pass_shapes.specs.SwapFits.{SixBelow}
-use Rattle.regularize_swap.specs.Slices.{wasAt, edgeStartsAt, edgesAt, startOf, sumIn, edgeCorner}
-use Rattle.regularize_swap.specs.Swapped.{turned, openIn, gainsIn, betterIn}
+use Rattle.pass_map.specs.Regions.{wasAt, edgesAt, wasIn, startIn}
+use Rattle.pass_map.specs.Conditions.{MapHolds}
+use Rattle.regularize_swap.specs.Regions.{sumIn, edgeCorner}
+use Rattle.regularize_swap.specs.Steps.{turned, openIn, gainsIn, betterIn}
 use Rattle.regularize_swap.proofs.Made.{turned-below}
 
 pub ends-below : {np : ℕ} {h : Six} (k : ℕ) (g : Six) → SixBelow np h → g ≡ turned h k → (g .h0 < np) × (g .h3 < np)
@@ -27,13 +27,13 @@ module _ (np nq : ℕ) (w : List ℕ) (h : Six) (k : ℕ) (g : Six) (e : g ≡ t
 
   module _ (m : ℕ) where
     pub open-no : y < x + 2 + m → false ≡ openIn np nq m h k w
-    open-no l = rw (← e, ← ex, ← ey, lt-leb (x + 2 + m) y l) (no (not (isEdge (quadsOf nq (startOf np nq w)) (g .h0) (g .h3))))
+    open-no l = rw (← e, ← ex, ← ey, lt-leb (x + 2 + m) y l) (no (not (isEdge (startIn np nq w) (g .h0) (g .h3))))
       where
         no : (b : Bool) → false ≡ (b && false)
         no true = refl
         no false = refl
 
-    pub open-yes : (r : Bool) → r ≡ isEdge (quadsOf nq (startOf np nq w)) (g .h0) (g .h3) → x + 2 + m ≤ y → not r ≡ openIn np nq m h k w
+    pub open-yes : (r : Bool) → r ≡ isEdge (startIn np nq w) (g .h0) (g .h3) → x + 2 + m ≤ y → not r ≡ openIn np nq m h k w
     open-yes r er l = rw (← e, ← ex, ← ey, le-leb (x + 2 + m) y l, ← er) (yes r)
       where
         yes : (b : Bool) → not b ≡ (not b && true)
@@ -43,10 +43,11 @@ module _ (np nq : ℕ) (w : List ℕ) (h : Six) (k : ℕ) (g : Six) (e : g ≡ t
 pub better-told : (np nq : ℕ) (w : List ℕ) (h : Six) (x y : ℕ) → x ≡ sumIn np nq w (h .h2) (h .h5) → y ≡ sumIn np nq w (h .h1) (h .h4) → ltb x y ≡ betterIn np nq h w
 better-told np nq w h x y ex ey = rw (ex, ey)
 
-pub corner-told : {np nq : ℕ} {w : List ℕ} (i r : ℕ) → Mapped np nq (wasAt np nq) (edgeStartsAt np nq) (edgesAt np nq) w → i < 4 * nq → r ≡ getD w (edgesAt np nq + i) 0
+pub corner-told : {np nq : ℕ} {w : List ℕ} (i r : ℕ) → MapHolds np nq w → i < 4 * nq → r ≡ getD w (edgesAt np nq + i) 0
     → (r ≡ edgeCorner np nq w i) × (r < 4 * nq)
-corner-told {np} {nq} {w} i r M h e =
+corner-told {np} {nq} {w} i r H h e =
+    let M = H .edges in
     let a : r ≡ edgeCorner np nq w i = e ∙ part-get 0 i (part-of (edgesAt np nq) (4 * nq) w (M .at .fits)) h in
     let k = walked-of (M .sheet) (M .at) .known i h in
-    let l : length (startOf np nq w) ≡ 4 * nq = part-len (part-of (wasAt np nq) (4 * nq) w (M .in-was)) in
+    let l : length (wasIn np nq w) ≡ 4 * nq = part-len (part-of (wasAt np nq) (4 * nq) w (M .in-was)) in
     (a, omega arith)

@@ -19,13 +19,13 @@ use Rattle.rule_sheet.specs.Flat.{quadsOf}
 use Rattle.rule_sheet.specs.Edges.{Pair, pair, joinTo, edgeIf, edgesFrom, edgesOf}
 use Rattle.sheet.specs.Edges.{smaller, larger, allCorners}
 use Rattle.incidence.specs.Corners.{edgeOrder}
-use Rattle.quality_counts.specs.Places.{kindAt}
-use Rattle.quality_counts.proofs.Blocks.{block, off, off-suc, byLarger, row-length, at-off}
-use Rattle.quality_counts.proofs.EdgeKinds.{kind, kind-first, kind-later}
-use Rattle.quality_counts.proofs.Sides.{length-block, length-loop, length-none}
+use Rattle.edges.specs.Steps.{kindAt, pairAt}
+use Rattle.edges.proofs.Blocks.{block, off, off-suc, byLarger, row-length, at-off}
+use Rattle.edges.proofs.EdgeKinds.{kind, kind-first, kind-later}
+use Rattle.edges.proofs.Sides.{length-block, length-loop, length-none}
 use Rattle.rule_regularize.specs.Swaps.{Place, State, Fits, tryPlaces, tryEdge, sweep}
 use Rattle.rule_passes.specs.Choices.{takeOr}
-use Rattle.regularize_swap.specs.Steps.{placeOf, pairAt, tryPair, stepAt, stepsFrom}
+use Rattle.regularize_swap.specs.Steps.{placeOf, tryPair, stepAt, stepsFrom}
 use Rattle.regularize_swap.proofs.Places.{corners-places}
 
 -- ---- steps

@@ -1,19 +1,17 @@
 -- Six corners: the test that they differ, and what the functions that look at them read. Assumes nothing.
 use Prim.Native.Nat.{ℕ, _+_}
 use mathlib.Core.Path.{_≡_, refl, ap, _∙_}
-use mathlib.Core.Bool.{Bool, true, false, not, _&&_, _||_}
+use mathlib.Core.Bool.{Bool, true, false, not, _&&_}
 use mathlib.Core.List.{List}
 use native.Mathlib.Omega.{arith}
 use lib.Dec.{eqb}
 use lib.ListN.{getD}
 use borrow.Author.Tests.{ne-eqb}
-use Rattle.rule_sheet.specs.Quads.{num}
-use Rattle.sheet.specs.Flat.{from, to, before}
-use Rattle.quality_counts.specs.Places.{kindAt}
+use Rattle.rule_sheet.specs.Quads.{quad, num}
+use Rattle.sheet.specs.Flat.{from, to, before, withQuad}
 use Rattle.pass_shapes.specs.declared.Six.{Six}
-use Rattle.regularize_swap.specs.Steps.{pairAt}
-use Rattle.regularize_swap.specs.Slices.{marksAt, isBarred}
-use Rattle.regularize_swap.specs.Swapped.{across, sixAt, sixApart, isHexagon, withQuad, withPair}
+use Rattle.regularize_swap.specs.Steps.{across, sixAt, sixApart, isHexagon, withPair}
+use Rattle.regularize_swap.specs.Regions.{marksAt, isBarred}
 
 none-of : (x : Bool) (y : ℕ) → eqb (num x + y) 0 ≡ (not x && eqb y 0)
 none-of true y = ne-eqb (1 + y) 0 (λ e. omega arith)
@@ -52,10 +50,6 @@ six-differ h = rw (
 
 -- ---- what the functions read
 
-pub pair-told : (Q R L : List ℕ) (n i k : ℕ) → k ≡ kindAt R n L i → R ≡ Q → (eqb k 2 || eqb k 3) ≡ pairAt Q n L i
-unfolding pairAt
-pair-told Q R L n i k e f = rw (e, f)
-
 pub free-told : (np nq : ℕ) (w labels : List ℕ) (i j a b x y : ℕ) → a ≡ getD w (marksAt np nq + i) 0 → b ≡ getD w (marksAt np nq + j) 0 → x ≡ getD labels i 0 → y ≡ getD labels j 0
     → (eqb a 0 && eqb b 0 && eqb x y) ≡ (not (isBarred np nq w i) && not (isBarred np nq w j) && eqb (getD labels i 0) (getD labels j 0))
 free-told np nq w labels i j a b x y ea eb ex ey = rw (ea, eb, ex, ey, twice (eqb (getD w (marksAt np nq + i) 0) 0), twice (eqb (getD w (marksAt np nq + j) 0) 0))
@@ -71,5 +65,5 @@ six-told Q c d a0 a1 a2 a3 a4 a5 e0 e1 e2 e3 e4 e5 = rw (e0, e1, e2, e3, e4, e5)
 pub hexagon-told : (Q : List ℕ) (d : ℕ) (h : Six) (x y : ℕ) (t : Bool) → x ≡ to Q d → y ≡ from Q d → t ≡ sixApart h → (eqb x (h .h0) && eqb y (h .h3) && t) ≡ isHexagon Q d h
 hexagon-told Q d h x y t ex ey et = rw (ex, ey, et)
 
-pub pair-put : (s u v : List ℕ) (i j : ℕ) (g : Six) → u ≡ withQuad s i (g .h0) (g .h1) (g .h2) (g .h3) → v ≡ withQuad u j (g .h0) (g .h3) (g .h4) (g .h5) → v ≡ withPair s i j g
-pair-put s u v i j g eu ev = ev ∙ ap (λ (x : List ℕ). withQuad x j (g .h0) (g .h3) (g .h4) (g .h5)) eu
+pub pair-put : (s u v : List ℕ) (i j : ℕ) (g : Six) → u ≡ withQuad s i (quad (g .h0) (g .h1) (g .h2) (g .h3)) → v ≡ withQuad u j (quad (g .h0) (g .h3) (g .h4) (g .h5)) → v ≡ withPair s i j g
+pair-put s u v i j g eu ev = ev ∙ ap (λ (x : List ℕ). withQuad x j (quad (g .h0) (g .h3) (g .h4) (g .h5))) eu

@@ -11,13 +11,12 @@ use lib.Seq.{getD-set-same, getD-set-other}
 use Rattle.lists.specs.Sort.{tabulate, itself}
 use Rattle.lists.specs.Regions.{part, Part, Out, Kept}
 use Rattle.lists.proofs.Laws.{eq-or-ne, getD-tab, length-tab, tab-set, tab-ext, is-tab, bucket-le}
-use Rattle.lists.proofs.Regions.{part-of, part-as, part-kept, kept-then}
+use Rattle.lists.proofs.Regions.{part-as, part-kept, kept-then}
 use Rattle.rule_sheet.specs.Quads.{Quad, quad, corners, total, at, valence}
 use Rattle.rule_sheet.specs.Flat.{quadAt, quadsOf}
-use Rattle.sheet.specs.Flat.{from}
+use Rattle.sheet.specs.Flat.{from, withQuad}
 use Rattle.sheet.proofs.Flat.{valence-flat, length-quads}
 use Rattle.incidence.specs.Corners.{Cornered}
-use Rattle.edges.proofs.Maps.{mapped-kept, standing-kept}
 use Rattle.rule_passes.specs.Choices.{noneQuad}
 use Rattle.rule_regularize.specs.Swaps.{swapOne, swapTwo, barList}
 use Rattle.rule_regularize.proofs.Passes.{Six}
@@ -28,11 +27,14 @@ use Rattle.rule_regularize.proofs.Sweep.{six-of}
 use Rattle.pass_shapes.specs.declared.Six as six
 use Rattle.pass_shapes.specs.SwapFits.{SixBelow}
 use Rattle.pass_shapes.proofs.SwapFits.{quad-there}
-use Rattle.regularize_swap.specs.Slices.{wasAt, valencesAt, marksAt, startOf, isBarred, barsOf, Barring, Passing}
-use Rattle.regularize_swap.specs.Swapped.{turned, withQuad, withPair, less, more, moved, Movable, markIf, usesSix}
-use Rattle.regularize_swap.specs.Made.{Swappable, swapBy, meetsSix, Made}
+use Rattle.pass_map.specs.Regions.{valencesAt, wasIn}
+use Rattle.regularize_swap.specs.Regions.{marksIn, marksAt, isBarred, barsOf}
+use Rattle.pass_map.specs.Conditions.{MapHolds}
+use Rattle.regularize_swap.specs.Conditions.{SwapPassHolds, MoveValencesAsks, MakeSwapAsks, MakeSwapLeaves}
+use Rattle.regularize_swap.specs.Steps.{turned, withPair, less, more, moved, markIf, usesSix, swapBy, meetsSix}
 use Rattle.regularize_swap.proofs.Moves.{second-is, third-is, last-is}
-use Rattle.regularize_swap.proofs.Bars.{OnlyMarks, Marked, room-kept, barring-kept, bars-are}
+use Rattle.pass_map.proofs.Maps.{map-kept, was-kept}
+use Rattle.regularize_swap.proofs.Bars.{OnlyMarks, Marked, marks-kept, bars-are}
 
 -- ---- the quads
 
@@ -46,11 +48,11 @@ module _ (Q : List ℕ) (q a b c d : ℕ) where
   abbrev three : List ℕ
   three = set two (4 * q + 2) c
 
-  put-other : (m : ℕ) → (m ≡ 4 * q → ⊥) → (m ≡ 4 * q + 1 → ⊥) → (m ≡ 4 * q + 2 → ⊥) → (m ≡ 4 * q + 3 → ⊥) → getD (withQuad Q q a b c d) m 0 ≡ getD Q m 0
+  put-other : (m : ℕ) → (m ≡ 4 * q → ⊥) → (m ≡ 4 * q + 1 → ⊥) → (m ≡ 4 * q + 2 → ⊥) → (m ≡ 4 * q + 3 → ⊥) → getD (withQuad Q q (quad a b c d)) m 0 ≡ getD Q m 0
   put-other m n0 n1 n2 n3 =
       getD-set-other three (4 * q + 3) m d 0 n3 ∙ getD-set-other two (4 * q + 2) m c 0 n2 ∙ getD-set-other one (4 * q + 1) m b 0 n1 ∙ getD-set-other Q (4 * q) m a 0 n0
 
-  other-quad : (j : ℕ) → (j ≡ q → ⊥) → quadAt (withQuad Q q a b c d) j ≡ quadAt Q j
+  other-quad : (j : ℕ) → (j ≡ q → ⊥) → quadAt (withQuad Q q (quad a b c d)) j ≡ quadAt Q j
   other-quad j n = rw (
     put-other (4 * j + 0) (λ e. n (omega arith)) (λ e. n (omega arith)) (λ e. n (omega arith)) (λ e. n (omega arith)),
     put-other (4 * j + 1) (λ e. n (omega arith)) (λ e. n (omega arith)) (λ e. n (omega arith)) (λ e. n (omega arith)),
@@ -59,39 +61,39 @@ module _ (Q : List ℕ) (q a b c d : ℕ) where
   )
 
   module _ (l : 4 * q + 3 < length Q) where
-    put-0 : getD (withQuad Q q a b c d) (4 * q + 0) 0 ≡ a
+    put-0 : getD (withQuad Q q (quad a b c d)) (4 * q + 0) 0 ≡ a
     put-0 =
         let z : 4 * q + 0 ≡ 4 * q = omega arith in
-        ap (λ (m : ℕ). getD (withQuad Q q a b c d) m 0) z
+        ap (λ (m : ℕ). getD (withQuad Q q (quad a b c d)) m 0) z
         ∙ getD-set-other three (4 * q + 3) (4 * q) d 0 (λ e. omega arith) ∙ getD-set-other two (4 * q + 2) (4 * q) c 0 (λ e. omega arith)
         ∙ getD-set-other one (4 * q + 1) (4 * q) b 0 (λ e. omega arith) ∙ getD-set-same Q (4 * q) a 0 (omega arith)
 
-    put-1 : getD (withQuad Q q a b c d) (4 * q + 1) 0 ≡ b
+    put-1 : getD (withQuad Q q (quad a b c d)) (4 * q + 1) 0 ≡ b
     put-1 =
         getD-set-other three (4 * q + 3) (4 * q + 1) d 0 (λ e. omega arith) ∙ getD-set-other two (4 * q + 2) (4 * q + 1) c 0 (λ e. omega arith)
         ∙ getD-set-same one (4 * q + 1) b 0 (simp length-set (omega arith))
 
-    put-2 : getD (withQuad Q q a b c d) (4 * q + 2) 0 ≡ c
+    put-2 : getD (withQuad Q q (quad a b c d)) (4 * q + 2) 0 ≡ c
     put-2 = getD-set-other three (4 * q + 3) (4 * q + 2) d 0 (λ e. omega arith) ∙ getD-set-same two (4 * q + 2) c 0 (simp length-set (omega arith))
 
-    put-3 : getD (withQuad Q q a b c d) (4 * q + 3) 0 ≡ d
+    put-3 : getD (withQuad Q q (quad a b c d)) (4 * q + 3) 0 ≡ d
     put-3 = getD-set-same three (4 * q + 3) d 0 (simp length-set l)
 
-    this-quad : quadAt (withQuad Q q a b c d) q ≡ quad a b c d
+    this-quad : quadAt (withQuad Q q (quad a b c d)) q ≡ quad a b c d
     this-quad = rw (put-0, put-1, put-2, put-3)
 
-length-put : (Q : List ℕ) (q a b c d : ℕ) → length (withQuad Q q a b c d) ≡ length Q
+length-put : (Q : List ℕ) (q a b c d : ℕ) → length (withQuad Q q (quad a b c d)) ≡ length Q
 length-put Q q a b c d = simp length-set refl
 
-quads-put : (nq : ℕ) (Q : List ℕ) (q a b c d : ℕ) → q < nq → 4 * nq ≤ length Q → quadsOf nq (withQuad Q q a b c d) ≡ set (quadsOf nq Q) q (quad a b c d)
+quads-put : (nq : ℕ) (Q : List ℕ) (q a b c d : ℕ) → q < nq → 4 * nq ≤ length Q → quadsOf nq (withQuad Q q (quad a b c d)) ≡ set (quadsOf nq Q) q (quad a b c d)
 unfolding quadsOf
 quads-put nq Q q a b c d h l =
-    sym (tab-set (quadAt Q) (quadAt (withQuad Q q a b c d)) nq q (quad a b c d) h (this-quad Q q a b c d (omega arith)) (λ j _ n. other-quad Q q a b c d j n))
+    sym (tab-set (quadAt Q) (quadAt (withQuad Q q (quad a b c d))) nq q (quad a b c d) h (this-quad Q q a b c d (omega arith)) (λ j _ n. other-quad Q q a b c d j n))
 
 pair-quads : (nq : ℕ) (Q : List ℕ) (i j : ℕ) (g : six.Six) → i < nq → j < nq → 4 * nq ≤ length Q
     → quadsOf nq (withPair Q i j g) ≡ set (set (quadsOf nq Q) i (quad (g .h0) (g .h1) (g .h2) (g .h3))) j (quad (g .h0) (g .h3) (g .h4) (g .h5))
 pair-quads nq Q i j g hi hj l =
-    quads-put nq (withQuad Q i (g .h0) (g .h1) (g .h2) (g .h3)) j (g .h0) (g .h3) (g .h4) (g .h5) hj (omega (arith, length-put Q i (g .h0) (g .h1) (g .h2) (g .h3)))
+    quads-put nq (withQuad Q i (quad (g .h0) (g .h1) (g .h2) (g .h3))) j (g .h0) (g .h3) (g .h4) (g .h5) hj (omega (arith, length-put Q i (g .h0) (g .h1) (g .h2) (g .h3)))
     ∙ ap (λ (S : List Quad). set S j (quad (g .h0) (g .h3) (g .h4) (g .h5))) (quads-put nq Q i (g .h0) (g .h1) (g .h2) (g .h3) hi l)
 
 -- the six corners turned once and twice
@@ -117,7 +119,7 @@ set-below np n l k x e hx h c hc = ⊎-elim
     (λ (p : c ≡ k → ⊥). rw (getD-set-other l k c x 0 p) (h c hc))
     (eq-or-ne c k)
 
-cornered-put : {np nq : ℕ} {Q : List ℕ} (q a b c d : ℕ) → Cornered np nq Q → a < np → b < np → c < np → d < np → Cornered np nq (withQuad Q q a b c d)
+cornered-put : {np nq : ℕ} {Q : List ℕ} (q a b c d : ℕ) → Cornered np nq Q → a < np → b < np → c < np → d < np → Cornered np nq (withQuad Q q (quad a b c d))
 cornered-put {np} {nq} {Q} q a b c d C ha hb hc hd = record {
   few = C .few;
   quads = simp length-set (C .quads);
@@ -156,7 +158,7 @@ module _ (S T : List Quad) (a b c d : ℕ) (E : Exchange (λ f. total f S) (λ f
   one-more-d : valence T d ≡ valence S d + 1
   one-more-d = omega (arith, at-d _ _ a b c d E (λ p n. 1))
 
-  moved-valences : (np : ℕ) (vs : List ℕ) → Movable np vs a b c d → vs ≡ tabulate (valence S) np → moved vs a b c d ≡ tabulate (valence T) np
+  moved-valences : (np : ℕ) (vs : List ℕ) → MoveValencesAsks np vs a b c d → vs ≡ tabulate (valence S) np → moved vs a b c d ≡ tabulate (valence T) np
   moved-valences np vs M e = is-tab (moved vs a b c d) (valence T) np (simp length-set len) each
     where
       len : length vs ≡ np
@@ -182,7 +184,7 @@ module _ (S T : List Quad) (a b c d : ℕ) (E : Exchange (λ f. total f S) (λ f
 
 -- ---- one swap
 
-module _ {np nq : ℕ} {Q w : List ℕ} {h : six.Six} {i j : ℕ} (P : Passing np nq Q w) (X : Swappable np nq Q h i j) where
+module _ {np nq : ℕ} {Q w : List ℕ} {h : six.Six} {i j : ℕ} (P : SwapPassHolds np nq Q w) (X : MakeSwapAsks np nq Q h i j) where
   abbrev S : List Quad
   S = quadsOf nq Q
 
@@ -223,7 +225,7 @@ module _ {np nq : ℕ} {Q w : List ℕ} {h : six.Six} {i j : ℕ} (P : Passing n
   read-valence : (v : ℕ) → v < np → getD (part (valencesAt np nq) np w) v 0 ≡ valence S v
   read-valence v l = ap (λ (x : List ℕ). getD x v 0) (P .valences .is) ∙ getD-tab (valence S) np v 0 l
 
-  pub movable : (k : ℕ) → Movable np (part (valencesAt np nq) np w) (h .h0) (h .h3) (endC k) (endD k)
+  pub movable : (k : ℕ) → MoveValencesAsks np (part (valencesAt np nq) np w) (h .h0) (h .h3) (endC k) (endD k)
   movable k =
       let E = exchange k in
       let T = swapBy k S i j h in
@@ -249,37 +251,31 @@ module _ {np nq : ℕ} {Q w : List ℕ} {h : six.Six} {i j : ℕ} (P : Passing n
 
   -- the valences have moved, all else stands
   module _ {u : List ℕ} (K : Kept (Out (valencesAt np nq) np) w u) where
-    pub barring-moved : Barring np nq u
-    barring-moved = record {
-      room = room-kept (P .barring .room) K;
-      standing = standing-kept (P .barring .standing) K (λ l p q r s. omega arith) (λ l p q r s. omega (arith, P .barring .room .some)) (λ l p q r s. omega arith);
-    }
+    pub map-moved : MapHolds np nq u
+    map-moved = map-kept (P .map) K (λ l p q r s. omega arith)
 
-    start-moved : startOf np nq u ≡ startOf np nq w
-    start-moved = part-kept (part-of (wasAt np nq) (4 * nq) w (P .map .in-was)) K (λ l p q r s. omega arith) .is
+    start-moved : wasIn np nq u ≡ wasIn np nq w
+    start-moved = was-kept (P .map) K (λ l p q r s. omega arith)
 
     bars-moved : barsOf np nq u ≡ barsOf np nq w
     unfolding barsOf
     bars-moved = tab-ext (isBarred np nq u) (isBarred np nq w) nq (λ q l. rw (K .same 0 (marksAt np nq + q) (λ r s. omega arith)))
 
     pub swap-made : (k : ℕ) (R w′ : List ℕ) → R ≡ withPair Q i j (turned h k) → Part (valencesAt np nq) np (moved (part (valencesAt np nq) np w) (h .h0) (h .h3) (endC k) (endD k)) u
-        → Marked np nq (usesSix h) u w′ → Made np nq k h i j Q w R w′
+        → Marked np nq (usesSix h) u w′ → MakeSwapLeaves np nq k h i j Q w R w′
     swap-made k R w′ e N M =
         let q : quadsOf nq R ≡ swapBy k S i j h = ap (quadsOf nq) e ∙ swap-quads nq Q i j k h (X .i<) (X .j<) (P .sheet .quads) in
         let O = M .kept in
         record {
-          passing = record {
+          holds = record {
             sheet = rw e (cornered-pair i j (turned h k) (P .sheet) (turned-below k (X .below)));
-            barring = barring-kept barring-moved O;
-            map = mapped-kept
-                (mapped-kept (P .map) K (λ l p q r s. omega arith) (λ l p q r s. omega (arith, P .barring .room .some)) (λ l p q r s. omega arith))
-                O (λ l p q r s. omega arith) (λ l p q r s. omega (arith, P .barring .room .some)) (λ l p q r s. omega arith);
+            map = marks-kept map-moved O;
             valences = part-kept
                 (part-as N (moved-valences S (swapBy k S i j h) (h .h0) (h .h3) (endC k) (endD k) (exchange k) np _ (movable k) (P .valences .is) ∙ ap (λ (T : List Quad). tabulate (valence T) np) (sym q)))
                 O (λ l p q r s. omega arith);
           };
           quads = q;
-          bars = bars-are (usesSix h) (meetsSix h) (barring-moved .room) M (λ q. refl) ∙ ap₂ (λ (A : List ℕ) (B : List Bool). barList (quadsOf nq A) B (meetsSix h)) start-moved bars-moved;
+          bars = bars-are (usesSix h) (meetsSix h) (map-moved .work) M (λ q. refl) ∙ ap₂ (λ (A : List ℕ) (B : List Bool). barList (quadsOf nq A) B (meetsSix h)) start-moved bars-moved;
           kept = kept-then K O (λ l o. (λ p q. o (omega arith) (omega arith), λ p q. o (omega arith) (omega arith)));
         }
 
@@ -289,7 +285,7 @@ module _ {np nq : ℕ} {Q w : List ℕ} {h : six.Six} {i j : ℕ} (P : Passing n
     pub put-ready : (4 * i + 3 < length Q) × ((4 * j + 3 < length Q) × SixBelow 1048576 g)
     put-ready =
         let l = P .sheet .quads in
-        let m = P .barring .room .few in
+        let m = P .map .work .few in
         let G = turned-below k (X .below) in (
           omega (arith, X .i<),
           (
@@ -298,9 +294,9 @@ module _ {np nq : ℕ} {Q w : List ℕ} {h : six.Six} {i j : ℕ} (P : Passing n
           ),
         )
 
-    pub move-ready : (valencesAt np nq + np ≤ length w) × Movable np (part (valencesAt np nq) np w) (h .h0) (h .h3) (g .h0) (g .h3)
+    pub move-ready : (valencesAt np nq + np ≤ length w) × MoveValencesAsks np (part (valencesAt np nq) np w) (h .h0) (h .h3) (g .h0) (g .h3)
     move-ready = (P .valences .fits, rw e (movable k))
 
     pub swap-done : {R u w′ : List ℕ} → R ≡ withPair Q i j g → Part (valencesAt np nq) np (moved (part (valencesAt np nq) np w) (h .h0) (h .h3) (g .h0) (g .h3)) u × Kept (Out (valencesAt np nq) np) w u
-        → Part (marksAt np nq) nq (tabulate (markIf (usesSix h) (startOf np nq u) (part (marksAt np nq) nq u)) nq) w′ × OnlyMarks np nq u w′ → Made np nq k h i j Q w R w′
+        → Part (marksAt np nq) nq (tabulate (markIf (usesSix h) (wasIn np nq u) (marksIn np nq u)) nq) w′ × OnlyMarks np nq u w′ → MakeSwapLeaves np nq k h i j Q w R w′
     swap-done {R} {u} {w′} q m b = swap-made (m .1) k R w′ (q ∙ ap (withPair Q i j) e) (rw e at (m .0)) (record { marks = b .0; kept = b .1 })

@@ -7,7 +7,8 @@ use lib.ListN.{length, getD, set}
 use lib.Seq.{getD-set-other}
 use Rattle.lists.specs.Regions.{part, Part, Out, Kept}
 use Rattle.lists.proofs.Regions.{part-of, part-get, part-as, part-set, kept-set, kept-refl}
-use Rattle.regularize_swap.specs.Swapped.{less, more, Movable}
+use Rattle.regularize_swap.specs.Steps.{less, more}
+use Rattle.regularize_swap.specs.Conditions.{MoveValencesAsks}
 
 -- the valences vs in w, all else as in u
 pub record Moving (val np : ℕ) (vs u w : List ℕ) : Type 0 where
@@ -36,7 +37,7 @@ module _ {val np : ℕ} {vs u w : List ℕ} (a : ℕ) (M : Moving val np vs u w)
     kept = kept-set (val + a) (getD w (val + a) 0 + 1) (M .kept) (λ o. o (omega arith) (omega arith));
   }
 
-module _ {np : ℕ} {vs : List ℕ} {a b c d : ℕ} (M : Movable np vs a b c d) where
+module _ {np : ℕ} {vs : List ℕ} {a b c d : ℕ} (M : MoveValencesAsks np vs a b c d) where
   pub second-is : getD (less vs a) b 0 ≡ getD vs b 0
   second-is = getD-set-other vs a b (getD vs a 0 - 1) 0 (λ e. M .ab (sym e))
 

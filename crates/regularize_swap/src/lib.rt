@@ -1,64 +1,45 @@
-// What a swap reads and writes: the quads, and in regions of one work slice the edge map of the pass's start, the valences and the barred quads.
+// What a swap reads and writes: the quads, and in regions of one work slice the map of the pass's start, the valences
+// and the barred quads.
 
 use pass_shapes::Six;
 ghost use mathlib.Core.Path.{_≡_};
-ghost use mathlib.Core.Bool.{not, _&&_};
 ghost use Prim.Native.Nat.{_+_, _*_, _/_, _%_, _<_, _≤_, _^_};
-ghost use lib.Dec.{eqb};
 ghost use lib.ListN.{length, getD};
 ghost use Rattle.lists.specs.Sort.{tabulate};
 ghost use Rattle.lists.specs.Regions.{part, Part, Out, Kept};
-ghost use Rattle.incidence.specs.Corners.{Known, Cornered};
+ghost use Rattle.incidence.specs.Corners.{Known};
 ghost use Rattle.incidence.specs.Marks.{barredBy};
-ghost use Rattle.edges.specs.Maps.{Mapped};
+ghost use Rattle.edges.specs.Steps.{pairAt};
 ghost use Rattle.pass_shapes.specs.SwapFits.{SixBelow};
-ghost use Rattle.regularize_swap.specs.Steps.{pairAt};
-ghost use Rattle.regularize_swap.specs.Slices.{wasAt, edgeStartsAt, edgesAt, marksAt, startOf, isBarred, sumIn, edgeCorner, Room, Barring, Passing, Begun};
-ghost use Rattle.regularize_swap.specs.Swapped.{sixAt, sixApart, isHexagon, turned, openIn, gainsIn, betterIn, withQuad, withPair, moved, Movable, markIf, usesThree, usesSix};
-ghost use Rattle.regularize_swap.specs.Made.{Swappable, Made};
+ghost use Rattle.pass_map.specs.Regions.{wasIn, edgesIn};
+ghost use Rattle.pass_map.specs.Conditions.{WorkFits, MapAsks, MapHolds};
+ghost use Rattle.regularize_swap.specs.Regions.{marksAt, marksIn, freeIn, sumIn, edgeCorner};
+ghost use Rattle.regularize_swap.specs.Steps.{sixAt, sixApart, isHexagon, turned, openIn, gainsIn, betterIn};
+ghost use Rattle.regularize_swap.specs.Steps.{withPair, moved, markIf, usesThree, usesSix};
+ghost use Rattle.regularize_swap.specs.Conditions.{SwapPassHolds, BeginPassLeaves, MoveValencesAsks};
+ghost use Rattle.regularize_swap.specs.Conditions.{MakeSwapAsks, MakeSwapLeaves};
 
-// Where the regions begin in the work slice, in units of all points and quads together. The quads of the pass's start.
-const WAS: usize = 1;
-
-// Where the sorts work.
-const WORK: usize = 5;
-
-// The corners by edge, and where those of each smaller point begin.
-const EDGE_STARTS: usize = 9;
-
-const EDGES: usize = 11;
-
-// The corners by point, and where those of each point begin.
-const POINT_STARTS: usize = 15;
-
-const POINTS: usize = 17;
-
-// The valences now.
-const VALENCES: usize = 21;
-
-// The marks of barred quads.
+// Where the marks of barred quads begin in the work slice, in units of all points and quads together.
 const MARKS: usize = 22;
 
 // An edge of exactly two corners begins at place i in the order of the edges.
 pub fn is_pair(np: usize, nq: usize, i: usize, w: &[u32]) -> bool
-    requires { ⌜ Mapped np nq (wasAt np nq) (edgeStartsAt np nq) (edgesAt np nq) (now w) ⌝ }
-    requires { ⌜ Room np nq (now w) ⌝ }
+    requires { ⌜ MapHolds np nq (now w) ⌝ }
     requires { ⌜ i < 4 * nq ⌝ }
-    ensures { λ r. ⌜ r ≡ pairAt (startOf np nq (now (w .entry))) (4 * nq) (part (edgesAt np nq) (4 * nq) (now (w .entry))) i ⌝ }
+    ensures { λ r. ⌜ r ≡ pairAt (wasIn np nq (now (w .entry))) (4 * nq) (edgesIn np nq (now (w .entry))) i ⌝ }
 {
     let n = np + nq;
-    let was = WAS * n;
-    let kind = quality_counts::kind_at(&w[was..was + 4 * nq], EDGES * n, 4 * nq, i, w);
-    (kind == quality_counts::OPPOSITE) | (kind == quality_counts::TURNED)
+    let was = pass_map::WAS * n;
+    edges::is_pair(&w[was..was + 4 * nq], pass_map::EDGES * n, 4 * nq, i, w)
 }
 
 // The quads i and j are not barred, and their labels agree.
 pub fn is_free(np: usize, nq: usize, labels: &[u8], i: usize, j: usize, w: &[u32]) -> bool
-    requires { ⌜ Room np nq (now w) ⌝ }
+    requires { ⌜ WorkFits np nq (now w) ⌝ }
     requires { ⌜ nq ≤ length (now labels) ⌝ }
     requires { ⌜ i < nq ⌝ }
     requires { ⌜ j < nq ⌝ }
-    ensures { λ r. ⌜ r ≡ (not (isBarred np nq (now (w .entry)) i) && not (isBarred np nq (now (w .entry)) j) && eqb (getD (now (labels .entry)) i 0) (getD (now (labels .entry)) j 0)) ⌝ }
+    ensures { λ r. ⌜ r ≡ freeIn np nq (now (labels .entry)) (now (w .entry)) i j ⌝ }
 {
     let marks = MARKS * (np + nq);
     let a = lists::at(w, marks + i);
@@ -137,20 +118,19 @@ fn turned_by(h: Six, k: usize) -> Six
 
 // The sum of the valences of u and v.
 fn valence_sum(np: usize, nq: usize, u: usize, v: usize, w: &[u32]) -> usize
-    requires { ⌜ Room np nq (now w) ⌝ }
+    requires { ⌜ WorkFits np nq (now w) ⌝ }
     requires { ⌜ u < np ⌝ }
     requires { ⌜ v < np ⌝ }
     ensures { λ r. ⌜ r ≡ sumIn np nq (now (w .entry)) u v ⌝ }
     ensures { λ r. ⌜ r < 2 ^ 33 ⌝ }
 {
-    let val = VALENCES * (np + nq);
+    let val = pass_map::VALENCES * (np + nq);
     lists::at(w, val + u) + lists::at(w, val + v)
 }
 
 // The diagonal k is no edge of the pass's start, and half its gain is at least `least`.
 pub fn is_open(np: usize, nq: usize, least: usize, h: Six, k: usize, w: &[u32]) -> bool
-    requires { ⌜ Mapped np nq (wasAt np nq) (edgeStartsAt np nq) (edgesAt np nq) (now w) ⌝ }
-    requires { ⌜ Room np nq (now w) ⌝ }
+    requires { ⌜ MapHolds np nq (now w) ⌝ }
     requires { ⌜ SixBelow np h ⌝ }
     requires { ⌜ least ≤ 1 ⌝ }
     ensures { λ r. ⌜ r ≡ openIn np nq least h k (now (w .entry)) ⌝ }
@@ -160,13 +140,12 @@ pub fn is_open(np: usize, nq: usize, least: usize, h: Six, k: usize, w: &[u32]) 
     if valence_sum(np, nq, h.h0, h.h3, w) < after {
         return false;
     }
-    let n = np + nq;
-    !edges::is_edge(np, nq, WAS * n, EDGE_STARTS * n, EDGES * n, g.h0, g.h3, w)
+    !pass_map::is_edge(np, nq, g.h0, g.h3, w)
 }
 
 // The diagonal k gains more than 0.
 pub fn gains(np: usize, nq: usize, h: Six, k: usize, w: &[u32]) -> bool
-    requires { ⌜ Room np nq (now w) ⌝ }
+    requires { ⌜ WorkFits np nq (now w) ⌝ }
     requires { ⌜ SixBelow np h ⌝ }
     ensures { λ r. ⌜ r ≡ gainsIn np nq h k (now (w .entry)) ⌝ }
 {
@@ -177,7 +156,7 @@ pub fn gains(np: usize, nq: usize, h: Six, k: usize, w: &[u32]) -> bool
 
 // The second diagonal gains more than the first.
 pub fn is_second_better(np: usize, nq: usize, h: Six, w: &[u32]) -> bool
-    requires { ⌜ Room np nq (now w) ⌝ }
+    requires { ⌜ WorkFits np nq (now w) ⌝ }
     requires { ⌜ SixBelow np h ⌝ }
     ensures { λ r. ⌜ r ≡ betterIn np nq h (now (w .entry)) ⌝ }
 {
@@ -187,25 +166,12 @@ pub fn is_second_better(np: usize, nq: usize, h: Six, w: &[u32]) -> bool
 
 // The corner at place i in the order of the edges.
 pub fn edge_corner(np: usize, nq: usize, i: usize, w: &[u32]) -> usize
-    requires { ⌜ Mapped np nq (wasAt np nq) (edgeStartsAt np nq) (edgesAt np nq) (now w) ⌝ }
-    requires { ⌜ Room np nq (now w) ⌝ }
+    requires { ⌜ MapHolds np nq (now w) ⌝ }
     requires { ⌜ i < 4 * nq ⌝ }
     ensures { λ r. ⌜ r ≡ edgeCorner np nq (now (w .entry)) i ⌝ }
     ensures { λ r. ⌜ r < 4 * nq ⌝ }
 {
-    lists::at(w, EDGES * (np + nq) + i)
-}
-
-// Puts four corners at place q.
-fn put_quad(quads: &mut [u32], q: usize, a: usize, b: usize, c: usize, d: usize)
-    requires { ⌜ 4 * q + 3 < length (now quads) ⌝ }
-    requires { ⌜ (a < 1048576) × (b < 1048576) × (c < 1048576) × (d < 1048576) ⌝ }
-    ensures { λ _. ⌜ now (quads .exit) ≡ withQuad (now (quads .entry)) q a b c d ⌝ }
-{
-    quads[4 * q] = a as u32;
-    quads[4 * q + 1] = b as u32;
-    quads[4 * q + 2] = c as u32;
-    quads[4 * q + 3] = d as u32;
+    lists::at(w, pass_map::EDGES * (np + nq) + i)
 }
 
 // Puts the quads on both sides of the diagonal from h0 to h3 at the places i and j.
@@ -215,14 +181,14 @@ fn put_pair(quads: &mut [u32], i: usize, j: usize, g: Six)
     requires { ⌜ SixBelow 1048576 g ⌝ }
     ensures { λ _. ⌜ now (quads .exit) ≡ withPair (now (quads .entry)) i j g ⌝ }
 {
-    put_quad(quads, i, g.h0, g.h1, g.h2, g.h3);
-    put_quad(quads, j, g.h0, g.h3, g.h4, g.h5);
+    sheet::put_quad(quads, i, g.h0 as u32, g.h1 as u32, g.h2 as u32, g.h3 as u32);
+    sheet::put_quad(quads, j, g.h0 as u32, g.h3 as u32, g.h4 as u32, g.h5 as u32);
 }
 
 // One quad less at a and b, one more at c and d.
 fn move_valences(np: usize, val: usize, a: usize, b: usize, c: usize, d: usize, w: &mut [u32])
     requires { ⌜ val + np ≤ length (now w) ⌝ }
-    requires { ⌜ Movable np (part val np (now w)) a b c d ⌝ }
+    requires { ⌜ MoveValencesAsks np (part val np (now w)) a b c d ⌝ }
     ensures { λ _. ⌜ Part val np (moved (part val np (now (w .entry))) a b c d) (now (w .exit)) ⌝ }
     ensures { λ _. ⌜ Kept (Out val np) (now (w .entry)) (now (w .exit)) ⌝ }
 {
@@ -234,19 +200,20 @@ fn move_valences(np: usize, val: usize, a: usize, b: usize, c: usize, d: usize, 
 
 // Bars the quads that the pass's start has at point v.
 fn bar_point(np: usize, nq: usize, v: usize, w: &mut [u32])
-    requires { ⌜ Barring np nq (now w) ⌝ }
+    requires { ⌜ MapHolds np nq (now w) ⌝ }
     requires { ⌜ v < np ⌝ }
-    ensures { λ _. ⌜ Part (marksAt np nq) nq (tabulate (barredBy (startOf np nq (now (w .entry))) v (part (marksAt np nq) nq (now (w .entry)))) nq) (now (w .exit)) ⌝ }
+    ensures { λ _. ⌜ Part (marksAt np nq) nq
+        (tabulate (barredBy (wasIn np nq (now (w .entry))) v (marksIn np nq (now (w .entry)))) nq) (now (w .exit)) ⌝ }
     ensures { λ _. ⌜ Kept (Out (marksAt np nq) nq) (now (w .entry)) (now (w .exit)) ⌝ }
 {
     let n = np + nq;
     incidence::bar_around(
         np,
         nq,
-        WAS * n,
+        pass_map::WAS * n,
         v,
-        POINT_STARTS * n,
-        POINTS * n,
+        pass_map::POINT_STARTS * n,
+        pass_map::POINTS * n,
         MARKS * n,
         w,
     );
@@ -254,9 +221,11 @@ fn bar_point(np: usize, nq: usize, v: usize, w: &mut [u32])
 
 // Bars the quads at three points.
 fn bar_three(np: usize, nq: usize, a: usize, b: usize, c: usize, w: &mut [u32])
-    requires { ⌜ Barring np nq (now w) ⌝ }
+    requires { ⌜ MapHolds np nq (now w) ⌝ }
     requires { ⌜ (a < np) × (b < np) × (c < np) ⌝ }
-    ensures { λ _. ⌜ Part (marksAt np nq) nq (tabulate (markIf (usesThree a b c) (startOf np nq (now (w .entry))) (part (marksAt np nq) nq (now (w .entry)))) nq) (now (w .exit)) ⌝ }
+    ensures { λ _. ⌜ Part (marksAt np nq) nq
+        (tabulate (markIf (usesThree a b c) (wasIn np nq (now (w .entry))) (marksIn np nq (now (w .entry)))) nq)
+        (now (w .exit)) ⌝ }
     ensures { λ _. ⌜ Kept (Out (marksAt np nq) nq) (now (w .entry)) (now (w .exit)) ⌝ }
 {
     bar_point(np, nq, a, w);
@@ -266,27 +235,24 @@ fn bar_three(np: usize, nq: usize, a: usize, b: usize, c: usize, w: &mut [u32])
 
 // "A swap bars every quad at its six corners for that pass."
 fn bar_six(np: usize, nq: usize, h: Six, w: &mut [u32])
-    requires { ⌜ Barring np nq (now w) ⌝ }
+    requires { ⌜ MapHolds np nq (now w) ⌝ }
     requires { ⌜ SixBelow np h ⌝ }
-    ensures { λ _. ⌜ Part (marksAt np nq) nq (tabulate (markIf (usesSix h) (startOf np nq (now (w .entry))) (part (marksAt np nq) nq (now (w .entry)))) nq) (now (w .exit)) ⌝ }
+    ensures { λ _. ⌜ Part (marksAt np nq) nq
+        (tabulate (markIf (usesSix h) (wasIn np nq (now (w .entry))) (marksIn np nq (now (w .entry)))) nq)
+        (now (w .exit)) ⌝ }
     ensures { λ _. ⌜ Kept (Out (marksAt np nq) nq) (now (w .entry)) (now (w .exit)) ⌝ }
 {
     bar_three(np, nq, h.h0, h.h1, h.h2, w);
     bar_three(np, nq, h.h3, h.h4, h.h5, w);
 }
 
-// Begins a pass: the quads, their edge map, their corners by point, their valences, and no quad barred.
+// Begins a pass: the map of its quads, their valences, and no quad barred.
 pub fn begin_pass(np: usize, nq: usize, quads: &[u32], w: &mut [u32])
-    requires { ⌜ Cornered np nq (now quads) ⌝ }
-    requires { ⌜ Room np nq (now w) ⌝ }
-    ensures { λ _. ⌜ Begun np nq (now (quads .entry)) (now (w .exit)) ⌝ }
+    requires { ⌜ MapAsks np nq (now quads) (now w) ⌝ }
+    ensures { λ _. ⌜ BeginPassLeaves np nq (now (quads .entry)) (now (w .exit)) ⌝ }
 {
-    let n = np + nq;
-    let marks = MARKS * n;
-    edges::copy_quads(nq, quads, WAS * n, w);
-    edges::edge_map(np, nq, quads, WORK * n, EDGE_STARTS * n, EDGES * n, w);
-    incidence::quads_at(np, nq, quads, WORK * n, POINT_STARTS * n, POINTS * n, w);
-    incidence::valences(np, nq, quads, POINT_STARTS * n, VALENCES * n, w);
+    let marks = MARKS * (np + nq);
+    pass_map::map_sheet(np, nq, quads, w);
     lists::clear(&mut w[marks..marks + nq]);
 }
 
@@ -301,12 +267,21 @@ pub fn make_swap(
     quads: &mut [u32],
     w: &mut [u32],
 )
-    requires { ⌜ Passing np nq (now quads) (now w) ⌝ }
-    requires { ⌜ Swappable np nq (now quads) h i j ⌝ }
-    ensures { λ _. ⌜ Made np nq k h i j (now (quads .entry)) (now (w .entry)) (now (quads .exit)) (now (w .exit)) ⌝ }
+    requires { ⌜ SwapPassHolds np nq (now quads) (now w) ⌝ }
+    requires { ⌜ MakeSwapAsks np nq (now quads) h i j ⌝ }
+    ensures { λ _. ⌜ MakeSwapLeaves np nq k h i j (now (quads .entry)) (now (w .entry))
+        (now (quads .exit)) (now (w .exit)) ⌝ }
 {
     let g = turned_by(h, k);
     put_pair(quads, i, j, g);
-    move_valences(np, VALENCES * (np + nq), h.h0, h.h3, g.h0, g.h3, w);
+    move_valences(
+        np,
+        pass_map::VALENCES * (np + nq),
+        h.h0,
+        h.h3,
+        g.h0,
+        g.h3,
+        w,
+    );
     bar_six(np, nq, h, w);
 }

@@ -22,11 +22,12 @@ use Rattle.sheet.specs.Edges.{smaller, larger, allCorners, edgeCorners}
 use Rattle.sheet.proofs.Edges.{join-to, join-ext, edge-corners, edge-flat}
 use Rattle.sheet.proofs.Tests.{length-points}
 use Rattle.incidence.specs.Corners.{edgeOrder}
-use Rattle.quality_counts.proofs.Blocks.{block, byLarger, off, off-suc, row-length, at-off, key-smaller, key-larger}
-use Rattle.quality_counts.proofs.EdgeKinds.{kindOf, kind-first, kind-later}
+use Rattle.edges.proofs.Blocks.{block, byLarger, off, off-suc, row-length, at-off, key-smaller, key-larger}
+use Rattle.edges.proofs.EdgeKinds.{kindOf, kind-first, kind-later}
 use Rattle.subdivide_points.specs.Steps.{flatSheet}
 use Rattle.rule_rows.specs.Rows.{Side, side, lowOf, highOf, fourSides, sidesOf, edgeSides, twoLabels, rowSides}
-use Rattle.rows.specs.Steps.{cornerLabel, isTwo, seamAt, seamCorners, seamsTo, seamsOf}
+use Rattle.rows.specs.Steps.{cornerLabel, seamAt, seamCorners, seamsTo, seamsOf}
+use Rattle.edges.specs.Steps.{isTwo, pairAt}
 
 -- ---- joins
 
@@ -106,7 +107,7 @@ module _ (np nq : ℕ) (Q labels : List ℕ) where
     B = block nq Q a b
 
     later : (t : ℕ) → suc t < length B → seamCorners Q labels (length E) E (off np nq Q a b + suc t) ≡ []
-    unfolding seamCorners seamAt
+    unfolding seamCorners seamAt pairAt
     later t h = rw (kind-later np nq Q a b ha hb t h)
 
     -- only an edge of two corners reads the second
@@ -122,7 +123,7 @@ module _ (np nq : ℕ) (Q labels : List ℕ) where
     two-long (c ∷ d ∷ l) e = omega arith
 
     first : 0 < length B → seamCorners Q labels (length E) E (off np nq Q a b + 0) ≡ twoCorners labels B
-    unfolding seamCorners seamAt
+    unfolding seamCorners seamAt pairAt
     first pos =
         let z : off np nq Q a b + 0 ≡ off np nq Q a b = omega arith in
         let c : getD E (off np nq Q a b) 0 ≡ getD B 0 0 = ap (λ (i : ℕ). getD E i 0) (sym z) ∙ at-off np nq Q a b 0 ha hb pos in

@@ -1,7 +1,7 @@
 -- The corners at which strips run, listed in the work slice; the strips and the copied corners that are read from it. Assumes nothing.
 use Prim.Native.Nat.{ℕ, _+_, _*_, _/_, _%_, _≤_, _<_}
 use mathlib.Core.Path.{_≡_, refl, sym, ap, _∙_}
-use mathlib.Core.Bool.{Bool, true, false, cond, not, false≢true}
+use mathlib.Core.Bool.{Bool, true, false, not}
 use mathlib.Core.List.{List, [], _∷_, _++_, map, append-nil, append-assoc}
 use native.Mathlib.Omega.{arith}
 use native.Mathlib.Numerals.{add-one}
@@ -9,7 +9,6 @@ use lib.Dec.{eqb}
 use lib.ListN.{length, getD, set, length-set}
 use lib.Seq.{getD-set-same}
 use lib.Ieee.{Float}
-use borrow.Author.Tests.{ltb-true}
 use Rattle.lists.specs.Sort.{tabulate, keep}
 use Rattle.lists.specs.Regions.{part, Part, Out, Kept}
 use Rattle.lists.proofs.Every.{and-left}
@@ -20,7 +19,8 @@ use Rattle.rule_sheet.specs.Quads.{quad}
 use Rattle.sheet.specs.Flat.{from, to, withQuad}
 use Rattle.rule_sheet.specs.Edges.{joinTo}
 use Rattle.incidence.specs.Corners.{Cornered, edgeOrder}
-use Rattle.quality_counts.specs.Places.{linked, goesOn, sameStart, kindAt}
+use Rattle.edges.specs.Steps.{pairAt}
+use Rattle.edges.proofs.Walk.{pair-next}
 use Rattle.smoothing.specs.Smooth.{mean}
 use Rattle.smoothing.specs.Rounded.{pointwise}
 use Rattle.refine.specs.Loops.{orderAt}
@@ -29,25 +29,15 @@ use Rattle.lists.proofs.Laws.{map-tab}
 use Rattle.subdivide_points.specs.Steps.{Spans}
 use Rattle.subdivide_points.proofs.Sums.{part-suc}
 use Rattle.rows.specs.declared.Centres.{Centres}
-use Rattle.rows.specs.Steps.{copiedIn, ofLabel, centresOf, inwardAt, cornerIn, isTwo, seamAt, seamCorners, seamsTo, seamsOf, stripIn, numbersAt, seamsAt, Gathered, Seaming}
+use Rattle.rows.specs.Steps.{copiedIn, ofLabel, centresOf, inwardAt, cornerIn, seamAt, seamCorners, seamsTo, seamsOf, stripIn, numbersAt, seamsAt, Gathered, Seaming}
 use Rattle.rows.proofs.Put.{number-read}
 use Rattle.rows.proofs.Flat.{seams-low}
 
 -- ---- one place
 
-two-linked : (g l m s : Bool) → isTwo (cond g 0 (cond l (cond m 4 (cond s 3 2)) 1)) ≡ true → l ≡ true
-two-linked true l m s e = absurd (false≢true e)
-two-linked false true m s e = refl
-two-linked false false m s e = absurd (false≢true e)
-
--- an edge with two corners has a next place
-kind-next : (Q : List ℕ) (n : ℕ) (L : List ℕ) (i : ℕ) → isTwo (kindAt Q n L i) ≡ true → i + 1 < n
-unfolding kindAt
-kind-next Q n L i e = ltb-true (i + 1) n (and-left _ _ (two-linked (goesOn Q L i) (linked Q n L i (i + 1)) (linked Q n L i (i + 2)) (sameStart Q L i) e))
-
 pub seam-next : (Q labels : List ℕ) (n : ℕ) (L : List ℕ) (i : ℕ) (t : Bool) → t ≡ seamAt Q labels n L i → t ≡ true → i + 1 < n
 unfolding seamAt
-seam-next Q labels n L i t et e = kind-next Q n L i (and-left _ _ (sym et ∙ e))
+seam-next Q labels n L i t et e = pair-next Q n L i (and-left _ _ (sym et ∙ e))
 
 module _ {np nq : ℕ} {Q w : List ℕ} (C : Cornered np nq Q) (P : Part (orderAt np nq) (4 * nq) (edgeOrder np nq Q) w) where
   pub place-read : (j c : ℕ) → j < 4 * nq → c ≡ getD w (orderAt np nq + j) 0 → c ≡ getD (edgeOrder np nq Q) j 0
@@ -56,21 +46,21 @@ module _ {np nq : ℕ} {Q w : List ℕ} (C : Cornered np nq Q) (P : Part (orderA
   pub place-low : (j c : ℕ) → j < 4 * nq → c ≡ getD w (orderAt np nq + j) 0 → c < 4 * nq
   place-low j c h e = rw (place-read j c h e) (sorted C .below j h)
 
-  module _ (i k : ℕ) (h : i < 4 * nq) (ek : k ≡ kindAt Q (4 * nq) (part (orderAt np nq) (4 * nq) w) i) where
-    kind-is : k ≡ kindAt Q (4 * nq) (edgeOrder np nq Q) i
-    kind-is = ek ∙ ap (λ (l : List ℕ). kindAt Q (4 * nq) l i) (P .is)
+  module _ (i : ℕ) (k : Bool) (h : i < 4 * nq) (ek : k ≡ pairAt Q (4 * nq) (part (orderAt np nq) (4 * nq) w) i) where
+    pair-is : k ≡ pairAt Q (4 * nq) (edgeOrder np nq Q) i
+    pair-is = ek ∙ ap (λ (l : List ℕ). pairAt Q (4 * nq) l i) (P .is)
 
-    pub two-next : isTwo k ≡ true → i + 1 < 4 * nq
-    two-next e = kind-next Q (4 * nq) (edgeOrder np nq Q) i (ap isTwo (sym kind-is) ∙ e)
+    pub two-next : k ≡ true → i + 1 < 4 * nq
+    two-next e = pair-next Q (4 * nq) (edgeOrder np nq Q) i (sym pair-is ∙ e)
 
-    pub seam-yes : (labels : List ℕ) (x y a b : ℕ) → isTwo k ≡ true → x ≡ getD w (orderAt np nq + i) 0 → y ≡ getD w (orderAt np nq + (i + 1)) 0 → a ≡ getD labels (x / 4) 0 → b ≡ getD labels (y / 4) 0
+    pub seam-yes : (labels : List ℕ) (x y a b : ℕ) → k ≡ true → x ≡ getD w (orderAt np nq + i) 0 → y ≡ getD w (orderAt np nq + (i + 1)) 0 → a ≡ getD labels (x / 4) 0 → b ≡ getD labels (y / 4) 0
         → not (eqb a b) ≡ seamAt Q labels (4 * nq) (edgeOrder np nq Q) i
     unfolding seamAt
-    seam-yes labels x y a b e ex ey ea eb = rw (← kind-is, e, ea, eb, place-read i x h ex, place-read (i + 1) y (two-next e) ey)
+    seam-yes labels x y a b e ex ey ea eb = rw (← pair-is, e, ea, eb, place-read i x h ex, place-read (i + 1) y (two-next e) ey)
 
-    pub seam-no : (labels : List ℕ) → isTwo k ≡ false → false ≡ seamAt Q labels (4 * nq) (edgeOrder np nq Q) i
+    pub seam-no : (labels : List ℕ) → k ≡ false → false ≡ seamAt Q labels (4 * nq) (edgeOrder np nq Q) i
     unfolding seamAt
-    seam-no labels e = rw (← kind-is, e)
+    seam-no labels e = rw (← pair-is, e)
 
 -- ---- the list of the corners
 

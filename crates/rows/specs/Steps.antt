@@ -28,7 +28,7 @@ use Rattle.sheet.specs.Sheet.{LentSheet, masksOf}
 use Rattle.rule_sheet.specs.Tests.{proper}
 use Rattle.incidence.specs.Corners.{Cornered, edgeOrder, Positioned}
 use Rattle.incidence.specs.Marks.{Incident}
-use Rattle.quality_counts.specs.Places.{kindAt}
+use Rattle.edges.specs.Steps.{pairAt}
 use Rattle.smoothing.specs.Smooth.{mean, sumOf}
 use Rattle.smoothing.specs.Rounded.{pointwise}
 use Rattle.refine.specs.Loops.{orderAt}
@@ -107,13 +107,10 @@ cornerIn np Q labels M c =
 
 -- ---- the strips
 
--- the kinds of edges with exactly two quads
-abbrev pub isTwo : ℕ → Bool
-isTwo k = eqb k 2 || eqb k 3
-
 -- an edge of two quads with different labels begins at place i of the corners L
 unfoldable pub seamAt : List ℕ → List ℕ → ℕ → List ℕ → ℕ → Bool
-seamAt Q labels n L i = isTwo (kindAt Q n L i) && not (eqb (cornerLabel labels (getD L i 0)) (cornerLabel labels (getD L (i + 1) 0)))
+seamAt Q labels n L i =
+    pairAt Q n L i && not (eqb (cornerLabel labels (getD L i 0)) (cornerLabel labels (getD L (i + 1) 0)))
 
 -- its two corners
 unfoldable pub seamCorners : List ℕ → List ℕ → ℕ → List ℕ → ℕ → List ℕ

@@ -91,7 +91,7 @@ fn number_copies(np: usize, masks: usize, num: usize, w: &mut [u32]) -> usize
     let mut k = 0;
     while k < 8 * np {
         w[num + k] = next as u32;
-        next += quality_counts::one_if(is_copied(np, masks, k, w));
+        next += sheet::one_if(is_copied(np, masks, k, w));
         k += 1;
     }
     next
@@ -335,8 +335,7 @@ fn is_seam(quads: &[u32], labels: &[u8], np: usize, nq: usize, i: usize, w: &[u3
     ensures { λ r. ⌜ r ≡ seamAt (now (quads .entry)) (now (labels .entry)) (4 * nq) (edgeOrder np nq (now (quads .entry))) i ⌝ }
 {
     let order = refine::ORDER * (np + nq);
-    let kind = quality_counts::kind_at(quads, order, 4 * nq, i, w);
-    if (kind == quality_counts::OPPOSITE) | (kind == quality_counts::TURNED) {
+    if edges::is_pair(quads, order, 4 * nq, i, w) {
         let a = lists::byte_at(labels, lists::at(w, order + i) / 4);
         let b = lists::byte_at(labels, lists::at(w, order + (i + 1)) / 4);
         return a != b;

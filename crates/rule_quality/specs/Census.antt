@@ -5,13 +5,9 @@ use mathlib.Core.List.{List}
 use lib.Dec.{eqb, ltb}
 use lib.ListN.{length, getD}
 use Rattle.lists.specs.Every.{every, some, countTo}
-use Rattle.rule_sheet.specs.Quads.{Quad, quad, num, is, sum, all, valence, side}
+use Rattle.rule_sheet.specs.Quads.{Quad, quad, num, is, all, valence}
 use Rattle.rule_sheet.specs.Closed.{ind, atPoint}
-use Rattle.rule_sheet.specs.Edges.{Pair, edgesOf}
-
--- how many elements of a list pass a test
-abbrev pub count : {A : Type 0} → (A → Bool) → List A → ℕ
-count p l = sum (λ x. num (p x)) l
+use Rattle.rule_sheet.specs.Edges.{Pair, edgesOf, up, down}
 
 -- ---- points
 
@@ -25,40 +21,9 @@ irregular n S = countTo (isIrregular S) n
 
 -- ---- edges
 
--- the quads that go along an edge from its smaller point, and those that go along it from its larger one
-abbrev pub up : List Quad → Pair → ℕ
-up S e = side S (e .low) (e .high)
-
-abbrev pub down : List Quad → Pair → ℕ
-down S e = side S (e .high) (e .low)
-
--- the edge has one quad
-abbrev pub isBoundary : List Quad → Pair → Bool
-isBoundary S e = eqb (up S e + down S e) 1
-
--- the edge has more than two quads
-abbrev pub isNonmanifold : List Quad → Pair → Bool
-isNonmanifold S e = ltb 2 (up S e + down S e)
-
--- the edge has exactly two quads, and they run the same way
-abbrev pub isTurned : List Quad → Pair → Bool
-isTurned S e = eqb (up S e + down S e) 2 && not (eqb (up S e) 1)
-
 -- the edge has "exactly two quads that run opposite ways"
 abbrev pub isTight : List Quad → Pair → Bool
 isTight S e = eqb (up S e) 1 && eqb (down S e) 1
-
--- boundary_edges: the edges with one quad
-unfoldable pub boundaryEdges : ℕ → List Quad → ℕ
-boundaryEdges n S = count (isBoundary S) (edgesOf n S)
-
--- nonmanifold_edges: the edges with more than two quads
-unfoldable pub nonmanifoldEdges : ℕ → List Quad → ℕ
-nonmanifoldEdges n S = count (isNonmanifold S) (edgesOf n S)
-
--- orientation_errors: the edges with exactly two quads that run the same way
-unfoldable pub orientationErrors : ℕ → List Quad → ℕ
-orientationErrors n S = count (isTurned S) (edgesOf n S)
 
 -- "tight is a yes if every edge has exactly two quads that run opposite ways"
 unfoldable pub tight : ℕ → List Quad → Bool

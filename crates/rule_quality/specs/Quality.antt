@@ -12,7 +12,8 @@ use Rattle.rule_sheet.specs.declared.Verdict.{Verdict}
 use Rattle.rule_sheet.specs.declared.Verdict.the-variants as verdict
 use Rattle.rule_sheet.specs.Quads.{Quad}
 use Rattle.rule_sheet.specs.Sheet.{Sheet, sheetOf, lentVerdict, sheetVerdict}
-use Rattle.rule_quality.specs.Census.{irregular, boundaryEdges, nonmanifoldEdges, orientationErrors, badLinks, duplicateFaces, tight}
+use Rattle.rule_quality.specs.Census.{irregular, badLinks, duplicateFaces, tight}
+use Rattle.rule_sheet.specs.Edges.{boundaryEdges, nonmanifoldEdges, orientationErrors}
 use Rattle.rule_quality.specs.declared.Measures.{Measures}
 use Rattle.rule_quality.specs.declared.Measured.{Measured}
 use Rattle.rule_quality.specs.declared.Measured.the-variants as measured

@@ -1,10 +1,10 @@
--- The edges of quads in ascending order, and the corners of quads in a flat list by point and by edge.
-use Prim.Native.Nat.{ℕ, zero, suc, min, max}
-use mathlib.Core.Bool.{_&&_}
+-- The edges of quads in ascending order, and how many there are of each kind.
+use Prim.Native.Nat.{ℕ, zero, suc, _+_, min, max}
+use mathlib.Core.Bool.{Bool, not, _&&_}
 use mathlib.Core.List.{List, [], _∷_, _++_}
-use lib.Dec.{leb}
+use lib.Dec.{eqb, leb, ltb}
 use Rattle.lists.specs.Sort.{consIf}
-use Rattle.rule_sheet.specs.Quads.{Quad, isEdge}
+use Rattle.rule_sheet.specs.Quads.{Quad, num, sum, side, isEdge}
 
 -- two points, the smaller and the larger
 pub record Pair : Type 0 where
@@ -36,3 +36,40 @@ edgesFrom n S a = joinTo (edgeIf S a) n
 -- "Edges go in ascending order of (smaller, larger) point number."
 unfoldable pub edgesOf : ℕ → List Quad → List Pair
 edgesOf n S = joinTo (edgesFrom n S) n
+
+-- ---- the edges by the quads on them
+
+-- how many elements of a list pass a test
+abbrev pub count : {A : Type 0} → (A → Bool) → List A → ℕ
+count p l = sum (λ x. num (p x)) l
+
+-- the quads that go along an edge from its smaller point, and those that go along it from its larger one
+abbrev pub up : List Quad → Pair → ℕ
+up S e = side S (e .low) (e .high)
+
+abbrev pub down : List Quad → Pair → ℕ
+down S e = side S (e .high) (e .low)
+
+-- the edge has one quad
+abbrev pub isBoundary : List Quad → Pair → Bool
+isBoundary S e = eqb (up S e + down S e) 1
+
+-- the edge has more than two quads
+abbrev pub isNonmanifold : List Quad → Pair → Bool
+isNonmanifold S e = ltb 2 (up S e + down S e)
+
+-- the edge has exactly two quads, and they run the same way
+abbrev pub isTurned : List Quad → Pair → Bool
+isTurned S e = eqb (up S e + down S e) 2 && not (eqb (up S e) 1)
+
+-- boundary_edges: the edges with one quad
+unfoldable pub boundaryEdges : ℕ → List Quad → ℕ
+boundaryEdges n S = count (isBoundary S) (edgesOf n S)
+
+-- nonmanifold_edges: the edges with more than two quads
+unfoldable pub nonmanifoldEdges : ℕ → List Quad → ℕ
+nonmanifoldEdges n S = count (isNonmanifold S) (edgesOf n S)
+
+-- orientation_errors: the edges with exactly two quads that run the same way
+unfoldable pub orientationErrors : ℕ → List Quad → ℕ
+orientationErrors n S = count (isTurned S) (edgesOf n S)

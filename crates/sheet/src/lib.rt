@@ -11,7 +11,7 @@ ghost use lib.ListN.{length, getD, take, replicate};
 ghost use Rattle.lists.specs.Every.{every};
 ghost use Rattle.lists.specs.Sort.{tabulate};
 ghost use Rattle.points.specs.Points.{pointAt, finiteP};
-ghost use Rattle.rule_sheet.specs.Quads.{quad};
+ghost use Rattle.rule_sheet.specs.Quads.{num, quad};
 ghost use Rattle.rule_sheet.specs.Flat.{corner, quadsOf};
 ghost use Rattle.sheet.specs.Flat.{maskIn, Holds, withQuad};
 ghost use Rattle.rule_sheet.specs.Tests.{inRange, distinct, goodMask};
@@ -120,6 +120,13 @@ pub fn is_bare(c: Counts, points: &[f64]) -> bool
 {
     let finite = finite_points(c.points, points);
     (c.points == 0) | (c.quads == 0) | (c.labels != c.quads) | !finite
+}
+
+// 1 where a test holds, else 0.
+pub fn one_if(test: bool) -> usize
+    ensures { λ r. ⌜ r ≡ num test ⌝ }
+{
+    if test { 1 } else { 0 }
 }
 
 // All four are numbers of the n points.

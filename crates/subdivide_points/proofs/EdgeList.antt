@@ -14,16 +14,15 @@ use Rattle.lists.proofs.Every.{bool-iff}
 use Rattle.rule_sheet.specs.Quads.{all, side, isEdge}
 use Rattle.sheet.specs.Flat.{from}
 use Rattle.rule_sheet.specs.Flat.{quadsOf}
-use Rattle.rule_sheet.specs.Edges.{Pair, pair, joinTo, joinOf, edgesOf}
+use Rattle.rule_sheet.specs.Edges.{Pair, pair, joinTo, joinOf, edgesOf, isBoundary, isNonmanifold, boundaryEdges, nonmanifoldEdges}
 use Rattle.sheet.specs.Edges.{smaller, larger, pointCorners, edgeCorners}
 use Rattle.rule_sheet.specs.Tests.{proper}
 use Rattle.rule_sheet.proofs.All.{all-get}
 use Rattle.incidence.specs.Corners.{Cornered, edgeOrder}
 use Rattle.incidence.proofs.Corners.{edge-order-runs}
-use Rattle.rule_quality.specs.Census.{isBoundary, isNonmanifold, boundaryEdges, nonmanifoldEdges}
-use Rattle.quality_counts.proofs.Blocks.{key-smaller, key-larger}
-use Rattle.quality_counts.proofs.Sides.{no-loop, length-block}
-use Rattle.quality_counts.proofs.Tight.{edges-pass, edge-passes, all-and, all-none}
+use Rattle.edges.proofs.Blocks.{key-smaller, key-larger}
+use Rattle.edges.proofs.Sides.{no-loop, length-block}
+use Rattle.edges.proofs.AllEdges.{edges-pass, edge-passes, all-and, all-none}
 use Rattle.refine.proofs.Edges.{sorted}
 use Rattle.rule_finer.specs.Smoothed.{edgeQuads, isPaired, paired}
 use Rattle.subdivide_points.specs.Steps.{endAt, Ends, otherEnd}

@@ -16,7 +16,7 @@ use Rattle.rule_sheet.specs.Quads.{Quad, all, side, isEdge}
 use Rattle.rule_sheet.specs.Edges.{Pair, pair, joinTo, joinOf, edgeIf, edgesFrom, edgesOf}
 use Rattle.rule_sheet.specs.Tests.{proper}
 use Rattle.sheet.proofs.Edges.{join-append, join-to, join-ext}
-use Rattle.quality_counts.proofs.Sides.{no-loop}
+use Rattle.edges.proofs.Sides.{no-loop}
 use Rattle.rule_finer.specs.Smoothed.{those}
 
 -- ---- joins with empty lists

@@ -530,6 +530,6 @@ pub fn is_paired(np: usize, nq: usize, quads: &[u32], w: &[u32]) -> bool
     requires { ⌜ Part (orderAt np nq) (4 * nq) (edgeOrder np nq (now quads)) (now w) ⌝ }
     ensures { λ r. ⌜ r ≡ paired np (quadsOf nq (now (quads .entry))) ⌝ }
 {
-    let c = quality_counts::edge_counts(np, nq, quads, refine::ORDER * (np + nq), w);
+    let c = edges::edge_counts(np, nq, quads, refine::ORDER * (np + nq), w);
     (c.boundary == 0) & (c.nonmanifold == 0)
 }

@@ -1,8 +1,8 @@
 -- `coarsen_merge::allowed` meets its contract. Assumes nothing.
 use borrow.Author.Needs.{needs}
 use mathlib.Core.Path.{refl}
-use Rattle.coarsen_merge.specs.Layout.{allowedIn}
-use Rattle.coarsen_merge.proofs.Grounds.{free-both}
+use Rattle.coarsen_merge.specs.Steps.{allowedIn}
+use Rattle.coarsen_merge.proofs.Start.{free-both}
 use Rattle.coarsen_merge.proofs.allowed.Statement.{statement}
 use Rattle.coarsen_merge.proofs.allowed.Tie as tie
 

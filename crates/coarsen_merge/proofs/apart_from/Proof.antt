@@ -1,5 +1,4 @@
 -- `coarsen_merge::apart_from` meets its contract. Assumes nothing.
-use borrow.Author.Needs.{needs}
 use mathlib.Core.Path.{refl}
 use borrow.Author.Tests.{eq-eqb, ne-eqb}
 use Rattle.coarsen_merge.proofs.apart_from.Statement.{statement}
@@ -11,20 +10,8 @@ returns c = rw (eq-eqb _ _ (c .if1 .taken)) refl
 returns-2 : tie.Need-returns-2
 returns-2 c = rw (ne-eqb _ _ (c .before .if1 .left), eq-eqb _ _ (c .if2 .taken)) refl
 
-add-n : tie.Need-add-n
-add-n c = search needs
-
-mul-is-edge : tie.Need-mul-is-edge
-mul-is-edge c = search needs
-
-mul-is-edge-2 : tie.Need-mul-is-edge-2
-mul-is-edge-2 c = search needs
-
-mul-is-edge-3 : tie.Need-mul-is-edge-3
-mul-is-edge-3 c = search needs
-
 is-edge-requires : tie.Need-is-edge-requires
-is-edge-requires c κs = let s = c .before .before .before in (s .pre .0 .mapped, (s .pre .1 .0, s .pre .1 .1))
+is-edge-requires c κs = let s = c .before .before .before in (s .pre .0 .map, (s .pre .1 .0, s .pre .1 .1))
 
 returns-3 : tie.Need-returns-3
 returns-3 c = rw (ne-eqb _ _ (c .before .before .if1 .left), ne-eqb _ _ (c .before .if2 .left), ← c .is-edge .ensures) refl
@@ -35,9 +22,5 @@ apart-from-spec =
     (tie.spec
     returns
     returns-2
-    add-n
-    mul-is-edge
-    mul-is-edge-2
-    mul-is-edge-3
     is-edge-requires
     returns-3)

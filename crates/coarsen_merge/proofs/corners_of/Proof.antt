@@ -1,19 +1,18 @@
 -- `coarsen_merge::corners_of` meets its contract. Assumes nothing.
 use native.Mathlib.Omega.{arith}
 use borrow.Author.Needs.{needs}
-use Rattle.incidence.proofs.Marks.{Around}
-use Rattle.coarsen_merge.proofs.Grounds.{corners-around, spanned}
+use Rattle.coarsen_merge.proofs.Start.{corners-around, spanned}
 use Rattle.coarsen_merge.proofs.corners_of.Statement.{statement}
 use Rattle.coarsen_merge.proofs.corners_of.Tie as tie
 
 add-n : tie.Need-add-n
 add-n c = search needs
 
-mul-from : tie.Need-mul-from
-mul-from c = omega arith
+mul-starts : tie.Need-mul-starts
+mul-starts c = search needs
 
-mul-at : tie.Need-mul-at
-mul-at c = omega arith
+mul-order : tie.Need-mul-order
+mul-order c = search needs
 
 add-at : tie.Need-add-at
 add-at c = omega arith
@@ -23,12 +22,6 @@ at-requires c κs = let A = corners-around _ (c .before .pre .0) (c .before .pre
 
 add-from : tie.Need-add-from
 add-from c = let A = corners-around _ (c .before .before .pre .0) (c .before .before .pre .1) in let e = c .at .ensures in omega (arith, A .s≤, A .e≤)
-
-mul-to : tie.Need-mul-to
-mul-to c = omega arith
-
-mul-at-2 : tie.Need-mul-at-2
-mul-at-2 c = omega arith
 
 add-at-2 : tie.Need-add-at-2
 add-at-2 c = omega arith
@@ -50,13 +43,11 @@ corners-of-spec =
     tie.close
     (tie.spec
     add-n
-    mul-from
-    mul-at
+    mul-starts
+    mul-order
     add-at
     at-requires
     add-from
-    mul-to
-    mul-at-2
     add-at-2
     add-at-3
     at-requires-2

@@ -1,6 +1,6 @@
 -- `coarsen_merge::masks_join` meets its contract. Assumes nothing.
 use borrow.Author.Needs.{needs}
-use Rattle.coarsen_merge.specs.Tests.{masksJoined}
+use Rattle.coarsen_merge.specs.Steps.{masksJoined}
 use Rattle.coarsen_merge.proofs.masks_join.Statement.{statement}
 use Rattle.coarsen_merge.proofs.masks_join.Tie as tie
 

@@ -1,6 +1,6 @@
 -- `coarsen_merge::meet_only` meets its contract. Assumes nothing.
 use borrow.Author.Needs.{needs}
-use Rattle.coarsen_merge.proofs.Grounds.{meet-first, meet-second}
+use Rattle.coarsen_merge.proofs.Start.{meet-first, meet-second}
 use Rattle.coarsen_merge.proofs.meet_only.Statement.{statement}
 use Rattle.coarsen_merge.proofs.meet_only.Tie as tie
 

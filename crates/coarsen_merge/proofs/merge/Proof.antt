@@ -1,7 +1,7 @@
 -- `coarsen_merge::merge` meets its contract. Assumes nothing.
 use native.Mathlib.Omega.{arith}
 use borrow.Author.Needs.{needs}
-use Rattle.coarsen_merge.proofs.Grounds.{grounds-kept, removed-in}
+use Rattle.coarsen_merge.proofs.Start.{start-kept, removed-in}
 use Rattle.coarsen_merge.proofs.Bars.{only-points, joined-of}
 use Rattle.lists.proofs.Regions.{kept-then}
 use Rattle.coarsen_merge.proofs.merge.Statement.{statement}
@@ -17,7 +17,7 @@ bar-around-requires : tie.Need-bar-around-requires
 bar-around-requires c κs = let s = c .before .before .before .before .before .before .before .before .before .before .before .before .before in (s .pre .0, (s .pre .1 .1, s .pre .1 .0 .a<))
 
 bar-around-requires-2 : tie.Need-bar-around-requires-2
-bar-around-requires-2 c κs = let s = c .before .before .before .before .before .before .before .before .before .before .before .before .before .before .before .before .before in let A = c .before .before .before .bar-around .ensures in (grounds-kept (s .pre .0) (only-points (s .args .np) (s .args .nq) (A .kept)), (A .touched, s .pre .1 .0 .c<))
+bar-around-requires-2 c κs = let s = c .before .before .before .before .before .before .before .before .before .before .before .before .before .before .before .before .before in let A = c .before .before .before .bar-around .ensures in (start-kept (s .pre .0) (only-points (s .args .np) (s .args .nq) (A .kept)), (A .touched, s .pre .1 .0 .c<))
 
 add-w : tie.Need-add-w
 add-w c = omega arith
@@ -29,7 +29,7 @@ add-w-2 : tie.Need-add-w-2
 add-w-2 c = omega arith
 
 mul-w-2 : tie.Need-mul-w-2
-mul-w-2 c = let G = c .before .before .before .before .before .before .before .before .before .before .before .before .before .before .before .before .before .before .before .before .pre .0 in let r = G .standing .sheet .few in let k = G .few in let m = c .before .before .before .before .before .before .before .before .before .before .before .before .before .before .before .before .before .before .before .before .pre .1 .0 .f< in omega arith
+mul-w-2 c = let G = c .before .before .before .before .before .before .before .before .before .before .before .before .before .before .before .before .before .before .before .before .pre .0 in let r = G .map .points .sheet .few in let k = G .map .work .few in let m = c .before .before .before .before .before .before .before .before .before .before .before .before .before .before .before .before .before .before .before .before .pre .1 .0 .f< in omega arith
 
 slice-write-w : tie.Need-slice-write-w
 slice-write-w c = let s = c .before .before .before .before .before .before .before .before .before .before .before .before .before .before .before .before .before .before .before .before in removed-in (s .args .f) (s .pre .0) (kept-then (c .before .before .before .before .before .before .bar-around .ensures .kept) (c .before .before .bar-around2 .ensures .kept) (λ i o. (o, o))) (s .pre .1 .0 .f<)

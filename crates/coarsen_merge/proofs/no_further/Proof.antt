@@ -1,6 +1,6 @@
 -- `coarsen_merge::no_further` meets its contract. Assumes nothing.
 use borrow.Author.Needs.{needs}
-use Rattle.coarsen_merge.proofs.Grounds.{listed-lent, further-lent}
+use Rattle.coarsen_merge.proofs.Start.{listed-lent, further-lent}
 use Rattle.coarsen_merge.proofs.no_further.Statement.{statement}
 use Rattle.coarsen_merge.proofs.no_further.Tie as tie
 

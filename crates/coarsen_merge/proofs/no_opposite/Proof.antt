@@ -1,6 +1,6 @@
 -- `coarsen_merge::no_opposite` meets its contract. Assumes nothing.
 use borrow.Author.Needs.{needs}
-use Rattle.coarsen_merge.specs.Tests.{noOpposite}
+use Rattle.coarsen_merge.specs.Steps.{noOpposite}
 use Rattle.coarsen_merge.proofs.no_opposite.Statement.{statement}
 use Rattle.coarsen_merge.proofs.no_opposite.Tie as tie
 

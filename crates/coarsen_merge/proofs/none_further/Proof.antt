@@ -7,8 +7,8 @@ use Prim.Native.Nat.{_≤_, _-_}
 use lib.ListN.{length}
 use Rattle.lists.specs.Every.{every}
 use Rattle.lists.proofs.Every.{every-zero, every-suc, every-fails}
-use Rattle.coarsen_merge.specs.Tests.{notFurther}
-use Rattle.coarsen_merge.proofs.Corners.{Turn, listed-turn, further-turn}
+use Rattle.coarsen_merge.specs.Steps.{notFurther}
+use Rattle.coarsen_merge.proofs.Corners.{listed-turn, further-turn}
 use Rattle.coarsen_merge.proofs.none_further.Statement.{statement}
 use Rattle.coarsen_merge.proofs.none_further.Tie as tie
 

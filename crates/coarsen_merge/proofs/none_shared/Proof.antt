@@ -7,15 +7,15 @@ use Prim.Native.Nat.{_≤_, _-_}
 use lib.ListN.{length}
 use Rattle.lists.specs.Every.{every}
 use Rattle.lists.proofs.Every.{every-zero, every-suc, every-fails}
-use Rattle.coarsen_merge.specs.Tests.{sharesNone}
-use Rattle.coarsen_merge.specs.Layout.{flatStart, startOf}
-use Rattle.coarsen_merge.proofs.Corners.{Turn, listed-turn}
-use Rattle.coarsen_merge.proofs.Grounds.{shares-turn}
+use Rattle.coarsen_merge.specs.Steps.{sharesNone}
+use Rattle.pass_map.specs.Regions.{wasIn, startIn}
+use Rattle.coarsen_merge.proofs.Corners.{listed-turn}
+use Rattle.coarsen_merge.proofs.Start.{shares-turn}
 use Rattle.coarsen_merge.proofs.none_shared.Statement.{statement}
 use Rattle.coarsen_merge.proofs.none_shared.Tie as tie
 
 abbrev Inv-loop : tie.InvT-loop
-Inv-loop np nq cs b d v w t₀ t = (t ≤ length cs) × (every (sharesNone cs (flatStart np nq w) (startOf np nq w) b d v) t ≡ true)
+Inv-loop np nq cs b d v w t₀ t = (t ≤ length cs) × (every (sharesNone cs (wasIn np nq w) (startIn np nq w) b d v) t ≡ true)
 
 abbrev μ-loop : tie.MeasureT-loop
 μ-loop np nq cs b d v w t₀ t = length cs - t
@@ -37,11 +37,11 @@ loop-less c = omega arith
 
 loop-again : tie.Need-loop-again Inv-loop μ-loop
 loop-again c = let l = c .before .before .before .before in let a = l .before .before .before .args in
-    (omega arith, every-suc _ _ (l .loop .inv .1) (shares-turn (a .cs .now) (flatStart (a .np) (a .nq) (a .w .now)) (startOf (a .np) (a .nq) (a .w .now)) (a .b) (a .d) (a .v) (l .loop .t) _ _ _ (c .before .before .at .ensures) (c .before .shares-none .ensures) (c .if1 .taken)))
+    (omega arith, every-suc _ _ (l .loop .inv .1) (shares-turn (a .cs .now) (wasIn (a .np) (a .nq) (a .w .now)) (startIn (a .np) (a .nq) (a .w .now)) (a .b) (a .d) (a .v) (l .loop .t) _ _ _ (c .before .before .at .ensures) (c .before .shares-none .ensures) (c .if1 .taken)))
 
 returns : tie.Need-returns Inv-loop μ-loop
 returns c = let l = c .before .before .before .before in let a = l .before .before .before .args in
-    sym (every-fails _ _ _ (c .before .before .before .loop-test .taken) (shares-turn (a .cs .now) (flatStart (a .np) (a .nq) (a .w .now)) (startOf (a .np) (a .nq) (a .w .now)) (a .b) (a .d) (a .v) (l .loop .t) _ _ _ (c .before .before .at .ensures) (c .before .shares-none .ensures) (c .if1 .left)))
+    sym (every-fails _ _ _ (c .before .before .before .loop-test .taken) (shares-turn (a .cs .now) (wasIn (a .np) (a .nq) (a .w .now)) (startIn (a .np) (a .nq) (a .w .now)) (a .b) (a .d) (a .v) (l .loop .t) _ _ _ (c .before .before .at .ensures) (c .before .shares-none .ensures) (c .if1 .left)))
 
 returns-2 : tie.Need-returns-2 Inv-loop μ-loop
 returns-2 c = let e : c .before .loop .t ≡ length (c .before .before .before .before .args .cs .now) = omega arith in sym (rw e at (c .before .loop .inv .1))

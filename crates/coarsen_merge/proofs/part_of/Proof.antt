@@ -1,6 +1,6 @@
 -- `coarsen_merge::part_of` meets its contract. Assumes nothing.
 use borrow.Author.Needs.{needs}
-use Rattle.coarsen_merge.specs.Tests.{partOf}
+use Rattle.coarsen_merge.specs.Steps.{partOf}
 use Rattle.coarsen_merge.proofs.part_of.Statement.{statement}
 use Rattle.coarsen_merge.proofs.part_of.Tie as tie
 

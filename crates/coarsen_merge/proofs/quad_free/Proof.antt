@@ -1,6 +1,6 @@
 -- `coarsen_merge::quad_free` meets its contract. Assumes nothing.
 use borrow.Author.Needs.{needs}
-use Rattle.coarsen_merge.specs.Tests.{quadFree}
+use Rattle.coarsen_merge.specs.Steps.{quadFree}
 use Rattle.coarsen_merge.proofs.quad_free.Statement.{statement}
 use Rattle.coarsen_merge.proofs.quad_free.Tie as tie
 

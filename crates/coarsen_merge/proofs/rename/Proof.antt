@@ -1,8 +1,7 @@
 -- `coarsen_merge::rename` meets its contract. Assumes nothing.
 use native.Mathlib.Omega.{arith}
 use borrow.Author.Needs.{needs}
-use Rattle.coarsen_merge.specs.Layout.{Grounds}
-use Rattle.coarsen_merge.proofs.Grounds.{nameable-lent, renamed-lent}
+use Rattle.coarsen_merge.proofs.Start.{nameable-lent, renamed-lent}
 use Rattle.coarsen_merge.proofs.rename.Statement.{statement}
 use Rattle.coarsen_merge.proofs.rename.Tie as tie
 

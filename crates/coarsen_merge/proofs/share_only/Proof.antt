@@ -1,6 +1,6 @@
 -- `coarsen_merge::share_only` meets its contract. Assumes nothing.
 use borrow.Author.Needs.{needs}
-use Rattle.coarsen_merge.proofs.Grounds.{listed-start, shared-lent}
+use Rattle.coarsen_merge.proofs.Start.{listed-start, shared-lent}
 use Rattle.coarsen_merge.proofs.share_only.Statement.{statement}
 use Rattle.coarsen_merge.proofs.share_only.Tie as tie
 

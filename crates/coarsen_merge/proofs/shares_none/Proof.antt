@@ -1,7 +1,7 @@
 -- `coarsen_merge::shares_none` meets its contract. Assumes nothing.
 use native.Mathlib.Omega.{arith}
 use borrow.Author.Needs.{needs}
-use Rattle.coarsen_merge.proofs.Grounds.{Ends, ends-at}
+use Rattle.coarsen_merge.proofs.Start.{ends-at}
 use mathlib.Core.Path.{refl}
 use Rattle.coarsen_merge.proofs.shares_none.Statement.{statement}
 use Rattle.coarsen_merge.proofs.shares_none.Tie as tie

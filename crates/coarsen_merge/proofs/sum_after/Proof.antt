@@ -1,7 +1,7 @@
 -- `coarsen_merge::sum_after` meets its contract. Assumes nothing.
 use borrow.Author.Needs.{needs}
-use Rattle.coarsen_merge.specs.Tests.{sumOfThree}
-use Rattle.coarsen_merge.proofs.Gains.{After, after, two-fit, three-fit}
+use Rattle.coarsen_merge.specs.Steps.{sumOfThree}
+use Rattle.coarsen_merge.proofs.Gains.{after, two-fit, three-fit}
 use Rattle.coarsen_merge.proofs.sum_after.Statement.{statement}
 use Rattle.coarsen_merge.proofs.sum_after.Tie as tie
 

@@ -1,7 +1,7 @@
 -- `coarsen_merge::sum_before` meets its contract. Assumes nothing.
 use native.Mathlib.Omega.{arith}
 use borrow.Author.Needs.{needs}
-use Rattle.coarsen_merge.specs.Tests.{sumOfFour}
+use Rattle.coarsen_merge.specs.Steps.{sumOfFour}
 use Rattle.coarsen_merge.proofs.Gains.{sq-le}
 use Rattle.coarsen_merge.proofs.sum_before.Statement.{statement}
 use Rattle.coarsen_merge.proofs.sum_before.Tie as tie

@@ -1,9 +1,8 @@
 -- `coarsen_merge::sums_of` meets its contract. Assumes nothing.
 use native.Mathlib.Omega.{arith}
 use mathlib.Core.Path.{refl}
-use Rattle.coarsen_merge.specs.Tests.{sumOfFour, sumOfThree}
-use Rattle.coarsen_merge.specs.Layout.{Face, gainOf}
-use Rattle.coarsen_merge.proofs.Grounds.{few-quads}
+use Rattle.coarsen_merge.specs.Steps.{sumOfFour, sumOfThree, gainOf}
+use Rattle.coarsen_merge.proofs.Start.{few-quads}
 use Rattle.coarsen_merge.proofs.sums_of.Statement.{statement}
 use Rattle.coarsen_merge.proofs.sums_of.Tie as tie
 

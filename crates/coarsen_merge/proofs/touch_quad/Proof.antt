@@ -1,6 +1,7 @@
 -- `coarsen_merge::touch_quad` meets its contract. Assumes nothing.
 use borrow.Author.Needs.{needs}
-use Rattle.coarsen_merge.specs.Layout.{flatStart, touchedIn, wasAt}
+use Rattle.pass_map.specs.Regions.{wasIn, wasAt}
+use Rattle.coarsen_merge.specs.Regions.{touchedIn}
 use Rattle.coarsen_merge.proofs.Bars.{touch-marking, quad-listed}
 use Rattle.coarsen_merge.proofs.Marks.{quad-marks}
 use Prim.Native.Nat.{_+_, _*_}
@@ -31,7 +32,7 @@ same-length c = search needs
 
 returns : tie.Need-returns
 returns c = let k = c .before .before in let s = k .before .before .before in let a = s .args in
-    (quad-marks (flatStart (a .np) (a .nq) (a .w .now)) (touchedIn (a .np) (a .nq) (a .w .now)) (part (wasAt (a .np) (a .nq) + 4 * a .q) 4 (a .w .now)) (a .q) (λ j l. quad-listed (a .q) j (s .pre .0) (s .pre .1) l) (k .mark-points .ensures .0), k .mark-points .ensures .1)
+    (quad-marks (wasIn (a .np) (a .nq) (a .w .now)) (touchedIn (a .np) (a .nq) (a .w .now)) (part (wasAt (a .np) (a .nq) + 4 * a .q) 4 (a .w .now)) (a .q) (λ j l. quad-listed (a .q) j (s .pre .0) (s .pre .1) l) (k .mark-points .ensures .0), k .mark-points .ensures .1)
 
 pub touch-quad-spec : {M : Type 1} → statement M
 touch-quad-spec =

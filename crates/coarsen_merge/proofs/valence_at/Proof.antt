@@ -1,7 +1,7 @@
 -- `coarsen_merge::valence_at` meets its contract. Assumes nothing.
 use borrow.Author.Needs.{needs}
 use mathlib.Core.Path.{_∙_}
-use Rattle.coarsen_merge.proofs.Grounds.{Valence, valence-at}
+use Rattle.coarsen_merge.proofs.Start.{valence-at}
 use Rattle.coarsen_merge.proofs.valence_at.Statement.{statement}
 use Rattle.coarsen_merge.proofs.valence_at.Tie as tie
 

@@ -1,7 +1,6 @@
 -- `coarsen_merge::worth` meets its contract. Assumes nothing.
 use borrow.Author.Needs.{needs}
-use Rattle.coarsen_merge.specs.Layout.{Face}
-use Rattle.coarsen_merge.proofs.Grounds.{worth-is}
+use Rattle.coarsen_merge.proofs.Start.{worth-is}
 use Rattle.coarsen_merge.proofs.worth.Statement.{statement}
 use Rattle.coarsen_merge.proofs.worth.Tie as tie
 

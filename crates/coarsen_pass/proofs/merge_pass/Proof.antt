@@ -1,15 +1,15 @@
 -- `coarsen_pass::merge_pass` meets its contract. Assumes nothing.
 use borrow.Author.Needs.{needs}
-use Rattle.coarsen_pass.proofs.Start.{startable, passing-of}
+use Rattle.coarsen_pass.proofs.Start.{prepare-asks, holds-of}
 use Rattle.coarsen_pass.proofs.Rule.{passed-of}
 use Rattle.coarsen_pass.proofs.merge_pass.Statement.{statement}
 use Rattle.coarsen_pass.proofs.merge_pass.Tie as tie
 
 prepare-requires : tie.Need-prepare-requires
-prepare-requires c κs = startable (c .before .before .before .before .before .before .pre .0)
+prepare-requires c κs = prepare-asks (c .before .before .before .before .before .before .pre .0)
 
 visit-all-requires : tie.Need-visit-all-requires
-visit-all-requires c κs = (passing-of (c .before .before .before .before .before .prepare .ensures) (c .before .before .before .before .before .before .before .before .before .before .before .before .pre .0), c .before .before .before .before .before .before .before .before .before .before .before .before .pre .1)
+visit-all-requires c κs = (holds-of (c .before .before .before .before .before .prepare .ensures) (c .before .before .before .before .before .before .before .before .before .before .before .before .pre .0), c .before .before .before .before .before .before .before .before .before .before .before .before .pre .1)
 
 same-length : tie.Need-same-length
 same-length c = search needs

@@ -2,7 +2,7 @@
 use borrow.Author.Needs.{needs}
 use mathlib.Core.Path.{refl}
 use borrow.Author.Tests.{lt-ltb, le-ltb}
-use Rattle.coarsen_search.specs.Choices.{betterOf}
+use Rattle.coarsen_search.specs.Steps.{betterOf}
 use Rattle.coarsen_search.proofs.better.Statement.{statement}
 use Rattle.coarsen_search.proofs.better.Tie as tie
 

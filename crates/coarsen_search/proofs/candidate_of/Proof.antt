@@ -1,8 +1,6 @@
 -- `coarsen_search::candidate_of` meets its contract. Assumes nothing.
 use borrow.Author.Needs.{needs}
 use mathlib.Core.Path.{refl}
-use Rattle.coarsen_merge.specs.Layout.{Face}
-use Rattle.coarsen_search.specs.Choices.{Tried}
 use Rattle.coarsen_search.proofs.Choices.{allowed-gains}
 use Rattle.coarsen_search.proofs.candidate_of.Statement.{statement}
 use Rattle.coarsen_search.proofs.candidate_of.Tie as tie

@@ -1,7 +1,7 @@
 -- `coarsen_search::diagonal_at` meets its contract. Assumes nothing.
 use borrow.Author.Needs.{needs}
 use mathlib.Core.Path.{refl}
-use Rattle.coarsen_search.specs.Choices.{diagonalOf}
+use Rattle.coarsen_search.specs.Steps.{diagonalOf}
 use Rattle.coarsen_search.proofs.diagonal_at.Statement.{statement}
 use Rattle.coarsen_search.proofs.diagonal_at.Tie as tie
 

@@ -1,10 +1,7 @@
 -- `coarsen_search::ends_of` meets its contract. Assumes nothing.
-use native.Mathlib.Omega.{arith}
 use borrow.Author.Needs.{needs}
 use mathlib.Core.Path.{refl}
 use mathlib.Core.Logic.{inl, inr}
-use Rattle.coarsen_merge.specs.Layout.{Grounds, Face}
-use Rattle.coarsen_search.specs.Choices.{Tried}
 use Rattle.coarsen_search.proofs.ends_of.Statement.{statement}
 use Rattle.coarsen_search.proofs.ends_of.Tie as tie
 

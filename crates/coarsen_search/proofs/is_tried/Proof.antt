@@ -1,7 +1,7 @@
 -- `coarsen_search::is_tried` meets its contract. Assumes nothing.
 use borrow.Author.Needs.{needs}
-use Rattle.coarsen_merge.specs.Layout.{Grounds, usedAt}
-use Rattle.coarsen_merge.proofs.Grounds.{length-lent-used, removed-in}
+use Rattle.coarsen_merge.specs.Regions.{usedAt}
+use Rattle.coarsen_merge.proofs.Start.{length-lent-used, removed-in}
 use Rattle.coarsen_search.proofs.Steps.{tried-is}
 use Rattle.lists.specs.Regions.{Out}
 use Rattle.lists.proofs.Regions.{kept-refl}

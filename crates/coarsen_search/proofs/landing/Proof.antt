@@ -1,8 +1,7 @@
 -- `coarsen_search::landing` meets its contract. Assumes nothing.
 use native.Mathlib.Omega.{arith}
 use mathlib.Core.Path.{refl}
-use Rattle.coarsen_merge.specs.Layout.{Grounds, Face}
-use Rattle.coarsen_search.specs.Choices.{landingOf, Tried}
+use Rattle.coarsen_search.specs.Steps.{landingOf}
 use Rattle.coarsen_search.proofs.landing.Statement.{statement}
 use Rattle.coarsen_search.proofs.landing.Tie as tie
 
@@ -10,10 +9,10 @@ allowed-requires : tie.Need-allowed-requires
 allowed-requires c κs = let s = c .before .before in (s .pre .0, (s .pre .1 .0 .face, s .pre .1 .1 .1))
 
 at-requires : tie.Need-at-requires
-at-requires c κs = let s = c .before .before .before .before in let r = s .pre .0 .room in let l = s .pre .1 .0 .face .a< in omega arith
+at-requires c κs = let s = c .before .before .before .before in let r = s .pre .0 .map .work .long in let l = s .pre .1 .0 .face .a< in omega arith
 
 at-requires-2 : tie.Need-at-requires-2
-at-requires-2 c κs = let s = c .before .before .before .before .before in let r = s .pre .0 .room in let l = s .pre .1 .0 .face .c< in omega arith
+at-requires-2 c κs = let s = c .before .before .before .before .before in let r = s .pre .0 .map .work .long in let l = s .pre .1 .0 .face .c< in omega arith
 
 joined-requires : tie.Need-joined-requires
 joined-requires c κs = let s = c .before .before .before .before .before .before in rw (c .at2 .ensures, c .before .at .ensures) (s .pre .1 .0 .mask-a, s .pre .1 .0 .mask-c)

@@ -2,13 +2,11 @@
 use native.Mathlib.Omega.{arith}
 use borrow.Author.Needs.{needs}
 use Rattle.lists.proofs.Regions.{kept-refl, kept-set}
-use Rattle.coarsen_merge.specs.Layout.{Grounds}
-use Rattle.coarsen_search.specs.Choices.{Noted}
 use Rattle.coarsen_search.proofs.remember.Statement.{statement}
 use Rattle.coarsen_search.proofs.remember.Tie as tie
 
 cast-w : tie.Need-cast-w
-cast-w c = let s = c .before in let l = s .pre .0 .few in let q = s .pre .0 .standing .sheet .few in let e = s .pre .1 .place≤ in omega arith
+cast-w c = let s = c .before in let l = s .pre .0 .map .work .few in let q = s .pre .0 .map .points .sheet .few in let e = s .pre .1 .place≤ in omega arith
 
 add-w : tie.Need-add-w
 add-w c = search needs
@@ -23,7 +21,7 @@ mul-w-2 : tie.Need-mul-w-2
 mul-w-2 c = search needs
 
 slice-write-w : tie.Need-slice-write-w
-slice-write-w c = let s = c .before .before in let r = s .pre .0 .room in let q = s .pre .0 .some in let e = s .pre .1 .point≤ in omega arith
+slice-write-w c = let s = c .before .before in let r = s .pre .0 .map .work .long in let q = s .pre .0 .map .work .some in let e = s .pre .1 .point≤ in omega arith
 
 same-length : tie.Need-same-length
 same-length c = search needs

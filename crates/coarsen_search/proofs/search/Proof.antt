@@ -3,7 +3,8 @@ use native.Mathlib.Omega.{arith}
 use borrow.Author.Needs.{needs}
 use mathlib.Core.Path.{_≡_, sym, _∙_}
 use Prim.Native.Nat.{_≤_, _-_}
-use Rattle.coarsen_search.specs.Choices.{foundTo, Tried, Holding, Searching, Noted}
+use Rattle.coarsen_search.specs.Steps.{foundTo}
+use Rattle.coarsen_search.specs.Conditions.{Noted}
 use Rattle.coarsen_search.proofs.Choices.{landed, found-none, found-refused, found-onto, tried-of}
 use Rattle.coarsen_search.proofs.search.Statement.{statement}
 use Rattle.coarsen_search.proofs.search.Tie as tie

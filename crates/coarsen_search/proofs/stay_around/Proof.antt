@@ -2,8 +2,7 @@
 use native.Mathlib.Omega.{arith}
 use borrow.Author.Needs.{needs}
 use mathlib.Core.Path.{refl}
-use Rattle.coarsen_merge.specs.Layout.{Grounds, Spanned}
-use Rattle.coarsen_merge.proofs.Grounds.{spanned}
+use Rattle.coarsen_merge.proofs.Start.{spanned}
 use Rattle.coarsen_search.proofs.stay_around.Statement.{statement}
 use Rattle.coarsen_search.proofs.stay_around.Tie as tie
 
@@ -20,7 +19,7 @@ add-at : tie.Need-add-at
 add-at c = search needs
 
 at-requires : tie.Need-at-requires
-at-requires c κs = let s = c .before .before .before .before in let r = s .pre .0 .room in omega (arith, s .pre .1 .1 .1)
+at-requires c κs = let s = c .before .before .before .before in let r = s .pre .0 .map .work .long in omega (arith, s .pre .1 .1 .1)
 
 mul-quads-stay : tie.Need-mul-quads-stay
 mul-quads-stay c = search needs

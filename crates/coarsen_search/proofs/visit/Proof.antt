@@ -1,26 +1,25 @@
 -- `coarsen_search::visit` meets its contract. Assumes nothing.
 use borrow.Author.Needs.{needs}
 use mathlib.Core.Path.{sym, _∙_}
-use Rattle.coarsen_search.specs.Choices.{Passing, Holding, VisitedFace}
-use Rattle.coarsen_search.proofs.Steps.{searching-of, takeable-of, visit-none, visit-taken, passing-noted, visit-noted, by-length}
+use Rattle.coarsen_search.proofs.Steps.{searching-of, takeable-of, visit-none, visit-taken, holds-noted, visit-noted, by-length}
 use Rattle.coarsen_search.proofs.visit.Statement.{statement}
 use Rattle.coarsen_search.proofs.visit.Tie as tie
 
 is-tried-requires : tie.Need-is-tried-requires
-is-tried-requires c κs = let s = c .before .before .before .before .before .before in (s .pre .0 .grounds, (s .pre .0 .sheet, s .pre .1 .0))
+is-tried-requires c κs = let s = c .before .before .before .before .before .before in (s .pre .0 .start, (s .pre .0 .sheet, s .pre .1 .0))
 
 search-requires : tie.Need-search-requires
 search-requires c κs =
     let s = c .before .before .before .before .before .before .before .before .before .before .before in
     let R = s .pre .0 in
-    (R .grounds, (searching-of _ _ _ _ _ _ _ R (s .pre .1 .0) (sym (c .before .before .before .before .is-tried .ensures) ∙ c .before .before .before .if1 .taken), (record { points = R .points; quads = R .sheet .quads; labels = R .labelled }, R .touched)))
+    (R .start, (searching-of _ _ _ _ _ _ _ R (s .pre .1 .0) (sym (c .before .before .before .before .is-tried .ensures) ∙ c .before .before .before .if1 .taken), (record { points = R .points; quads = R .sheet .quads; labels = R .labelled }, R .touched)))
 
 take-requires : tie.Need-take-requires
 take-requires c κs =
     let s = c .before .before .before .before .before .before .before .before .before .before .before .before .before .before .before in
     let R = s .pre .0 in
     let a = s .args in (
-      R .grounds,
+      R .start,
       (
         takeable-of (a .b) _ _ (a .f) (a .points .now) (a .labels .now) (a .quads .now) (a .w .now) R (s .pre .1 .0) (sym (c .before .before .before .before .before .before .before .before .is-tried .ensures) ∙ c .before .before .before .before .before .before .before .if1 .taken) _
             (by-length (a .b) _ _ (a .f) (a .points .now) (a .labels .now) (a .quads .now) (a .w .now) _ _ (s .pre .1 .1) (c .before .before .before .search .ensures .0)),
@@ -34,7 +33,7 @@ remember-requires c κs =
     let a = s .args in
     let F = visit-taken (a .b) _ _ (a .f) (a .points .now) (a .labels .now) (a .quads .now) (a .w .now) (s .pre .0) (s .pre .1 .0) (sym (c .before .before .before .before .before .before .before .before .before .before .before .before .before .before .before .before .is-tried .ensures) ∙ c .before .before .before .before .before .before .before .before .before .before .before .before .before .before .before .if1 .taken) _ _ _ _ _
     (by-length (a .b) _ _ (a .f) (a .points .now) (a .labels .now) (a .quads .now) (a .w .now) _ _ (s .pre .1 .1) (c .before .before .before .before .before .before .before .before .before .before .before .search .ensures .0)) (c .before .before .before .before .before .before .before .take .ensures) in
-    (F .passing .grounds, c .before .before .before .before .before .before .before .before .before .before .before .search .ensures .1 .0)
+    (F .holds .start, c .before .before .before .before .before .before .before .before .before .before .before .search .ensures .1 .0)
 
 remember-requires-2 : tie.Need-remember-requires-2
 remember-requires-2 c κs =
@@ -42,7 +41,7 @@ remember-requires-2 c κs =
     let a = s .args in
     let F = visit-taken (a .b) _ _ (a .f) (a .points .now) (a .labels .now) (a .quads .now) (a .w .now) (s .pre .0) (s .pre .1 .0) (sym (c .before .before .before .before .before .before .before .before .before .before .before .before .before .before .before .before .before .before .before .before .is-tried .ensures) ∙ c .before .before .before .before .before .before .before .before .before .before .before .before .before .before .before .before .before .before .before .if1 .taken) _ _ _ _ _
     (by-length (a .b) _ _ (a .f) (a .points .now) (a .labels .now) (a .quads .now) (a .w .now) _ _ (s .pre .1 .1) (c .before .before .before .before .before .before .before .before .before .before .before .before .before .before .before .search .ensures .0)) (c .before .before .before .before .before .before .before .before .before .before .before .take .ensures) in
-    (passing-noted (F .passing) (c .before .before .before .remember .ensures) .grounds, c .before .before .before .before .before .before .before .before .before .before .before .before .before .before .before .search .ensures .1 .1)
+    (holds-noted (F .holds) (c .before .before .before .remember .ensures) .start, c .before .before .before .before .before .before .before .before .before .before .before .before .before .before .before .search .ensures .1 .1)
 
 same-length : tie.Need-same-length
 same-length c = search needs

@@ -1,7 +1,6 @@
 -- `coarsen_search::visit_all` meets its contract. Assumes nothing.
 use native.Mathlib.Omega.{arith}
 use Prim.Native.Nat.{_-_}
-use Rattle.coarsen_search.specs.Choices.{Passing, VisitedFace}
 use Rattle.coarsen_search.proofs.Steps.{Visiting, visiting-start, visiting-turn, visiting-end}
 use Rattle.coarsen_search.proofs.visit_all.Statement.{statement}
 use Rattle.coarsen_search.proofs.visit_all.Tie as tie
@@ -16,10 +15,10 @@ loop-holds : tie.Need-loop-holds Inv-loop μ-loop
 loop-holds c = visiting-start _ _ _ _ (c .before .before .before .before .pre .0)
 
 visit-requires : tie.Need-visit-requires Inv-loop μ-loop
-visit-requires c κs = let s = c .before .before .before .before .before .before .before .before .before in (c .before .before .before .before .loop .inv .passing, (c .before .before .before .loop-test .taken, s .pre .1))
+visit-requires c κs = let s = c .before .before .before .before .before .before .before .before .before in (c .before .before .before .before .loop .inv .holds, (c .before .before .before .loop-test .taken, s .pre .1))
 
 add-count : tie.Need-add-count Inv-loop μ-loop
-add-count c = let I = c .before .before .before .before .before .before .before .before .before .before .before .loop .inv in let F = c .before .before .before .before .before .before .visit .ensures in let l = I .passing .sheet .few in let m = I .most in let n = F .most in let h = I .f≤ in omega arith
+add-count c = let I = c .before .before .before .before .before .before .before .before .before .before .before .loop .inv in let F = c .before .before .before .before .before .before .visit .ensures in let l = I .holds .sheet .few in let m = I .most in let n = F .most in let h = I .f≤ in omega arith
 
 add-f : tie.Need-add-f Inv-loop μ-loop
 add-f c = omega arith
@@ -28,7 +27,7 @@ loop-less : tie.Need-loop-less Inv-loop μ-loop
 loop-less c = omega arith
 
 loop-again : tie.Need-loop-again Inv-loop μ-loop
-loop-again c = visiting-turn (c .before .before .before .before .before .before .before .before .before .before .before .before .before .before .before .before .pre .0 .grounds) (c .before .before .before .before .before .before .before .before .before .before .before .loop .inv) (c .before .before .before .before .before .before .before .before .before .before .loop-test .taken) (c .before .before .before .before .before .before .visit .ensures)
+loop-again c = visiting-turn (c .before .before .before .before .before .before .before .before .before .before .before .before .before .before .before .before .pre .0 .start) (c .before .before .before .before .before .before .before .before .before .before .before .loop .inv) (c .before .before .before .before .before .before .before .before .before .before .loop-test .taken) (c .before .before .before .before .before .before .visit .ensures)
 
 same-length : tie.Need-same-length Inv-loop μ-loop
 same-length c = c .before .loop .inv .len-points

@@ -2,7 +2,6 @@
 use native.Mathlib.Omega.{arith}
 use borrow.Author.Needs.{needs}
 use borrow.Author.Tests.{not-true}
-use Rattle.coarsen_search.specs.Choices.{Tried, Noted}
 use Rattle.coarsen_search.proofs.Choices.{falls-at, both-stay, first-end, second-end, end-below}
 use Rattle.coarsen_search.proofs.weighed.Statement.{statement}
 use Rattle.coarsen_search.proofs.weighed.Tie as tie

@@ -1,7 +1,7 @@
 -- `edges::first_from` meets its contract. Assumes nothing.
 use native.Mathlib.Omega.{arith}
 use Prim.Native.Nat.{_-_}
-use Rattle.edges.specs.Maps.{Narrowed}
+use Rattle.edges.specs.Conditions.{Narrowed}
 use Rattle.edges.proofs.Maps.{narrow-start, narrow-end}
 use Rattle.edges.proofs.first_from.Statement.{statement}
 use Rattle.edges.proofs.first_from.Tie as tie

@@ -6,7 +6,7 @@ use mathlib.Core.Path.{_∙_}
 use mathlib.Core.Bool.{not}
 use borrow.Rule.Slice.PartMut.{putMid}
 use Rattle.lists.proofs.Regions.{kept-then}
-use Rattle.quality_counts.proofs.Counting.{num-le}
+use Rattle.edges.proofs.Counting.{num-le}
 use Rattle.quality_links.proofs.Linked.{LinksTo, links-start, links-here, links-turn, links-end}
 use Rattle.quality_links.proofs.bad_links.Statement.{statement}
 use Rattle.quality_links.proofs.bad_links.Tie as tie

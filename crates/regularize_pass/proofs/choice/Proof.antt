@@ -6,10 +6,10 @@ use Rattle.regularize_pass.proofs.choice.Statement.{statement}
 use Rattle.regularize_pass.proofs.choice.Tie as tie
 
 is-open-requires : tie.Need-is-open-requires
-is-open-requires c κs = let s = c .before .before .before .before in let T = s .pre .0 in (T .passing .map, (T .passing .barring .room, (s .pre .1 .1 .1, T .least≤)))
+is-open-requires c κs = let s = c .before .before .before .before in let T = s .pre .0 in (T .holds .map, (s .pre .1 .1 .1, T .least≤))
 
 is-open-requires-2 : tie.Need-is-open-requires-2
-is-open-requires-2 c κs = let s = c .before .before .before .before .before in let T = s .pre .0 in (T .passing .map, (T .passing .barring .room, (s .pre .1 .1 .1, T .least≤)))
+is-open-requires-2 c κs = let s = c .before .before .before .before .before in let T = s .pre .0 in (T .holds .map, (s .pre .1 .1 .1, T .least≤))
 
 returns : tie.Need-returns
 returns c = let s = c .before .before .before .before .before .before .before in
@@ -20,10 +20,10 @@ shared-slice-read-hold : tie.Need-shared-slice-read-hold
 shared-slice-read-hold c = let s = c .before .before .before .before .before .before .before .before in omega (arith, s .pre .0 .labels≤, s .pre .1 .0)
 
 hold-requires : tie.Need-hold-requires
-hold-requires c κs = let s = c .before .before .before .before .before .before .before .before in let T = s .pre .0 in (record { cornered = T .passing .sheet; points = T .points }, (s .pre .1 .0, (s .pre .1 .1 .0, s .pre .1 .1 .1)))
+hold-requires c κs = let s = c .before .before .before .before .before .before .before .before in let T = s .pre .0 in (record { cornered = T .holds .sheet; points = T .points }, (s .pre .1 .0, (s .pre .1 .1 .0, s .pre .1 .1 .1)))
 
 best-requires : tie.Need-best-requires
-best-requires c κs = let s = c .before .before .before .before .before .before .before .before .before in let T = s .pre .0 in (T .passing .barring .room, (s .pre .1 .1 .1, T .points))
+best-requires c κs = let s = c .before .before .before .before .before .before .before .before .before in let T = s .pre .0 in (T .holds .map .work, (s .pre .1 .1 .1, T .points))
 
 returns-2 : tie.Need-returns-2
 returns-2 c = let s = c .before .before .before .before .before .before .before .before .before .before in

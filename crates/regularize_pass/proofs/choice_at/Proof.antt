@@ -7,7 +7,7 @@ use Rattle.regularize_pass.proofs.choice_at.Statement.{statement}
 use Rattle.regularize_pass.proofs.choice_at.Tie as tie
 
 is-free-requires : tie.Need-is-free-requires
-is-free-requires c κs = let s = c .before .before .before .before in let T = s .pre .0 in (T .passing .barring .room, (T .labels≤, (omega (arith, s .pre .1 .0), omega (arith, s .pre .1 .1))))
+is-free-requires c κs = let s = c .before .before .before .before in let T = s .pre .0 in (T .holds .map .work, (T .labels≤, (omega (arith, s .pre .1 .0), omega (arith, s .pre .1 .1))))
 
 returns : tie.Need-returns
 returns c = let s = c .before .before .before .before .before .before in let a = s .args in choice-barred (s .pre .0) (a .c) (a .d) _ (c .before .is-free .ensures) (not-true _ (c .if1 .taken))

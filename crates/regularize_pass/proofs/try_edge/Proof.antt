@@ -2,12 +2,13 @@
 use borrow.Author.Needs.{needs}
 use borrow.Author.Tests.{not-true, not-false}
 use mathlib.Core.Path.{sym, _∙_}
-use Rattle.regularize_pass.proofs.Sweeps.{pair-below, no-pair, a-pair}
+use Rattle.edges.proofs.Walk.{pair-next}
+use Rattle.regularize_pass.proofs.Sweeps.{no-pair, a-pair}
 use Rattle.regularize_pass.proofs.try_edge.Statement.{statement}
 use Rattle.regularize_pass.proofs.try_edge.Tie as tie
 
 is-pair-requires : tie.Need-is-pair-requires
-is-pair-requires c κs = let s = c .before .before .before .before .before in let T = s .pre .0 in (T .passing .map, (T .passing .barring .room, s .pre .1 .0))
+is-pair-requires c κs = let s = c .before .before .before .before .before in let T = s .pre .0 in (T .holds .map, s .pre .1 .0)
 
 same-length : tie.Need-same-length
 same-length c = search needs
@@ -16,7 +17,7 @@ returns : tie.Need-returns
 returns c = let s = c .before .before .before .before .before .before .before in no-pair (s .pre .0) (s .args .i) (s .args .count) _ (c .before .is-pair .ensures) (not-true _ (c .if1 .taken))
 
 edge-corner-requires : tie.Need-edge-corner-requires
-edge-corner-requires c κs = let s = c .before .before .before .before .before .before .before .before in let T = s .pre .0 in (T .passing .map, (T .passing .barring .room, s .pre .1 .0))
+edge-corner-requires c κs = let s = c .before .before .before .before .before .before .before .before in let T = s .pre .0 in (T .holds .map, s .pre .1 .0)
 
 add-edge-corner : tie.Need-add-edge-corner
 add-edge-corner c = search needs
@@ -24,7 +25,7 @@ add-edge-corner c = search needs
 edge-corner-requires-2 : tie.Need-edge-corner-requires-2
 edge-corner-requires-2 c κs = let s = c .before .before .before .before .before .before .before .before .before .before in
     let T = s .pre .0 in
-    (T .passing .map, (T .passing .barring .room, pair-below _ _ _ (s .args .i) (sym (c .before .before .before .before .is-pair .ensures) ∙ not-false _ (c .before .before .before .if1 .left))))
+    (T .holds .map, pair-next _ _ _ (s .args .i) (sym (c .before .before .before .before .is-pair .ensures) ∙ not-false _ (c .before .before .before .if1 .left)))
 
 try-pair-requires : tie.Need-try-pair-requires
 try-pair-requires c κs = let s = c .before .before .before .before .before .before .before .before .before .before .before .before .before in (s .pre .0, (c .before .before .before .before .edge-corner .ensures .1, (c .before .before .edge-corner2 .ensures .1, s .pre .1 .1)))

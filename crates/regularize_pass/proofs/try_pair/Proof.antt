@@ -29,7 +29,7 @@ make-swap-requires : tie.Need-make-swap-requires
 make-swap-requires c κs = let s = c .before .before .before .before .before .before .before .before .before .before .before .before in
     let a = s .args in
     let X = swappable (s .pre .0) (a .c) (a .d) (a .count) (s .pre .1 .0) (s .pre .1 .1 .0) _ (c .before .before .before .before .before .choice-at .ensures) (c .before .before .before .before .if1 .left) in
-    (s .pre .0 .passing, rw (c .before .before .six-at .ensures) X)
+    (s .pre .0 .holds, rw (c .before .before .six-at .ensures) X)
 
 add-result : tie.Need-add-result
 add-result c = omega (arith, c .before .before .before .before .before .before .before .before .before .before .before .before .before .before .before .before .before .pre .1 .1 .1)

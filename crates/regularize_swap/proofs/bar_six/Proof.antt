@@ -1,8 +1,8 @@
 -- `regularize_swap::bar_six` meets its contract. Assumes nothing.
 use native.Mathlib.Omega.{arith}
 use borrow.Author.Needs.{needs}
-use Rattle.regularize_swap.specs.Swapped.{usesThree, usesSix}
-use Rattle.regularize_swap.proofs.Bars.{Marked, barring-kept, marked-then, marked-as}
+use Rattle.regularize_swap.specs.Steps.{usesThree, usesSix}
+use Rattle.regularize_swap.proofs.Bars.{Marked, marks-kept, marked-then, marked-as}
 use Rattle.regularize_swap.proofs.bar_six.Statement.{statement}
 use Rattle.regularize_swap.proofs.bar_six.Tie as tie
 
@@ -10,7 +10,7 @@ bar-three-requires : tie.Need-bar-three-requires
 bar-three-requires c κs = let B = c .before .before .pre .1 in (c .before .before .pre .0, (omega arith, omega arith, omega arith))
 
 bar-three-requires-2 : tie.Need-bar-three-requires-2
-bar-three-requires-2 c κs = let B = c .before .before .before .before .before .before .pre .1 in (barring-kept (c .before .before .before .before .before .before .pre .0) (c .before .before .before .bar-three .ensures .1), (omega arith, omega arith, omega arith))
+bar-three-requires-2 c κs = let B = c .before .before .before .before .before .before .pre .1 in (marks-kept (c .before .before .before .before .before .before .pre .0) (c .before .before .before .bar-three .ensures .1), (omega arith, omega arith, omega arith))
 
 same-length : tie.Need-same-length
 same-length c = search needs

@@ -1,7 +1,7 @@
 -- `regularize_swap::bar_three` meets its contract. Assumes nothing.
 use borrow.Author.Needs.{needs}
 use Rattle.rule_sheet.specs.Quads.{uses}
-use Rattle.regularize_swap.proofs.Bars.{Marked, barring-kept, marked-then}
+use Rattle.regularize_swap.proofs.Bars.{Marked, marks-kept, marked-then}
 use Rattle.regularize_swap.proofs.bar_three.Statement.{statement}
 use Rattle.regularize_swap.proofs.bar_three.Tie as tie
 
@@ -9,10 +9,10 @@ bar-point-requires : tie.Need-bar-point-requires
 bar-point-requires c κs = (c .before .before .pre .0, c .before .before .pre .1 .0)
 
 bar-point-requires-2 : tie.Need-bar-point-requires-2
-bar-point-requires-2 c κs = (barring-kept (c .before .before .before .before .before .before .pre .0) (c .before .before .before .bar-point .ensures .1), c .before .before .before .before .before .before .pre .1 .1)
+bar-point-requires-2 c κs = (marks-kept (c .before .before .before .before .before .before .pre .0) (c .before .before .before .bar-point .ensures .1), c .before .before .before .before .before .before .pre .1 .1)
 
 bar-point-requires-3 : tie.Need-bar-point-requires-3
-bar-point-requires-3 c κs = (barring-kept (barring-kept (c .before .before .before .before .before .before .before .before .before .before .pre .0) (c .before .before .before .before .before .before .before .bar-point .ensures .1)) (c .before .before .before .bar-point2 .ensures .1), c .before .before .before .before .before .before .before .before .before .before .pre .1 .2)
+bar-point-requires-3 c κs = (marks-kept (marks-kept (c .before .before .before .before .before .before .before .before .before .before .pre .0) (c .before .before .before .before .before .before .before .bar-point .ensures .1)) (c .before .before .before .bar-point2 .ensures .1), c .before .before .before .before .before .before .before .before .before .before .pre .1 .2)
 
 same-length : tie.Need-same-length
 same-length c = search needs

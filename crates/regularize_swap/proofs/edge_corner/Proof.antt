@@ -17,7 +17,7 @@ at-requires : tie.Need-at-requires
 at-requires c κs = search needs
 
 returns : tie.Need-returns
-returns c = let s = c .before .before in corner-told (s .args .i) _ (s .pre .0) (s .pre .1 .1) (c .at .ensures)
+returns c = let s = c .before .before in corner-told (s .args .i) _ (s .pre .0) (s .pre .1) (c .at .ensures)
 
 pub edge-corner-spec : {M : Type 1} → statement M
 edge-corner-spec = tie.close (tie.spec add-at mul-at add-at-2 at-requires returns)

@@ -9,7 +9,7 @@ turned-by-requires : tie.Need-turned-by-requires
 turned-by-requires c κs = search needs
 
 valence-sum-requires : tie.Need-valence-sum-requires
-valence-sum-requires c κs = let s = c .before .before in let E = ends-below (s .args .k) _ (s .pre .1 .1 .0) (c .turned-by .ensures) in (s .pre .1 .0, (E .0, E .1))
+valence-sum-requires c κs = let s = c .before .before in let E = ends-below (s .args .k) _ (s .pre .1 .0) (c .turned-by .ensures) in (s .pre .0 .work, (E .0, E .1))
 
 add-after : tie.Need-add-after
 add-after c = search needs
@@ -24,20 +24,8 @@ returns : tie.Need-returns
 returns c = let a = c .before .before .before .before .before .args in
     open-no (a .np) (a .nq) (a .w .now) (a .h) (a .k) _ (c .before .before .before .turned-by .ensures) _ _ (c .before .before .valence-sum .ensures .0) (c .before .valence-sum2 .ensures .0) (a .least) (c .if1 .taken)
 
-add-n : tie.Need-add-n
-add-n c = search needs
-
-mul-is-edge : tie.Need-mul-is-edge
-mul-is-edge c = search needs
-
-mul-is-edge-2 : tie.Need-mul-is-edge-2
-mul-is-edge-2 c = search needs
-
-mul-is-edge-3 : tie.Need-mul-is-edge-3
-mul-is-edge-3 c = search needs
-
 is-edge-requires : tie.Need-is-edge-requires
-is-edge-requires c κs = let s = c .before .before .before .before .before in let E = ends-below (s .args .k) _ (s .pre .1 .1 .0) (c .before .before .before .turned-by .ensures) in (s .pre .0, (omega (arith, E .0, E .1), omega (arith, E .0, E .1)))
+is-edge-requires c κs = let s = c .before .before .before .before .before in let E = ends-below (s .args .k) _ (s .pre .1 .0) (c .before .before .before .turned-by .ensures) in (s .pre .0, (omega (arith, E .0, E .1), omega (arith, E .0, E .1)))
 
 returns-2 : tie.Need-returns-2
 returns-2 c = let a = c .before .before .before .before .before .before .args in
@@ -53,9 +41,5 @@ is-open-spec =
     add-after-2
     valence-sum-requires-2
     returns
-    add-n
-    mul-is-edge
-    mul-is-edge-2
-    mul-is-edge-3
     is-edge-requires
     returns-2)

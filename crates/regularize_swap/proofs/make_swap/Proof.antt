@@ -1,6 +1,6 @@
 -- `regularize_swap::make_swap` meets its contract. Assumes nothing.
 use borrow.Author.Needs.{needs}
-use Rattle.regularize_swap.proofs.Made.{put-ready, move-ready, barring-moved, swap-done}
+use Rattle.regularize_swap.proofs.Made.{put-ready, move-ready, map-moved, swap-done}
 use Rattle.regularize_swap.proofs.make_swap.Statement.{statement}
 use Rattle.regularize_swap.proofs.make_swap.Tie as tie
 
@@ -20,7 +20,7 @@ move-valences-requires : tie.Need-move-valences-requires
 move-valences-requires c κs = let s = c .before .before .before .before .before .before .before .before in move-ready (s .pre .0) (s .pre .1) (s .args .k) _ (c .before .before .before .before .before .turned-by .ensures)
 
 bar-six-requires : tie.Need-bar-six-requires
-bar-six-requires c κs = let s = c .before .before .before .before .before .before .before .before .before .before .before .before in (barring-moved (s .pre .0) (s .pre .1) (c .before .before .before .move-valences .ensures .1), s .pre .1 .below)
+bar-six-requires c κs = let s = c .before .before .before .before .before .before .before .before .before .before .before .before in (map-moved (s .pre .0) (s .pre .1) (c .before .before .before .move-valences .ensures .1), s .pre .1 .below)
 
 same-length : tie.Need-same-length
 same-length c = search needs

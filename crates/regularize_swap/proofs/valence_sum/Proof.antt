@@ -3,7 +3,7 @@ use native.Mathlib.Omega.{arith}
 use borrow.Author.Needs.{needs}
 use mathlib.Core.Path.{ap₂}
 use Prim.Native.Nat.{_+_}
-use Rattle.regularize_swap.specs.Slices.{valencesAt}
+use Rattle.pass_map.specs.Regions.{valencesAt}
 use Rattle.regularize_swap.proofs.valence_sum.Statement.{statement}
 use Rattle.regularize_swap.proofs.valence_sum.Tie as tie
 

@@ -1,7 +1,7 @@
 -- `subdivide_points::is_paired` meets its contract. Assumes nothing.
 use borrow.Author.Needs.{needs}
 use mathlib.Core.Path.{sym}
-use Rattle.quality_counts.specs.Census.{edgeCounts}
+use Rattle.edges.specs.Steps.{edgeCounts}
 use Rattle.subdivide_points.proofs.EdgeList.{paired-counts}
 use Rattle.subdivide_points.proofs.is_paired.Statement.{statement}
 use Rattle.subdivide_points.proofs.is_paired.Tie as tie
