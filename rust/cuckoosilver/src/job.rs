@@ -5,7 +5,7 @@ use crate::picture::{self, View};
 use crate::ply;
 use crate::problem::Problem;
 use crate::step::{Action, Step};
-use quads::{Quality, Sheet};
+use quads::{Counts, Quality, Sheet};
 use std::fmt::Arguments;
 use std::fs;
 use std::io::Write;
@@ -102,7 +102,7 @@ impl<'a> Job<'a> {
             Action::Picture(file) => return self.picture(file),
             _ => {}
         }
-        let [points, quads, _] = self.sheet.counts();
+        let Counts { points, quads, .. } = self.sheet.counts();
         Ok(format!("{counted}{points} points, {quads} quads"))
     }
 
