@@ -5,7 +5,7 @@ use std::{env, process};
 fn main() {
     let here = PathBuf::from(env::var_os("CARGO_MANIFEST_DIR").unwrap_or_default());
     let folder = here.join("../../target/staticlib");
-    let archive = folder.join("libleaves.a");
+    let archive = folder.join("libexport_leaves.a");
     if !archive.is_file() {
         println!("cargo::error=no {}: run `rt staticlib export_leaves` at the project's root first", archive.display());
         process::exit(1);

@@ -6,6 +6,9 @@ use std::{env, fs, process};
 /// The folder that holds crates/meshers-core/src, where QUADS_SOURCE names no other.
 const DEFAULT_SOURCE: &str = "../shared/docs/src";
 
+/// What stands before each part of the original: it is taken as it is.
+const AS_IT_IS: &str = "#[allow(missing_docs, clippy::all, reason = \"the original is taken as it is\")]\n";
+
 /// Ends the build with a message that says what is missing.
 fn stop(message: &str) -> ! {
     println!("cargo::error={message}");
@@ -62,11 +65,14 @@ fn main() {
     let implicit = text_of(&file("implicit.rs"));
     let mut out = String::new();
     for start in ["pub type Point", "pub fn sub(", "pub fn dot(", "pub fn cross(", "pub fn norm("] {
+        out.push_str(AS_IT_IS);
         out.push_str(&item(&lib, start));
     }
-    out.push_str(&format!("#[path = {:?}]\nmod error;\n", file("error.rs")));
-    out.push_str(&format!("#[path = {:?}]\npub mod quads;\n", file("quads.rs")));
-    out.push_str("/// The trait that a field implements.\npub mod implicit {\nuse crate::Point;\n");
+    out.push_str(&format!("{AS_IT_IS}#[path = {:?}]\nmod error;\n", file("error.rs")));
+    out.push_str(&format!("{AS_IT_IS}#[path = {:?}]\npub mod quads;\n", file("quads.rs")));
+    out.push_str(&format!(
+        "/// The trait that a field implements.\n{AS_IT_IS}pub mod implicit {{\nuse crate::Point;\n"
+    ));
     out.push_str(&item(&implicit, "pub trait ScalarField"));
     out.push_str("}\n");
     let original = variable("OUT_DIR").join("original.rs");

@@ -1,82 +1,49 @@
 //! The exports of the static library `export_leaves`, and its answer to a call.
 use oracle::Point;
-use oracle::call::{Answer, Call, Operation};
+use oracle::call::{Answer, Call};
+use oracle::operation::Operation;
 use oracle::quads::QuadMesh;
 
-// A slice passes as its pointer and its length.
+/// Declares an export and calls it. Each group of arguments in turn adds its own types and values to the two lists, a
+/// slice as its pointer and its length.
+macro_rules! leaf {
+    ($name:ident -> $answer:ty, $($groups:tt)*) => { leaf!($name -> $answer; [] [] $($groups)*) };
+    ($name:ident -> $answer:ty; [$($kind:ty),*] [$($value:ident)*]) => {{
+        unsafe extern "C" {
+            fn $name($(_: $kind),*) -> $answer;
+        }
+        // SAFETY: each pointer goes with the length of its slice, and no slice that is written overlaps another.
+        unsafe { $name($($value),*) }
+    }};
+    ($name:ident -> $answer:ty; [$($kind:ty),*] [$($value:ident)*] number $t:ty: $n:expr; $($rest:tt)*) => {{
+        let number = $n;
+        leaf!($name -> $answer; [$($kind,)* $t] [$($value)* number] $($rest)*)
+    }};
+    ($name:ident -> $answer:ty; [$($kind:ty),*] [$($value:ident)*] reads $t:ty: $s:expr; $($rest:tt)*) => {{
+        let (length, pointer) = ($s.len(), $s.as_ptr());
+        leaf!($name -> $answer; [$($kind,)* *const $t, usize] [$($value)* pointer length] $($rest)*)
+    }};
+    ($name:ident -> $answer:ty; [$($kind:ty),*] [$($value:ident)*] writes $t:ty: $s:expr; $($rest:tt)*) => {{
+        let (length, pointer) = ($s.len(), $s.as_mut_ptr());
+        leaf!($name -> $answer; [$($kind,)* *mut $t, usize] [$($value)* pointer length] $($rest)*)
+    }};
+    ($name:ident -> $answer:ty; [$($kind:ty),*] [$($value:ident)*] field $b:ident; $($rest:tt)*) => {
+        leaf!($name -> $answer; [$($kind),*] [$($value)*] number u32: $b.kind; reads f64: $b.numbers; $($rest)*)
+    };
+    ($name:ident -> $answer:ty; [$($kind:ty),*] [$($value:ident)*] band $b:ident; $($rest:tt)*) => {
+        leaf!($name -> $answer; [$($kind),*] [$($value)*] field $b; reads f64: $b.bounds; levels $b; $($rest)*)
+    };
+    ($name:ident -> $answer:ty; [$($kind:ty),*] [$($value:ident)*] levels $b:ident; $($rest:tt)*) => {
+        leaf!($name -> $answer; [$($kind),*] [$($value)*] number f64: $b.lower; number f64: $b.upper; $($rest)*)
+    };
+    ($name:ident -> $answer:ty; [$($kind:ty),*] [$($value:ident)*] point $p:expr; $($rest:tt)*) => {{
+        let [x, y, z] = $p;
+        leaf!($name -> $answer; [$($kind,)* f64, f64, f64] [$($value)* x y z] $($rest)*)
+    }};
+}
+
 unsafe extern "C" {
     safe fn leaf_sqrt(x: f64) -> f64;
-    fn leaf_value(kind: u32, numbers: *const f64, numbers_len: usize, x: f64, y: f64, z: f64) -> f64;
-    fn leaf_gradient(
-        kind: u32,
-        numbers: *const f64,
-        numbers_len: usize,
-        bounds: *const f64,
-        bounds_len: usize,
-        lower: f64,
-        upper: f64,
-        x: f64,
-        y: f64,
-        z: f64,
-        out: *mut f64,
-        out_len: usize,
-    ) -> u32;
-    fn leaf_normal(
-        kind: u32,
-        numbers: *const f64,
-        numbers_len: usize,
-        bounds: *const f64,
-        bounds_len: usize,
-        lower: f64,
-        upper: f64,
-        x: f64,
-        y: f64,
-        z: f64,
-        label: u8,
-        out: *mut f64,
-        out_len: usize,
-    ) -> u32;
-    fn leaf_project(
-        kind: u32,
-        numbers: *const f64,
-        numbers_len: usize,
-        bounds: *const f64,
-        bounds_len: usize,
-        lower: f64,
-        upper: f64,
-        x: f64,
-        y: f64,
-        z: f64,
-        mask: u8,
-        out: *mut f64,
-        out_len: usize,
-    ) -> u32;
-    fn leaf_validate(
-        kind: u32,
-        numbers: *const f64,
-        numbers_len: usize,
-        bounds: *const f64,
-        bounds_len: usize,
-        lower: f64,
-        upper: f64,
-    ) -> u32;
-    fn leaf_constraints(
-        points: *const f64,
-        points_len: usize,
-        quads: *const u32,
-        quads_len: usize,
-        labels: *const u8,
-        labels_len: usize,
-        kind: u32,
-        numbers: *const f64,
-        numbers_len: usize,
-        bounds: *const f64,
-        bounds_len: usize,
-        lower: f64,
-        upper: f64,
-        masks: *mut u32,
-        masks_len: usize,
-    ) -> u32;
 }
 
 /// The library's root.
@@ -113,112 +80,36 @@ impl Lent {
 
     /// The value of the field.
     fn value(&self) -> f64 {
-        let [x, y, z] = self.point;
-        // SAFETY: the pointer and the length are of one array.
-        unsafe { leaf_value(self.kind, self.numbers.as_ptr(), self.numbers.len(), x, y, z) }
+        leaf!(leaf_value -> f64, field self; point self.point;)
     }
 
     /// The gradient, written to `out`; the number.
     fn gradient(&self, out: &mut Point) -> u32 {
-        let (n, b, [x, y, z]) = (&self.numbers, &self.bounds, self.point);
-        // SAFETY: each pointer and the length after it are of one array, and only `out` is written.
-        unsafe {
-            leaf_gradient(
-                self.kind,
-                n.as_ptr(),
-                n.len(),
-                b.as_ptr(),
-                b.len(),
-                self.lower,
-                self.upper,
-                x,
-                y,
-                z,
-                out.as_mut_ptr(),
-                out.len(),
-            )
-        }
+        leaf!(leaf_gradient -> u32, band self; point self.point; writes f64: out;)
     }
 
     /// The normal, written to `out`; the number.
     fn normal(&self, out: &mut Point) -> u32 {
-        let (n, b, [x, y, z]) = (&self.numbers, &self.bounds, self.point);
-        // SAFETY: each pointer and the length after it are of one array, and only `out` is written.
-        unsafe {
-            leaf_normal(
-                self.kind,
-                n.as_ptr(),
-                n.len(),
-                b.as_ptr(),
-                b.len(),
-                self.lower,
-                self.upper,
-                x,
-                y,
-                z,
-                self.byte,
-                out.as_mut_ptr(),
-                out.len(),
-            )
-        }
+        leaf!(leaf_normal -> u32, band self; point self.point; number u8: self.byte; writes f64: out;)
     }
 
     /// The projection, written to `out`; the number.
     fn project(&self, out: &mut Point) -> u32 {
-        let (n, b, [x, y, z]) = (&self.numbers, &self.bounds, self.point);
-        // SAFETY: each pointer and the length after it are of one array, and only `out` is written.
-        unsafe {
-            leaf_project(
-                self.kind,
-                n.as_ptr(),
-                n.len(),
-                b.as_ptr(),
-                b.len(),
-                self.lower,
-                self.upper,
-                x,
-                y,
-                z,
-                self.byte,
-                out.as_mut_ptr(),
-                out.len(),
-            )
-        }
+        leaf!(leaf_project -> u32, band self; point self.point; number u8: self.byte; writes f64: out;)
     }
 
     /// The tests of the band; the number.
     fn validate(&self) -> u32 {
-        let (n, b) = (&self.numbers, &self.bounds);
-        // SAFETY: each pointer and the length after it are of one array.
-        unsafe { leaf_validate(self.kind, n.as_ptr(), n.len(), b.as_ptr(), b.len(), self.lower, self.upper) }
+        leaf!(leaf_validate -> u32, band self;)
     }
 
     /// The tests of a lent sheet; the number.
     fn constraints(&self, sheet: &QuadMesh) -> u32 {
-        let (n, b) = (&self.numbers, &self.bounds);
         let points = sheet.points.as_flattened();
         let quads: Vec<u32> = sheet.quads.as_flattened().iter().map(|&corner| corner as u32).collect();
         let mut masks = vec![0; sheet.points.len()];
-        // SAFETY: each pointer and the length after it are of one list, and only `masks` is written.
-        unsafe {
-            leaf_constraints(
-                points.as_ptr(),
-                points.len(),
-                quads.as_ptr(),
-                quads.len(),
-                sheet.labels.as_ptr(),
-                sheet.labels.len(),
-                self.kind,
-                n.as_ptr(),
-                n.len(),
-                b.as_ptr(),
-                b.len(),
-                self.lower,
-                self.upper,
-                masks.as_mut_ptr(),
-                masks.len(),
-            )
-        }
+        leaf!(leaf_constraints -> u32,
+            reads f64: points; reads u32: quads; reads u8: sheet.labels; band self; writes u32: masks;)
     }
 }
 

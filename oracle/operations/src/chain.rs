@@ -1,9 +1,11 @@
-//! A sheet that goes through several calls, in both: as the original has it, and in the slices that the library was last lent or wrote.
+//! A sheet that goes through several calls, in both: as the original has it, and in the slices that the library was
+//! last lent or wrote.
 use crate::flat::Flat;
 use crate::library::{self, Lent};
-use oracle::call::{Answer, Call, Operation};
+use oracle::call::{Answer, Call};
 use oracle::driver::Tallies;
 use oracle::field::BandNumbers;
+use oracle::operation::Operation;
 use oracle::quads::QuadMesh;
 use oracle::record;
 
@@ -24,7 +26,8 @@ impl Chain {
         &self.sheet
     }
 
-    /// Calls an operation in both, each on its own sheet so far, and goes on with what it leaves; the answer, or none if the two differ.
+    /// Calls an operation in both, each on its own sheet so far, and goes on with what it leaves; the answer, or none
+    /// if the two differ.
     pub fn ask(
         &mut self,
         operation: Operation,

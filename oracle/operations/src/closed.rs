@@ -1,7 +1,8 @@
 //! What demand 3 says of a closed sheet, looked at while lists of calls run.
 use crate::library;
-use oracle::call::{Call, Operation, TIGHT};
+use oracle::call::{Call, TIGHT};
 use oracle::field::{BandNumbers, Field};
+use oracle::operation::Operation;
 use oracle::quads::QuadMesh;
 use std::collections::BTreeSet;
 
@@ -19,7 +20,8 @@ pub struct Claim {
     squared: u64,
 }
 
-/// Whether `quality` says that every edge has two quads that run opposite ways and that the quads of each point are one ring.
+/// Whether `quality` says that every edge has two quads that run opposite ways and that the quads of each point are
+/// one ring.
 fn is_closed(sheet: &QuadMesh) -> bool {
     let call = Call { operation: Operation::Quality, argument: 0, band: PLAIN, sheet: sheet.clone() };
     library::answer(&call)

@@ -1,8 +1,8 @@
 //! Drawings of sheets, and the rows on each sheet that is drawn.
 use crate::chain::Chain;
-use oracle::call::Operation;
 use oracle::driver::{Tallies, Total};
 use oracle::field::BandNumbers;
+use oracle::operation::Operation;
 use oracle::random::Random;
 use oracle::{drawn, sheets};
 

@@ -1,30 +1,21 @@
 //! Sheets, bands and work as the library is lent them: flat lists with their counts.
 use oracle::field::BandNumbers;
 use oracle::quads::QuadMesh;
-use quads::ffi;
-
-/// The most points, quads or labels of a sheet.
-pub const LIMIT: usize = 1_048_576;
-
-/// The cells that a drawing may have.
-const CELLS: std::ops::RangeInclusive<usize> = 4..=128;
-
-/// The most points, quads and labels of a drawn sheet: four points in a cell, three edges at a grid point, up to the limit.
-pub fn drawn(cells: usize) -> [usize; 3] {
-    if !CELLS.contains(&cells) {
-        return [1; 3];
-    }
-    let cube = (cells + 2).pow(3);
-    [4 * cube, 3 * cube, 3 * cube].map(|n| n.min(LIMIT))
-}
+use quads::Counts;
+use quads::ffi::{BandRef, SheetMut, SheetOut, SheetRef, WorkMut};
+use quads::sizes::WorkSize;
 
 /// A sheet in flat lists, with its counts.
 #[derive(Clone)]
 pub struct Flat {
+    /// Three coordinates a point.
     pub points: Vec<f64>,
+    /// Four point numbers a quad.
     pub quads: Vec<u32>,
+    /// One label a quad.
     pub labels: Vec<u8>,
-    pub counts: [usize; 3],
+    /// The points, quads and labels of the sheet.
+    pub counts: Counts,
 }
 
 impl Flat {
@@ -34,7 +25,7 @@ impl Flat {
             points: sheet.points.as_flattened().to_vec(),
             quads: sheet.quads.as_flattened().iter().map(|&corner| corner as u32).collect(),
             labels: sheet.labels.clone(),
-            counts: [sheet.points.len(), sheet.quads.len(), sheet.labels.len()],
+            counts: Counts { points: sheet.points.len(), quads: sheet.quads.len(), labels: sheet.labels.len() },
         }
     }
 
@@ -48,14 +39,13 @@ impl Flat {
     }
 
     /// Room for a sheet of these counts, filled with what must be overwritten.
-    pub fn room(counts: [usize; 3]) -> Flat {
-        let [points, quads, labels] = counts;
+    pub fn room(counts: Counts) -> Flat {
+        let Counts { points, quads, labels } = counts;
         Flat { points: vec![f64::NAN; 3 * points], quads: vec![u32::MAX; 4 * quads], labels: vec![255; labels], counts }
     }
 
     /// The sheet of these counts, if all behind it is zero.
-    pub fn sheet(&self, counts: [usize; 3]) -> Option<QuadMesh> {
-        let [points, quads, labels] = counts;
+    pub fn sheet(&self, Counts { points, quads, labels }: Counts) -> Option<QuadMesh> {
         let (p, behind_p) = self.points.split_at_checked(3 * points)?;
         let (q, behind_q) = self.quads.split_at_checked(4 * quads)?;
         let (l, behind_l) = self.labels.split_at_checked(labels)?;
@@ -70,18 +60,18 @@ impl Flat {
     }
 
     /// The sheet as one that is read.
-    pub fn read(&self) -> ffi::Read<'_> {
-        ffi::Read { points: &self.points, quads: &self.quads, labels: &self.labels, counts: self.counts }
+    pub fn as_sheet_ref(&self) -> SheetRef<'_> {
+        SheetRef { points: &self.points, quads: &self.quads, labels: &self.labels, counts: self.counts }
     }
 
     /// The sheet as one that is altered in its own lists.
-    pub fn altered(&mut self) -> ffi::Altered<'_> {
-        ffi::Altered { points: &mut self.points, quads: &mut self.quads, labels: &mut self.labels, counts: self.counts }
+    pub fn as_sheet_mut(&mut self) -> SheetMut<'_> {
+        SheetMut { points: &mut self.points, quads: &mut self.quads, labels: &mut self.labels, counts: self.counts }
     }
 
     /// The lists as room for a sheet that is made.
-    pub fn written(&mut self) -> ffi::Written<'_> {
-        ffi::Written { points: &mut self.points, quads: &mut self.quads, labels: &mut self.labels }
+    pub fn as_sheet_out(&mut self) -> SheetOut<'_> {
+        SheetOut { points: &mut self.points, quads: &mut self.quads, labels: &mut self.labels }
     }
 
     /// Whether all lists are, bit for bit, those of another.
@@ -93,55 +83,50 @@ impl Flat {
 
 /// A band's numbers in flat lists.
 pub struct FlatBand {
-    pub kind: u32,
-    pub numbers: [f64; 10],
-    pub bounds: [f64; 6],
-    pub lower: f64,
-    pub upper: f64,
+    kind: u32,
+    numbers: [f64; 10],
+    bounds: [f64; 6],
+    lower: f64,
+    upper: f64,
 }
 
-impl FlatBand {
-    pub fn of(band: &BandNumbers) -> FlatBand {
-        let [low, high] = band.bounds;
+impl From<&BandNumbers> for FlatBand {
+    fn from(band: &BandNumbers) -> FlatBand {
+        let ([[x, y, z], [high_x, high_y, high_z]], [lower, upper]) = (band.bounds, band.levels);
         FlatBand {
             kind: u32::from(band.field.kind()),
             numbers: band.field.numbers(),
-            bounds: [low[0], low[1], low[2], high[0], high[1], high[2]],
-            lower: band.levels[0],
-            upper: band.levels[1],
+            bounds: [x, y, z, high_x, high_y, high_z],
+            lower,
+            upper,
         }
-    }
-
-    /// The band as it is given.
-    pub fn given(&self) -> ffi::Given<'_> {
-        let FlatBand { kind, numbers, bounds, lower, upper } = self;
-        ffi::Given { kind: *kind, numbers, bounds, lower: *lower, upper: *upper }
     }
 }
 
-/// The two work slices of a lent sheet, filled with what must be cleared.
+impl FlatBand {
+    /// The band as it is given.
+    pub fn as_band_ref(&self) -> BandRef<'_> {
+        BandRef { kind: self.kind, numbers: &self.numbers, bounds: &self.bounds, lower: self.lower, upper: self.upper }
+    }
+}
+
+/// The two work slices, filled with what must be cleared.
 pub struct Work {
-    pub wholes: Vec<u32>,
-    pub floats: Vec<f64>,
+    wholes: Vec<u32>,
+    floats: Vec<f64>,
+}
+
+impl From<WorkSize> for Work {
+    /// What is asked and no more, but something to clear where nothing is.
+    fn from(size: WorkSize) -> Work {
+        Work { wholes: vec![u32::MAX; size.wholes.max(1)], floats: vec![f64::NAN; size.floats.max(1)] }
+    }
 }
 
 impl Work {
-    /// What document 01 asks for a sheet of these counts.
-    pub fn of([points, quads, _]: [usize; 3]) -> Work {
-        let n = points + quads;
-        Work { wholes: vec![u32::MAX; 64 * n], floats: vec![f64::NAN; 16 * n] }
-    }
-
-    /// What it asks for a drawing of this many cells; next to nothing where so many are not allowed.
-    pub fn drawing(cells: usize) -> Work {
-        let [wholes, floats] =
-            if CELLS.contains(&cells) { [12 * (cells + 2).pow(3), (cells + 3).pow(3)] } else { [1, 1] };
-        Work { wholes: vec![u32::MAX; wholes], floats: vec![f64::NAN; floats] }
-    }
-
     /// Both as they are lent.
-    pub fn lent(&mut self) -> ffi::Work<'_> {
-        ffi::Work { wholes: &mut self.wholes, floats: &mut self.floats }
+    pub fn as_work_mut(&mut self) -> WorkMut<'_> {
+        WorkMut { wholes: &mut self.wholes, floats: &mut self.floats }
     }
 
     /// Whether both are zero.

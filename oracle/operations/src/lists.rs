@@ -1,9 +1,11 @@
-//! Lists of 2 to 8 random calls: each call takes the sheet that the one before it left. Where a list starts from a closed sheet, demand 3 is looked at too.
+//! Lists of 2 to 8 random calls: each call takes the sheet that the one before it left. Where a list starts from a
+//! closed sheet, demand 3 is looked at too.
 use crate::chain::Chain;
 use crate::closed::Claim;
-use oracle::call::{Answer, Operation};
+use oracle::call::Answer;
 use oracle::driver::{Tallies, Total};
 use oracle::field::BandNumbers;
+use oracle::operation::Operation;
 use oracle::quads::QuadMesh;
 use oracle::random::Random;
 use oracle::{bands, drawn, sheets};
@@ -74,7 +76,8 @@ fn swaps(operation: Operation, answer: &Answer) -> u64 {
     if operation == Operation::Regularize { answer.count } else { 0 }
 }
 
-/// Calls the next operation; whether the two agree and the claim of a closed sheet is kept. What another operation makes is a new start.
+/// Calls the next operation; whether the two agree and the claim of a closed sheet is kept. What another operation
+/// makes is a new start.
 fn step(r: &mut Random, band: &BandNumbers, chain: &mut Chain, claim: &mut Option<Claim>, seen: &mut Seen) -> bool {
     let operation = next(r, chain.sheet());
     let passes = r.pick(&PASSES);

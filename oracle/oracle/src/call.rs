@@ -1,60 +1,9 @@
 //! A call of an operation, and what the original answers.
 use crate::field::{BandNumbers, Field};
 use crate::implicit::ScalarField;
+use crate::operation::Operation;
 use crate::quads::{self, Band, QuadMesh, Quality};
 use crate::{MeshingError, Point, inner, refusal};
-
-/// The operations, by their number in a record.
-#[derive(Clone, Copy, Debug, PartialEq, Eq, PartialOrd, Ord)]
-#[repr(u8)]
-pub enum Operation {
-    Refine = 1,
-    Subdivide = 2,
-    Extract = 3,
-    Regularize = 4,
-    ImproveLayout = 5,
-    Coarsen = 6,
-    Rows = 7,
-    Quality = 8,
-    Project = 9,
-    Value = 10,
-    Gradient = 11,
-    Normal = 12,
-    Sqrt = 13,
-    Constraints = 14,
-    Validate = 15,
-}
-
-/// All operations in the order of their numbers, with their names.
-pub const OPERATIONS: [(Operation, &str); 15] = [
-    (Operation::Refine, "refine"),
-    (Operation::Subdivide, "subdivide"),
-    (Operation::Extract, "extract_candidate"),
-    (Operation::Regularize, "regularize"),
-    (Operation::ImproveLayout, "improve_layout"),
-    (Operation::Coarsen, "coarsen"),
-    (Operation::Rows, "boundary_rows"),
-    (Operation::Quality, "quality"),
-    (Operation::Project, "project"),
-    (Operation::Value, "value"),
-    (Operation::Gradient, "gradient"),
-    (Operation::Normal, "normal"),
-    (Operation::Sqrt, "sqrt"),
-    (Operation::Constraints, "constraints"),
-    (Operation::Validate, "validate"),
-];
-
-impl Operation {
-    /// The operation of a number, or none.
-    pub fn of(number: u8) -> Option<Operation> {
-        OPERATIONS.iter().map(|&(operation, _)| operation).find(|&operation| operation as u8 == number)
-    }
-
-    /// The operation's name.
-    pub fn name(self) -> &'static str {
-        OPERATIONS[self as usize - 1].1
-    }
-}
 
 /// The result is a digest of the sheet.
 pub const DIGEST: u8 = 1;
@@ -68,9 +17,11 @@ pub const SCORED: u8 = 8;
 /// What an operation is asked.
 #[derive(Clone, Debug)]
 pub struct Call {
+    /// Which one.
     pub operation: Operation,
     /// Passes, cells, mask or label.
     pub argument: u64,
+    /// The band.
     pub band: BandNumbers,
     /// The lent sheet; operations 9 to 13 take its only point.
     pub sheet: QuadMesh,
@@ -81,11 +32,13 @@ pub struct Call {
 pub struct Answer {
     /// 0, or the number of the refusal.
     pub number: u8,
+    /// What is said by `DIGEST`, `VALID`, `TIGHT` and `SCORED`.
     pub flags: u8,
     /// How many swaps or merges were made.
     pub count: u64,
     /// Points, quads and labels of the result.
     pub counts: [u32; 3],
+    /// The result.
     pub words: Vec<u64>,
 }
 
@@ -229,17 +182,6 @@ pub fn original(call: &Call) -> Answer {
 #[cfg(test)]
 mod tests {
     use super::*;
-
-    #[test]
-    fn an_operation_stands_at_its_number() {
-        for (i, &(operation, name)) in OPERATIONS.iter().enumerate() {
-            assert_eq!(operation as usize, i + 1);
-            assert_eq!(Operation::of(operation as u8), Some(operation));
-            assert_eq!(operation.name(), name);
-        }
-        assert_eq!(Operation::of(0), None);
-        assert_eq!(Operation::of(16), None);
-    }
 
     #[test]
     fn the_words_of_a_sheet_are_little_endian() {

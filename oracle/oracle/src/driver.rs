@@ -1,6 +1,7 @@
 //! Compares an implementation with the original: counts the calls and shows those that differ.
-use crate::call::{Answer, Call, Operation, original};
+use crate::call::{Answer, Call, original};
 use crate::inputs;
+use crate::operation::Operation;
 use crate::random::Random;
 use crate::record::{self, Record};
 use std::collections::BTreeMap;
@@ -18,7 +19,9 @@ const SHOWN: u64 = 5;
 /// How many calls were compared, and how many of them differ.
 #[derive(Clone, Copy, Debug, Default)]
 pub struct Total {
+    /// The calls.
     pub calls: u64,
+    /// Those that differ.
     pub differ: u64,
 }
 

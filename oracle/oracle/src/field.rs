@@ -6,8 +6,11 @@ use crate::quads::Band;
 /// A field with its own numbers.
 #[derive(Clone, Copy, Debug, PartialEq)]
 pub enum Field {
+    /// a·x + b·y + c·z − d.
     Plane([f64; 4]),
+    /// The squared distance from (cx, cy, cz), less r.
     Ball([f64; 4]),
+    /// k0·x·x + k1·y·y + k2·z·z + k3·x·y + k4·y·z + k5·z·x + k6·x + k7·y + k8·z + k9.
     Quadric([f64; 10]),
 }
 
@@ -78,8 +81,11 @@ impl ScalarField for Field {
 /// All the numbers of a band; the original's band borrows its field from here.
 #[derive(Clone, Copy, Debug, PartialEq)]
 pub struct BandNumbers {
+    /// The field.
     pub field: Field,
+    /// The low and the high corner of the box.
     pub bounds: [Point; 2],
+    /// The lower and the upper level.
     pub levels: [f64; 2],
 }
 

@@ -1,5 +1,6 @@
 //! Random calls of an operation.
-use crate::call::{Call, Operation, lone};
+use crate::call::{Call, lone};
+use crate::operation::Operation;
 use crate::random::Random;
 use crate::{bands, drawn, floats, sheets};
 

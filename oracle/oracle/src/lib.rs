@@ -11,6 +11,7 @@ pub mod field;
 pub mod floats;
 pub mod inner;
 pub mod inputs;
+pub mod operation;
 pub mod patches;
 pub mod random;
 pub mod record;

@@ -1,4 +1,5 @@
-//! Plane patches of label 0 in which one edge or one quad has corners of given numbers of quads: the starred swaps and merges of document 01.
+//! Plane patches of label 0 in which one edge or one quad has corners of given numbers of quads: the starred swaps
+//! and merges of document 01.
 use crate::field::{BandNumbers, Field};
 use crate::quads::QuadMesh;
 

@@ -1,6 +1,7 @@
 //! Records of a call and its answer, as docs/ORACLE.md lays them out: little-endian words of 8 bytes, no text.
-use crate::call::{Answer, Call, DIGEST, Operation, sheet_words};
+use crate::call::{Answer, Call, DIGEST, sheet_words};
 use crate::field::{BandNumbers, Field};
+use crate::operation::Operation;
 use crate::quads::QuadMesh;
 
 /// The first word of a file: "QSV1".
@@ -15,7 +16,9 @@ pub const FULL: usize = 512;
 /// A call and its answer.
 #[derive(Clone, Debug)]
 pub struct Record {
+    /// The call.
     pub call: Call,
+    /// What was answered.
     pub answer: Answer,
 }
 
@@ -46,7 +49,7 @@ pub fn encode(record: &Record) -> Vec<u64> {
     let Record { call, answer } = record;
     let lent = sheet_words(&call.sheet, f64::to_bits);
     let bytes = 8 * (HEAD + lent.len() + answer.words.len());
-    let tags = [call.operation as u8, answer.number, answer.flags, call.band.field.kind()];
+    let tags = [call.operation.number(), answer.number, answer.flags, call.band.field.kind()];
     let [points, quads, labels] = answer.counts;
     let sheet = &call.sheet;
     let mut words = vec![pair(bytes as u32, u32::from_le_bytes(tags)), call.argument, answer.count];
@@ -115,7 +118,7 @@ pub fn decode(words: &[u64]) -> Option<Record> {
     let (sheet, result) = sheet_of(body, points, quads, halves(head[4])[0])?;
     let [made_points, made_quads] = halves(head[5]);
     let counts = [made_points, made_quads, halves(head[6])[0]].map(|n| n as u32);
-    let call = Call { operation: Operation::of(operation)?, argument: head[1], band, sheet };
+    let call = Call { operation: Operation::try_from(operation).ok()?, argument: head[1], band, sheet };
     let answer = Answer { number, flags, count: head[2], counts, words: result.to_vec() };
     Some(Record { call, answer })
 }
@@ -152,14 +155,14 @@ pub fn read(bytes: &[u8]) -> Result<Vec<Record>, String> {
 #[cfg(test)]
 mod tests {
     use super::*;
-    use crate::call::{OPERATIONS, original};
+    use crate::call::original;
     use crate::inputs;
     use crate::random::Random;
 
     /// A few records of every operation.
     fn records() -> Vec<Record> {
         let mut r = Random::new(9);
-        let calls = OPERATIONS.iter().flat_map(|&(operation, _)| [operation; 40]);
+        let calls = Operation::all().flat_map(|operation| [operation; 40]);
         let calls: Vec<Call> = calls.map(|operation| inputs::call(&mut r, operation)).collect();
         calls.into_iter().map(|call| Record { answer: shortened(original(&call)), call }).collect()
     }

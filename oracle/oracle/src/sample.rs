@@ -1,7 +1,8 @@
 //! The stored sample: fixed cases first, then random ones of a seed.
 use crate::bands::UNIT;
-use crate::call::{Call, Operation, lone, original};
+use crate::call::{Call, lone, original};
 use crate::field::{BandNumbers, Field};
+use crate::operation::Operation;
 use crate::quads::QuadMesh;
 use crate::random::Random;
 use crate::record::{Record, shortened};
@@ -236,8 +237,8 @@ fn has_room(record: &Record) -> bool {
     points <= 384 && quads <= 256 && (record.call.argument <= 6 || record.answer.number == 3)
 }
 
-/// Drawings: around a shell at cells that the replay has room for or that are refused, of the changed bands, of a field that is no number, of
-/// levels outside the box, then random ones.
+/// Drawings: around a shell at cells that the replay has room for or that are refused, of the changed bands, of a
+/// field that is no number, of levels outside the box, then random ones.
 fn drawings(seed: u64) -> Vec<Record> {
     let mut r = Random::new(seed);
     let operation = Operation::Extract;

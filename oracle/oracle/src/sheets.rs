@@ -67,7 +67,8 @@ fn on_circle(radius: f64, k: usize) -> Point {
     [0.0, 0.5 + radius * cos, 0.5 - radius * sin]
 }
 
-/// One point that n well-shaped quads share, or up to two more; they wind around it, three to a turn, and the rim is open. No swap keeps the shape.
+/// One point that n well-shaped quads share, or up to two more; they wind around it, three to a turn, and the rim is
+/// open. No swap keeps the shape.
 pub fn fan(n: usize) -> QuadMesh {
     let n = n.next_multiple_of(3);
     let rim = (0..2 * n).map(|k| on_circle(0.4, k));
@@ -79,8 +80,8 @@ pub fn fan(n: usize) -> QuadMesh {
     }
 }
 
-/// A fan of n quads, or up to two more, with as many around it: its spokes end in points of four quads, with points of two between them at this
-/// radius. A merge of the first point with any of those would gain.
+/// A fan of n quads, or up to two more, with as many around it: its spokes end in points of four quads, with points
+/// of two between them at this radius. A merge of the first point with any of those would gain.
 fn spoked(n: usize, radius: f64) -> QuadMesh {
     let n = n.next_multiple_of(3);
     let ring = |radius, turn| (0..n).map(move |i| on_circle(radius, 2 * i + turn));
@@ -99,7 +100,8 @@ pub fn wheel(n: usize) -> QuadMesh {
     spoked(n, 0.35)
 }
 
-/// Such a sheet whose quads keep their shape in each of these merges, but for one small quad at the first point, behind all others.
+/// Such a sheet whose quads keep their shape in each of these merges, but for one small quad at the first point,
+/// behind all others.
 pub fn guarded_wheel(n: usize) -> QuadMesh {
     let mut sheet = spoked(n, 0.2);
     let first = sheet.points.len();
@@ -148,7 +150,8 @@ pub fn closed(r: &mut Random) -> QuadMesh {
     sheet
 }
 
-/// The corners around two quads that run opposite ways along edge k of the first: from that edge's start round the second, then round the first.
+/// The corners around two quads that run opposite ways along edge k of the first: from that edge's start round the
+/// second, then round the first.
 fn corners_around(sheet: &QuadMesh, first: usize, k: usize) -> Option<(usize, [usize; 6])> {
     let q = sheet.quads.get(first)?;
     let back = |p: &[usize; 4]| (0..4).find(|&m| [p[m], p[(m + 1) % 4]] == [q[(k + 1) % 4], q[k]]);
@@ -157,7 +160,8 @@ fn corners_around(sheet: &QuadMesh, first: usize, k: usize) -> Option<(usize, [u
     Some((second, [q[k], p[(m + 2) % 4], p[(m + 3) % 4], q[(k + 1) % 4], q[(k + 2) % 4], q[(k + 3) % 4]]))
 }
 
-/// Turns a random edge between two quads of one label, if it has six corners around it; more or fewer quads meet at its ends then.
+/// Turns a random edge between two quads of one label, if it has six corners around it; more or fewer quads meet at
+/// its ends then.
 pub fn turn(r: &mut Random, sheet: &mut QuadMesh) {
     let (first, k) = (r.below(sheet.quads.len().max(1)), r.below(4));
     let Some((second, six)) = corners_around(sheet, first, k) else { return };

@@ -1,7 +1,33 @@
 //! The band as options give it, part by part.
 use crate::problem::Problem;
-use crate::step::{self, Action};
+use crate::words::Words;
 use quads::{Band, Field};
+
+/// A part of a band.
+#[derive(Clone, Copy, Debug, PartialEq)]
+pub enum Part {
+    /// --plane, --ball or --quadric.
+    Field(Field),
+    /// --box.
+    Box([f64; 6]),
+    /// --levels.
+    Levels([f64; 2]),
+}
+
+impl Part {
+    /// The part of a word, with its operands; none for a word that is no part of a band.
+    pub fn parse(word: &str, words: &mut Words) -> Result<Option<Part>, Problem> {
+        let part = match word {
+            "--plane" => words.floats(word).map(|[a, b, c, d]| Part::Field(Field::Plane { a, b, c, d }))?,
+            "--ball" => words.floats(word).map(|[cx, cy, cz, r]| Part::Field(Field::Ball { cx, cy, cz, r }))?,
+            "--quadric" => Part::Field(Field::Quadric(words.floats(word)?)),
+            "--box" => Part::Box(words.floats(word)?),
+            "--levels" => Part::Levels(words.floats(word)?),
+            _ => return Ok(None),
+        };
+        Ok(Some(part))
+    }
+}
 
 /// The parts of a band that have been given.
 #[derive(Clone, Copy, Debug, Default, PartialEq)]
@@ -12,15 +38,13 @@ pub struct Parts {
 }
 
 impl Parts {
-    /// Takes a part from an option; whether it is one.
-    pub fn take(&mut self, action: &Action) -> bool {
-        match *action {
-            Action::Field(field) => self.field = Some(field),
-            Action::Box(bounds) => self.bounds = Some(bounds),
-            Action::Levels(levels) => self.levels = Some(levels),
-            _ => return false,
+    /// Takes a part, in place of the one before.
+    pub fn take(&mut self, part: Part) {
+        match part {
+            Part::Field(field) => self.field = Some(field),
+            Part::Box(bounds) => self.bounds = Some(bounds),
+            Part::Levels(levels) => self.levels = Some(levels),
         }
-        true
     }
 
     /// The parts with those of another where there are none.
@@ -64,12 +88,11 @@ impl Parts {
     }
 
     /// The parts that options give; what is no part of a band is an error.
-    pub fn parse(words: &[String]) -> Result<Parts, Problem> {
-        let mut parts = Parts::default();
-        for step in step::parse(words)? {
-            if !parts.take(&step.action) {
-                return Err(Problem::Usage(format!("{} is no part of a band", step.text)));
-            }
+    pub fn parse(list: &[String]) -> Result<Parts, Problem> {
+        let (mut words, mut parts) = (Words::new(list), Parts::default());
+        while let Some(word) = words.next() {
+            let part = Part::parse(word, &mut words)?;
+            parts.take(part.ok_or_else(|| Problem::Usage(format!("{word} is no part of a band")))?);
         }
         Ok(parts)
     }
@@ -100,6 +123,8 @@ mod tests {
 
     #[test]
     fn a_step_is_no_part_of_a_band() {
-        assert!(parse("draw 8").is_err());
+        for wrong in ["draw 8", "--levels 0 1 --quiet", "--levels 0"] {
+            assert!(parse(wrong).is_err(), "{wrong}");
+        }
     }
 }

@@ -5,6 +5,38 @@ use std::fmt::Display;
 use std::io::Write;
 use std::path::Path;
 
+/// What a step prints of a sheet's quality.
+#[derive(Clone, Copy, Debug, PartialEq)]
+pub enum Report {
+    /// The two-line display.
+    Display,
+    /// The page of counts.
+    Page,
+    /// The whole record.
+    Quality,
+}
+
+impl Report {
+    /// The report of a word; none for a word that prints nothing.
+    pub fn parse(word: &str) -> Option<Report> {
+        match word {
+            "display" => Some(Report::Display),
+            "page" => Some(Report::Page),
+            "quality" => Some(Report::Quality),
+            _ => None,
+        }
+    }
+
+    /// Its text.
+    pub fn text(self, quality: &Quality) -> String {
+        match self {
+            Report::Display => two_lines(quality),
+            Report::Page => page(quality),
+            Report::Quality => record(quality),
+        }
+    }
+}
+
 /// The names on the page, in the record's order.
 const NAMES: [&str; 8] =
     ["quads", "irregular", "boundary", "nonmanifold", "orientation", "links", "duplicates", "invalid"];
@@ -17,7 +49,7 @@ pub fn print(out: &mut dyn Write, text: &str) -> Result<(), Problem> {
 }
 
 /// The two-line display, 20 columns wide: the quads, and the points whose quads are not one ring.
-pub fn two_lines(quality: &Quality) -> String {
+fn two_lines(quality: &Quality) -> String {
     format!("{:<12}{:>8}\n{:<12}{:>8}\n", "quads", quality.quads, "bad points", quality.bad_vertex_links)
 }
 
@@ -27,12 +59,12 @@ fn line(name: &str, value: impl Display) -> String {
 }
 
 /// The page: the eight counts, one a line.
-pub fn page(quality: &Quality) -> String {
+fn page(quality: &Quality) -> String {
     NAMES.iter().zip(quality.counts()).map(|(name, count)| line(name, count)).collect()
 }
 
 /// The whole record, laid out like the page.
-pub fn record(quality: &Quality) -> String {
+fn record(quality: &Quality) -> String {
     let measure = |name: &str, value: f64| line(name, format!("{value:.6}"));
     let answer = |name: &str, value: bool| line(name, if value { "yes" } else { "no" });
     page(quality)

@@ -1,7 +1,7 @@
 //! The embedded example: a core from drawing to display.
 use crate::display::print;
-use crate::job::Job;
-use crate::order::steps;
+use crate::invocation::steps;
+use crate::pipeline::Pipeline;
 use crate::problem::Problem;
 use std::fs;
 use std::io::Write;
@@ -27,6 +27,6 @@ pub fn run(folder: Option<&Path>, out: &mut dyn Write, log: &mut dyn Write) -> R
     } else {
         "\n`cuckoosilver example FOLDER` leaves this sheet and its pictures in a folder.\n".into()
     };
-    Job::new(out, log).run(&steps(&words)?)?;
+    Pipeline::new(out, log).run(&steps(&words)?)?;
     print(out, &last)
 }

@@ -4,16 +4,18 @@ mod band;
 mod display;
 mod example;
 mod help;
-mod job;
+mod invocation;
 mod labels;
-mod order;
+mod operation;
 mod picture;
+mod pipeline;
 mod ply;
 mod problem;
+mod setting;
 mod step;
 mod words;
 
-use order::Order;
+use invocation::Invocation;
 use problem::Problem;
 use std::process::ExitCode;
 
@@ -27,8 +29,8 @@ fn words() -> Result<Vec<String>, Problem> {
 
 /// Reads the command line and does what it says, results on standard output, progress on standard error.
 fn run() -> Result<(), Problem> {
-    let order = Order::parse(&words()?)?;
-    order.run(&mut std::io::stdout().lock(), &mut std::io::stderr())
+    let invocation = Invocation::parse(&words()?)?;
+    invocation.run(&mut std::io::stdout().lock(), &mut std::io::stderr())
 }
 
 fn main() -> ExitCode {

@@ -1,8 +1,9 @@
 //! The steps and options of a command line.
+use crate::display::Report;
+use crate::operation::Operation;
 use crate::problem::Problem;
+use crate::setting::Setting;
 use crate::words::Words;
-use quads::Field;
-use std::path::{Path, PathBuf};
 
 /// A step or an option, as it was written and what it means.
 #[derive(Clone, Debug, PartialEq)]
@@ -13,116 +14,28 @@ pub struct Step {
     pub action: Action,
 }
 
-/// What a step does; an option takes hold for the steps after it.
+/// What a step or an option does.
 #[derive(Clone, Debug, PartialEq)]
 pub enum Action {
-    /// --plane, --ball or --quadric.
-    Field(Field),
-    /// --box.
-    Box([f64; 6]),
-    /// --levels.
-    Levels([f64; 2]),
-    /// --ascii or --binary: how PLY files are written.
-    Ascii(bool),
-    /// --view: where pictures are seen from.
-    View([f64; 3]),
-    /// --size: the side of pictures in pixels.
-    Size(usize),
-    /// --quiet: no progress.
-    Quiet,
-    /// Draws the sheet around the band.
-    Draw(usize),
-    /// Reads a sheet.
-    Read(PathBuf),
-    /// Makes each quad four.
-    Refine,
-    /// Refines, smooths and projects.
-    Subdivide,
-    /// Adds rows along the borders between labels.
-    Rows,
-    /// Swaps edges, in so many passes.
-    Regularize(usize),
-    /// Swaps edges for better shapes too.
-    Improve(usize),
-    /// Merges corners.
-    Coarsen(usize),
-    /// Prints the two-line display.
-    Display,
-    /// Prints the page of counts.
-    Page,
-    /// Prints the whole record.
-    Quality,
-    /// Writes the sheet.
-    Write(PathBuf),
-    /// Draws a picture of the sheet.
-    Picture(PathBuf),
-}
-
-/// The largest side of a picture.
-const LARGEST_SIZE: usize = 4096;
-
-/// A side for pictures.
-fn size(words: &mut Words) -> Result<usize, Problem> {
-    let what = format!("the side of a picture, from 16 to {LARGEST_SIZE}");
-    let size = words.count("--size", &what)?;
-    if (16..=LARGEST_SIZE).contains(&size) { Ok(size) } else { Err(Problem::Usage(format!("--size needs {what}"))) }
-}
-
-/// A file for a picture, by its ending.
-fn picture(words: &mut Words) -> Result<PathBuf, Problem> {
-    let file = Path::new(words.operand("picture", "FILE.svg or FILE.png")?);
-    match file.extension().and_then(|ending| ending.to_str()) {
-        Some("svg" | "png") => Ok(file.into()),
-        _ => Err(Problem::Usage(format!("picture needs FILE.svg or FILE.png, not {}", file.display()))),
-    }
+    /// Sets something for the steps after it.
+    Set(Setting),
+    /// Prints something of the sheet.
+    Print(Report),
+    /// Works on the sheet, or on a file.
+    Run(Operation),
 }
 
 impl Action {
     /// The action of a word, with its operands.
     fn parse(word: &str, words: &mut Words) -> Result<Action, Problem> {
-        let action = match word {
-            "--plane" => words.floats(word).map(|[a, b, c, d]| Action::Field(Field::Plane { a, b, c, d }))?,
-            "--ball" => words.floats(word).map(|[cx, cy, cz, r]| Action::Field(Field::Ball { cx, cy, cz, r }))?,
-            "--quadric" => Action::Field(Field::Quadric(words.floats(word)?)),
-            "--box" => Action::Box(words.floats(word)?),
-            "--levels" => Action::Levels(words.floats(word)?),
-            "--ascii" => Action::Ascii(true),
-            "--binary" => Action::Ascii(false),
-            "--view" => Action::View(words.floats(word)?),
-            "--size" => Action::Size(size(words)?),
-            "--quiet" => Action::Quiet,
-            "draw" => Action::Draw(words.count(word, "CELLS")?),
-            "read" => Action::Read(words.operand(word, "FILE.ply")?.into()),
-            "refine" => Action::Refine,
-            "subdivide" => Action::Subdivide,
-            "rows" => Action::Rows,
-            "regularize" => Action::Regularize(words.count_or(1)),
-            "improve" => Action::Improve(words.count_or(1)),
-            "coarsen" => Action::Coarsen(words.count_or(1)),
-            "display" => Action::Display,
-            "page" => Action::Page,
-            "quality" => Action::Quality,
-            "write" => Action::Write(words.operand(word, "FILE.ply")?.into()),
-            "picture" => Action::Picture(picture(words)?),
-            _ => return Err(Problem::Usage(format!("{word} is no step and no option"))),
-        };
-        Ok(action)
-    }
-
-    /// Whether it brings a sheet.
-    pub fn brings_sheet(&self) -> bool {
-        matches!(self, Action::Draw(_) | Action::Read(_))
-    }
-
-    /// Whether it is an option, which takes hold for the steps after it.
-    pub fn is_option(&self) -> bool {
-        use Action::{Ascii, Box, Field, Levels, Quiet, Size, View};
-        matches!(self, Field(_) | Box(_) | Levels(_) | Ascii(_) | View(_) | Size(_) | Quiet)
-    }
-
-    /// Whether it prints.
-    pub fn prints(&self) -> bool {
-        matches!(self, Action::Display | Action::Page | Action::Quality)
+        if let Some(setting) = Setting::parse(word, words)? {
+            return Ok(Action::Set(setting));
+        }
+        if let Some(report) = Report::parse(word) {
+            return Ok(Action::Print(report));
+        }
+        let operation = Operation::parse(word, words)?;
+        operation.map(Action::Run).ok_or_else(|| Problem::Usage(format!("{word} is no step and no option")))
     }
 }
 
@@ -142,6 +55,8 @@ pub fn parse(list: &[String]) -> Result<Vec<Step>, Problem> {
 #[cfg(test)]
 mod tests {
     use super::*;
+    use crate::band::Part;
+    use quads::Field;
 
     /// The actions of a text.
     fn actions(text: &str) -> Result<Vec<Action>, Problem> {
@@ -155,16 +70,23 @@ mod tests {
         let steps = parse(&words).unwrap();
         let texts: Vec<&str> = steps.iter().map(|step| step.text.as_str()).collect();
         assert_eq!(texts, ["--levels 1 2", "draw 8", "regularize", "coarsen 3"]);
-        assert_eq!(steps[2].action, Action::Regularize(1));
-        assert_eq!(steps[3].action, Action::Coarsen(3));
+        assert_eq!(steps[2].action, Action::Run(Operation::Regularize(1)));
+        assert_eq!(steps[3].action, Action::Run(Operation::Coarsen(3)));
     }
 
     #[test]
     fn fields_take_their_numbers() {
+        let set = |field| Ok(vec![Action::Set(Setting::Band(Part::Field(field)))]);
         let ball = Field::Ball { cx: 1.0, cy: 2.0, cz: 3.0, r: 4.0 };
-        assert_eq!(actions("--ball 1 2 3 4"), Ok(vec![Action::Field(ball)]));
+        assert_eq!(actions("--ball 1 2 3 4"), set(ball));
         let quadric = Field::Quadric([0.0, 1.0, 2.0, 3.0, 4.0, 5.0, 6.0, 7.0, 8.0, 9.0]);
-        assert_eq!(actions("--quadric 0 1 2 3 4 5 6 7 8 9"), Ok(vec![Action::Field(quadric)]));
+        assert_eq!(actions("--quadric 0 1 2 3 4 5 6 7 8 9"), set(quadric));
+    }
+
+    #[test]
+    fn reports_are_named_by_their_words() {
+        let reports = [Report::Display, Report::Page, Report::Quality].map(Action::Print);
+        assert_eq!(actions("display page quality"), Ok(reports.to_vec()));
     }
 
     #[test]

@@ -1,5 +1,5 @@
 //! The field and the band.
-use crate::ffi;
+use crate::ffi::BandRef;
 
 /// A scalar field of x, y and z.
 #[derive(Clone, Copy, Debug, PartialEq)]
@@ -66,7 +66,7 @@ pub struct Band {
 }
 
 /// A band's numbers in flat lists.
-pub(crate) struct Flat {
+pub(crate) struct FlatBand {
     kind: u32,
     numbers: [f64; 10],
     bounds: [f64; 6],
@@ -74,11 +74,10 @@ pub(crate) struct Flat {
     upper: f64,
 }
 
-impl Flat {
-    /// The numbers of a band.
-    pub(crate) fn of(band: &Band) -> Flat {
+impl From<&Band> for FlatBand {
+    fn from(band: &Band) -> FlatBand {
         let ([x, y, z], [high_x, high_y, high_z]) = (band.low, band.high);
-        Flat {
+        FlatBand {
             kind: band.field.kind(),
             numbers: band.field.numbers(),
             bounds: [x, y, z, high_x, high_y, high_z],
@@ -86,16 +85,12 @@ impl Flat {
             upper: band.upper,
         }
     }
+}
 
+impl FlatBand {
     /// The band as the library is given it.
-    pub(crate) fn given(&self) -> ffi::Given<'_> {
-        ffi::Given {
-            kind: self.kind,
-            numbers: &self.numbers,
-            bounds: &self.bounds,
-            lower: self.lower,
-            upper: self.upper,
-        }
+    pub(crate) fn as_band_ref(&self) -> BandRef<'_> {
+        BandRef { kind: self.kind, numbers: &self.numbers, bounds: &self.bounds, lower: self.lower, upper: self.upper }
     }
 }
 
@@ -104,8 +99,8 @@ mod tests {
     use super::*;
 
     /// A field in the box from (1, 2, 3) to (4, 5, 6), between 7 and 8.
-    fn flat(field: Field) -> Flat {
-        Flat::of(&Band { field, low: [1.0, 2.0, 3.0], high: [4.0, 5.0, 6.0], lower: 7.0, upper: 8.0 })
+    fn flat(field: Field) -> FlatBand {
+        FlatBand::from(&Band { field, low: [1.0, 2.0, 3.0], high: [4.0, 5.0, 6.0], lower: 7.0, upper: 8.0 })
     }
 
     #[test]
@@ -122,8 +117,8 @@ mod tests {
     #[test]
     fn bounds_are_low_then_high() {
         let flat = flat(Field::Quadric([0.0; 10]));
-        let given = flat.given();
-        assert_eq!(given.bounds, [1.0, 2.0, 3.0, 4.0, 5.0, 6.0]);
-        assert_eq!((given.lower, given.upper), (7.0, 8.0));
+        let band = flat.as_band_ref();
+        assert_eq!(band.bounds, [1.0, 2.0, 3.0, 4.0, 5.0, 6.0]);
+        assert_eq!((band.lower, band.upper), (7.0, 8.0));
     }
 }

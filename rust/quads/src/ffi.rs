@@ -1,11 +1,12 @@
 //! The exports of the library, with slices in place of pointers and lengths. `include/quads.h` says what each one does.
 //!
-//! Every function here may be called with any slices, counts and numbers: the library is proved to test them, to read and write only what it
-//! is lent, and to end. Each returns 0, or the number of a refusal.
+//! Every function here may be called with any slices, counts and numbers: the library is proved to test them, to read
+//! and write only what it is lent, and to end. Each returns 0, or the number of a refusal.
+use crate::sheet::Counts;
 
-/// A sheet that is read: three lists, and how many points, quads and labels it has.
+/// A sheet that is read: three lists and its counts.
 #[derive(Clone, Copy)]
-pub struct Read<'a> {
+pub struct SheetRef<'a> {
     /// Three coordinates a point.
     pub points: &'a [f64],
     /// Four point numbers a quad.
@@ -13,21 +14,11 @@ pub struct Read<'a> {
     /// One label a quad.
     pub labels: &'a [u8],
     /// The points, quads and labels.
-    pub counts: [usize; 3],
-}
-
-/// Room for a sheet that is made.
-pub struct Written<'a> {
-    /// Three coordinates a point.
-    pub points: &'a mut [f64],
-    /// Four point numbers a quad.
-    pub quads: &'a mut [u32],
-    /// One label a quad.
-    pub labels: &'a mut [u8],
+    pub counts: Counts,
 }
 
 /// A sheet that is altered in its own lists.
-pub struct Altered<'a> {
+pub struct SheetMut<'a> {
     /// Three coordinates a point.
     pub points: &'a mut [f64],
     /// Four point numbers a quad.
@@ -35,12 +26,22 @@ pub struct Altered<'a> {
     /// One label a quad.
     pub labels: &'a mut [u8],
     /// The points, quads and labels.
-    pub counts: [usize; 3],
+    pub counts: Counts,
+}
+
+/// Room for a sheet that is made.
+pub struct SheetOut<'a> {
+    /// Three coordinates a point.
+    pub points: &'a mut [f64],
+    /// Four point numbers a quad.
+    pub quads: &'a mut [u32],
+    /// One label a quad.
+    pub labels: &'a mut [u8],
 }
 
 /// A band: the kind of its field with ten numbers, the six bounds of its box, and two levels.
 #[derive(Clone, Copy)]
-pub struct Given<'a> {
+pub struct BandRef<'a> {
     /// 0 plane, 1 ball, 2 quadric.
     pub kind: u32,
     /// Ten numbers; a plane and a ball use the first four.
@@ -54,11 +55,28 @@ pub struct Given<'a> {
 }
 
 /// The two work slices.
-pub struct Work<'a> {
+pub struct WorkMut<'a> {
     /// Whole numbers.
     pub wholes: &'a mut [u32],
     /// Floats.
     pub floats: &'a mut [f64],
+}
+
+/// What an operation that makes or alters a sheet answers.
+#[derive(Clone, Copy, Debug, PartialEq, Eq)]
+pub struct Answer {
+    /// The swaps or merges; 0 where the operation counts none.
+    pub count: usize,
+    /// The sheet that was made or altered.
+    pub sheet: Counts,
+}
+
+/// The answer in the first four elements of an answer slice.
+impl From<[u64; 4]> for Answer {
+    fn from(elements: [u64; 4]) -> Answer {
+        let [count, points, quads, labels] = elements.map(|n| n as usize);
+        Answer { count, sheet: Counts { points, quads, labels } }
+    }
 }
 
 // The declarations of include/quads.h.
@@ -118,84 +136,95 @@ unsafe extern "C" {
 
 /// Calls an export. Each group of arguments in turn adds its own to the list, a slice as its pointer and its length.
 macro_rules! call {
-    ($name:ident($($list:expr,)*)) => { $name($($list),*) };
-    ($name:ident($($list:expr,)*) number $n:ident; $($rest:tt)*) => { call!($name($($list,)* $n,) $($rest)*) };
-    ($name:ident($($list:expr,)*) reads $s:expr; $($rest:tt)*) => {
-        call!($name($($list,)* $s.as_ptr(), $s.len(),) $($rest)*)
+    ($name:ident($($list:ident)*)) => {
+        // SAFETY: each pointer goes with the length of its slice, and no slice that is written overlaps another.
+        unsafe { $name($($list),*) }
     };
-    ($name:ident($($list:expr,)*) writes $s:expr; $($rest:tt)*) => {
-        call!($name($($list,)* $s.as_mut_ptr(), $s.len(),) $($rest)*)
+    ($name:ident($($list:ident)*) number $n:expr; $($rest:tt)*) => {{
+        let number = $n;
+        call!($name($($list)* number) $($rest)*)
+    }};
+    ($name:ident($($list:ident)*) reads $s:expr; $($rest:tt)*) => {{
+        let (length, pointer) = ($s.len(), $s.as_ptr());
+        call!($name($($list)* pointer length) $($rest)*)
+    }};
+    ($name:ident($($list:ident)*) writes $s:expr; $($rest:tt)*) => {{
+        let (length, pointer) = ($s.len(), $s.as_mut_ptr());
+        call!($name($($list)* pointer length) $($rest)*)
+    }};
+    ($name:ident($($list:ident)*) counts $c:expr; $($rest:tt)*) => {
+        call!($name($($list)*) number $c.points; number $c.quads; number $c.labels; $($rest)*)
     };
-    ($name:ident($($list:expr,)*) counts $c:expr; $($rest:tt)*) => {
-        call!($name($($list,)* $c[0], $c[1], $c[2],) $($rest)*)
+    ($name:ident($($list:ident)*) sheet $s:ident; $($rest:tt)*) => {
+        call!($name($($list)*) reads $s.points; reads $s.quads; reads $s.labels; counts $s.counts; $($rest)*)
     };
-    ($name:ident($($list:expr,)*) sheet $s:ident; $($rest:tt)*) => {
-        call!($name($($list,)*) reads $s.points; reads $s.quads; reads $s.labels; counts $s.counts; $($rest)*)
+    ($name:ident($($list:ident)*) swapped $s:ident; $($rest:tt)*) => {
+        call!($name($($list)*) reads $s.points; writes $s.quads; reads $s.labels; counts $s.counts; $($rest)*)
     };
-    ($name:ident($($list:expr,)*) swapped $s:ident; $($rest:tt)*) => {
-        call!($name($($list,)*) reads $s.points; writes $s.quads; reads $s.labels; counts $s.counts; $($rest)*)
+    ($name:ident($($list:ident)*) merged $s:ident; $($rest:tt)*) => {
+        call!($name($($list)*) made $s; counts $s.counts; $($rest)*)
     };
-    ($name:ident($($list:expr,)*) merged $s:ident; $($rest:tt)*) => {
-        call!($name($($list,)*) made $s; counts $s.counts; $($rest)*)
+    ($name:ident($($list:ident)*) made $s:ident; $($rest:tt)*) => {
+        call!($name($($list)*) writes $s.points; writes $s.quads; writes $s.labels; $($rest)*)
     };
-    ($name:ident($($list:expr,)*) band $b:ident; $($rest:tt)*) => {
-        call!($name($($list,)* $b.kind,) reads $b.numbers; reads $b.bounds; levels $b; $($rest)*)
+    ($name:ident($($list:ident)*) band $b:ident; $($rest:tt)*) => {
+        call!($name($($list)*) number $b.kind; reads $b.numbers; reads $b.bounds; levels $b; $($rest)*)
     };
-    ($name:ident($($list:expr,)*) levels $b:ident; $($rest:tt)*) => {
-        call!($name($($list,)* $b.lower, $b.upper,) $($rest)*)
+    ($name:ident($($list:ident)*) levels $b:ident; $($rest:tt)*) => {
+        call!($name($($list)*) number $b.lower; number $b.upper; $($rest)*)
     };
-    ($name:ident($($list:expr,)*) made $m:ident; $($rest:tt)*) => {
-        call!($name($($list,)*) writes $m.points; writes $m.quads; writes $m.labels; $($rest)*)
-    };
-    ($name:ident($($list:expr,)*) work $w:ident; $($rest:tt)*) => {
-        call!($name($($list,)*) writes $w.wholes; writes $w.floats; $($rest)*)
+    ($name:ident($($list:ident)*) work $w:ident; $($rest:tt)*) => {
+        call!($name($($list)*) writes $w.wholes; writes $w.floats; $($rest)*)
     };
 }
 
 /// `quads_extract_candidate`.
-pub fn extract_candidate(band: Given, cells: usize, made: Written, work: Work, answer: &mut [u64]) -> u32 {
-    // SAFETY: each pointer goes with the length of its slice, and no slice that is written overlaps another.
-    unsafe { call!(quads_extract_candidate() band band; number cells; made made; work work; writes answer;) }
+pub fn extract_candidate(band: BandRef, cells: usize, made: SheetOut, work: WorkMut, answer: &mut [u64]) -> u32 {
+    call!(quads_extract_candidate() band band; number cells; made made; work work; writes answer;)
 }
 
 /// `quads_refine`.
-pub fn refine(sheet: Read, made: Written, work: Work, answer: &mut [u64]) -> u32 {
-    // SAFETY: each pointer goes with the length of its slice, and no slice that is written overlaps another.
-    unsafe { call!(quads_refine() sheet sheet; made made; work work; writes answer;) }
+pub fn refine(sheet: SheetRef, made: SheetOut, work: WorkMut, answer: &mut [u64]) -> u32 {
+    call!(quads_refine() sheet sheet; made made; work work; writes answer;)
 }
 
 /// `quads_subdivide`.
-pub fn subdivide(sheet: Read, band: Given, made: Written, work: Work, answer: &mut [u64]) -> u32 {
-    // SAFETY: each pointer goes with the length of its slice, and no slice that is written overlaps another.
-    unsafe { call!(quads_subdivide() sheet sheet; band band; made made; work work; writes answer;) }
+pub fn subdivide(sheet: SheetRef, band: BandRef, made: SheetOut, work: WorkMut, answer: &mut [u64]) -> u32 {
+    call!(quads_subdivide() sheet sheet; band band; made made; work work; writes answer;)
 }
 
 /// `quads_boundary_rows`.
-pub fn boundary_rows(sheet: Read, band: Given, made: Written, work: Work, answer: &mut [u64]) -> u32 {
-    // SAFETY: each pointer goes with the length of its slice, and no slice that is written overlaps another.
-    unsafe { call!(quads_boundary_rows() sheet sheet; band band; made made; work work; writes answer;) }
+pub fn boundary_rows(sheet: SheetRef, band: BandRef, made: SheetOut, work: WorkMut, answer: &mut [u64]) -> u32 {
+    call!(quads_boundary_rows() sheet sheet; band band; made made; work work; writes answer;)
 }
 
 /// `quads_regularize`: of the sheet, the quads are written.
-pub fn regularize(sheet: Altered, band: Given, passes: usize, work: Work, answer: &mut [u64]) -> u32 {
-    // SAFETY: each pointer goes with the length of its slice, and no slice that is written overlaps another.
-    unsafe { call!(quads_regularize() swapped sheet; band band; number passes; work work; writes answer;) }
+pub fn regularize(sheet: SheetMut, band: BandRef, passes: usize, work: WorkMut, answer: &mut [u64]) -> u32 {
+    call!(quads_regularize() swapped sheet; band band; number passes; work work; writes answer;)
 }
 
 /// `quads_improve_layout`: of the sheet, the quads are written.
-pub fn improve_layout(sheet: Altered, band: Given, passes: usize, work: Work, answer: &mut [u64]) -> u32 {
-    // SAFETY: each pointer goes with the length of its slice, and no slice that is written overlaps another.
-    unsafe { call!(quads_improve_layout() swapped sheet; band band; number passes; work work; writes answer;) }
+pub fn improve_layout(sheet: SheetMut, band: BandRef, passes: usize, work: WorkMut, answer: &mut [u64]) -> u32 {
+    call!(quads_improve_layout() swapped sheet; band band; number passes; work work; writes answer;)
 }
 
 /// `quads_coarsen`.
-pub fn coarsen(sheet: Altered, band: Given, passes: usize, work: Work, answer: &mut [u64]) -> u32 {
-    // SAFETY: each pointer goes with the length of its slice, and no slice that is written overlaps another.
-    unsafe { call!(quads_coarsen() merged sheet; band band; number passes; work work; writes answer;) }
+pub fn coarsen(sheet: SheetMut, band: BandRef, passes: usize, work: WorkMut, answer: &mut [u64]) -> u32 {
+    call!(quads_coarsen() merged sheet; band band; number passes; work work; writes answer;)
 }
 
 /// `quads_quality`.
-pub fn quality(sheet: Read, band: Given, work: Work, answer: &mut [u64], measures: &mut [f64]) -> u32 {
-    // SAFETY: each pointer goes with the length of its slice, and no slice that is written overlaps another.
-    unsafe { call!(quads_quality() sheet sheet; band band; work work; writes answer; writes measures;) }
+pub fn quality(sheet: SheetRef, band: BandRef, work: WorkMut, answer: &mut [u64], measures: &mut [f64]) -> u32 {
+    call!(quads_quality() sheet sheet; band band; work work; writes answer; writes measures;)
+}
+
+#[cfg(test)]
+mod tests {
+    use super::*;
+
+    #[test]
+    fn an_answer_is_a_count_and_the_counts_of_a_sheet() {
+        let sheet = Counts { points: 2, quads: 3, labels: 4 };
+        assert_eq!(Answer::from([1, 2, 3, 4]), Answer { count: 1, sheet });
+    }
 }

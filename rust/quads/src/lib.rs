@@ -1,7 +1,8 @@
 //! Labelled quad sheets around a band of a scalar field: drawn, refined, cleaned up and measured.
 //!
-//! This is safe Rust over the static library `quads`, whose functions are proved to meet their contracts. The names are those of the library's
-//! operations; an operation that refuses returns a [`Refusal`], and a sheet that it was to alter is then as it came.
+//! This is safe Rust over the static library `quads`, whose functions are proved to meet their contracts. The names
+//! are those of the library's operations; an operation that refuses returns a [`Refusal`], and a sheet that it was to
+//! alter is then as it came.
 //!
 //! ```
 //! use quads::{Band, Field, Sheet};
@@ -28,9 +29,10 @@ mod quality;
 mod refusal;
 mod room;
 mod sheet;
+pub mod sizes;
 
 pub use band::{Band, Field};
 pub use quality::Quality;
-pub use refusal::Refusal;
-pub use room::LIMIT;
-pub use sheet::Sheet;
+pub use refusal::{Refusal, UnknownRefusal};
+pub use sheet::{Counts, Sheet};
+pub use sizes::LIMIT;

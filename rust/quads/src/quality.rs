@@ -34,7 +34,8 @@ pub struct Quality {
 }
 
 impl Quality {
-    /// Whether the sheet is closed, each point's quads are one ring, no quad comes twice and none is turned over or collapsed.
+    /// Whether the sheet is closed, each point's quads are one ring, no quad comes twice and none is turned over or
+    /// collapsed.
     pub fn is_valid(&self) -> bool {
         self.valid
     }
@@ -54,24 +55,35 @@ impl Quality {
     }
 
     /// The record of the library's ten numbers and four measures.
-    pub(crate) fn of(answer: [u64; 10], measures: [f64; 4]) -> Quality {
-        let count = |i: usize| answer[i] as usize;
+    pub(crate) fn new(answer: [u64; 10], measures: [f64; 4]) -> Quality {
+        let [
+            quads,
+            irregular_vertices,
+            boundary_edges,
+            nonmanifold_edges,
+            orientation_errors,
+            bad_vertex_links,
+            duplicate_faces,
+            invalid_cells,
+            tight,
+            valid,
+        ] = answer.map(|n| n as usize);
         let [minimum_shape, shape_size_p05, shape_size_mean, minimum_sampled_jacobian] = measures;
         Quality {
-            quads: count(0),
-            irregular_vertices: count(1),
-            boundary_edges: count(2),
-            nonmanifold_edges: count(3),
-            orientation_errors: count(4),
-            bad_vertex_links: count(5),
-            duplicate_faces: count(6),
+            quads,
+            irregular_vertices,
+            boundary_edges,
+            nonmanifold_edges,
+            orientation_errors,
+            bad_vertex_links,
+            duplicate_faces,
             minimum_shape,
             shape_size_p05,
             shape_size_mean,
             minimum_sampled_jacobian,
-            invalid_cells: count(7),
-            tight: answer[8] == 1,
-            valid: answer[9] == 1,
+            invalid_cells,
+            tight: tight == 1,
+            valid: valid == 1,
         }
     }
 }
@@ -82,7 +94,7 @@ mod tests {
 
     #[test]
     fn the_record_has_the_librarys_order() {
-        let quality = Quality::of([1, 2, 3, 4, 5, 6, 7, 8, 1, 0], [0.1, 0.2, 0.3, 0.4]);
+        let quality = Quality::new([1, 2, 3, 4, 5, 6, 7, 8, 1, 0], [0.1, 0.2, 0.3, 0.4]);
         assert_eq!(quality.counts(), [1, 2, 3, 4, 5, 6, 7, 8]);
         assert_eq!((quality.minimum_shape, quality.minimum_sampled_jacobian), (0.1, 0.4));
         assert!(quality.tight && !quality.is_valid());

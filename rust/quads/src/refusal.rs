@@ -5,133 +5,129 @@ use std::fmt;
 /// Why an operation refused: the numbers of the library, with their words.
 #[derive(Clone, Copy, Debug, PartialEq, Eq, Hash)]
 #[non_exhaustive]
+#[repr(u32)]
 pub enum Refusal {
-    /// 1: the levels, the bounds or the length of the box.
-    Box,
-    /// 2: drawing with a lower level that is not finite.
-    Bottomless,
-    /// 3: drawing with other than 4 to 128 cells.
-    Cells,
-    /// 4: a sample of the grid is not finite.
-    Samples,
-    /// 5: no point or quad, other than one label a quad, or a point that is not finite.
-    Bare,
-    /// 6: a label above 7, or a quad with a corner out of range or twice.
-    Corner,
-    /// 7: a point without a quad, or on two opposite faces or both levels.
-    Clash,
-    /// 8: an edge without exactly two quads.
-    Edge,
-    /// 9: a point that cannot be projected.
-    Astray,
-    /// 10: a row that finds no place.
-    Row,
-    /// 11: a normal that is not finite or too short.
-    Normal,
-    /// 12: a sheet above the limit.
-    Large,
-    /// 13: a slice that holds too little, or a result above the limit.
-    Short,
+    /// The levels, the bounds or the length of the box.
+    Box = 1,
+    /// Drawing with a lower level that is not finite.
+    Bottomless = 2,
+    /// Drawing with other than 4 to 128 cells.
+    Cells = 3,
+    /// A sample of the grid is not finite.
+    Samples = 4,
+    /// No point or quad, other than one label a quad, or a point that is not finite.
+    Bare = 5,
+    /// A label above 7, or a quad with a corner out of range or twice.
+    Corner = 6,
+    /// A point without a quad, or on two opposite faces or both levels.
+    Clash = 7,
+    /// An edge without exactly two quads.
+    Edge = 8,
+    /// A point that cannot be projected.
+    Astray = 9,
+    /// A row that finds no place.
+    Row = 10,
+    /// A normal that is not finite or too short.
+    Normal = 11,
+    /// A sheet above the limit.
+    Large = 12,
+    /// A slice that holds too little, or a result above the limit.
+    Short = 13,
 }
-
-/// A refusal with its word, what it found and what can be done.
-type Entry = (Refusal, &'static str, &'static str, &'static str);
-
-/// The refusals in the order of their numbers, 1 first.
-const TABLE: [Entry; 13] = [
-    (
-        Refusal::Box,
-        "box",
-        "the levels are not in order, the box has no finite size, or the field is of no kind",
-        "give a lower level below a finite upper one, and a box whose low corner is below its high corner",
-    ),
-    (Refusal::Bottomless, "bottomless", "the lower level is not finite", "give a finite lower level to draw"),
-    (Refusal::Cells, "cells", "the number of cells is not from 4 to 128", "draw with 4 to 128 cells"),
-    (
-        Refusal::Samples,
-        "samples",
-        "the field is not finite at a place of the grid",
-        "use smaller numbers in the field, the levels and the box",
-    ),
-    (
-        Refusal::Bare,
-        "bare",
-        "the sheet has no point or no quad, not one label a quad, or a point that is not finite",
-        "draw with more cells, or mend the sheet where it was made",
-    ),
-    (
-        Refusal::Corner,
-        "corner",
-        "a label is above 7, or a quad names a point that is not there or names one twice",
-        "mend the sheet where it was made",
-    ),
-    (
-        Refusal::Clash,
-        "clash",
-        "a point has no quad, or lies on both levels or on two opposite box faces",
-        "draw with more cells, so that the band is wider than a cell",
-    ),
-    (
-        Refusal::Edge,
-        "edge",
-        "an edge does not have exactly two quads",
-        "draw with other cells or another box; the step `quality` counts such edges",
-    ),
-    (
-        Refusal::Astray,
-        "astray",
-        "a smoothed point cannot be brought back onto the band",
-        "draw with more cells, or clean the sheet up first",
-    ),
-    (Refusal::Row, "row", "a row finds no place inside its patch", "draw with more cells, or refine first"),
-    (
-        Refusal::Normal,
-        "normal",
-        "the field has no direction at the centre of a quad",
-        "move the levels away from where the field is flat",
-    ),
-    (
-        Refusal::Large,
-        "large",
-        "the sheet has more than 1,048,576 points, quads or labels",
-        "draw with fewer cells, or refine less often",
-    ),
-    (
-        Refusal::Short,
-        "short",
-        "the result would have more than 1,048,576 points or quads, or a lent slice is too short for it",
-        "draw with fewer cells, or refine less often",
-    ),
-];
 
 impl Refusal {
     /// Its number.
     pub fn number(self) -> u32 {
-        self as u32 + 1
+        self as u32
     }
 
     /// Its word.
     pub fn word(self) -> &'static str {
-        self.entry().1
+        match self {
+            Refusal::Box => "box",
+            Refusal::Bottomless => "bottomless",
+            Refusal::Cells => "cells",
+            Refusal::Samples => "samples",
+            Refusal::Bare => "bare",
+            Refusal::Corner => "corner",
+            Refusal::Clash => "clash",
+            Refusal::Edge => "edge",
+            Refusal::Astray => "astray",
+            Refusal::Row => "row",
+            Refusal::Normal => "normal",
+            Refusal::Large => "large",
+            Refusal::Short => "short",
+        }
     }
 
     /// What was found.
     pub fn reason(self) -> &'static str {
-        self.entry().2
+        match self {
+            Refusal::Box => "the levels are not in order, the box has no finite size, or the field is of no kind",
+            Refusal::Bottomless => "the lower level is not finite",
+            Refusal::Cells => "the number of cells is not from 4 to 128",
+            Refusal::Samples => "the field is not finite at a place of the grid",
+            Refusal::Bare => "the sheet has no point or no quad, not one label a quad, or a point that is not finite",
+            Refusal::Corner => "a label is above 7, or a quad names a point that is not there or names one twice",
+            Refusal::Clash => "a point has no quad, or lies on both levels or on two opposite box faces",
+            Refusal::Edge => "an edge does not have exactly two quads",
+            Refusal::Astray => "a smoothed point cannot be brought back onto the band",
+            Refusal::Row => "a row finds no place inside its patch",
+            Refusal::Normal => "the field has no direction at the centre of a quad",
+            Refusal::Large => "the sheet has more than 1,048,576 points, quads or labels",
+            Refusal::Short => {
+                "the result would have more than 1,048,576 points or quads, or a lent slice is too short for it"
+            }
+        }
     }
 
     /// What can be done.
     pub fn advice(self) -> &'static str {
-        self.entry().3
+        match self {
+            Refusal::Box => {
+                "give a lower level below a finite upper one, and a box whose low corner is below its high corner"
+            }
+            Refusal::Bottomless => "give a finite lower level to draw",
+            Refusal::Cells => "draw with 4 to 128 cells",
+            Refusal::Samples => "use smaller numbers in the field, the levels and the box",
+            Refusal::Bare => "draw with more cells, or mend the sheet where it was made",
+            Refusal::Corner => "mend the sheet where it was made",
+            Refusal::Clash => "draw with more cells, so that the band is wider than a cell",
+            Refusal::Edge => "draw with other cells or another box; the step `quality` counts such edges",
+            Refusal::Astray => "draw with more cells, or clean the sheet up first",
+            Refusal::Row => "draw with more cells, or refine first",
+            Refusal::Normal => "move the levels away from where the field is flat",
+            Refusal::Large | Refusal::Short => "draw with fewer cells, or refine less often",
+        }
     }
 
     /// All refusals in the order of their numbers.
     pub fn all() -> impl Iterator<Item = Refusal> {
-        TABLE.iter().map(|entry| entry.0)
+        (1..).map_while(|number| Refusal::try_from(number).ok())
     }
+}
 
-    fn entry(self) -> &'static Entry {
-        &TABLE[self as usize]
+impl TryFrom<u32> for Refusal {
+    type Error = UnknownRefusal;
+
+    /// The refusal of a number.
+    fn try_from(number: u32) -> Result<Refusal, UnknownRefusal> {
+        match number {
+            1 => Ok(Refusal::Box),
+            2 => Ok(Refusal::Bottomless),
+            3 => Ok(Refusal::Cells),
+            4 => Ok(Refusal::Samples),
+            5 => Ok(Refusal::Bare),
+            6 => Ok(Refusal::Corner),
+            7 => Ok(Refusal::Clash),
+            8 => Ok(Refusal::Edge),
+            9 => Ok(Refusal::Astray),
+            10 => Ok(Refusal::Row),
+            11 => Ok(Refusal::Normal),
+            12 => Ok(Refusal::Large),
+            13 => Ok(Refusal::Short),
+            _ => Err(UnknownRefusal(number)),
+        }
     }
 }
 
@@ -144,15 +140,24 @@ impl fmt::Display for Refusal {
 
 impl Error for Refusal {}
 
+/// A number that no refusal has.
+#[derive(Clone, Copy, Debug, PartialEq, Eq)]
+pub struct UnknownRefusal(pub u32);
+
+impl fmt::Display for UnknownRefusal {
+    fn fmt(&self, f: &mut fmt::Formatter<'_>) -> fmt::Result {
+        write!(f, "{} is the number of no refusal", self.0)
+    }
+}
+
+impl Error for UnknownRefusal {}
+
 /// What a number of the library says: nothing for 0, else the refusal.
 pub(crate) fn accepted(number: u32) -> Result<(), Refusal> {
-    match Refusal::all().find(|refusal| refusal.number() == number) {
-        Some(refusal) => Err(refusal),
-        None => {
-            assert_eq!(number, 0, "the library's contracts rule this number out");
-            Ok(())
-        }
+    if number == 0 {
+        return Ok(());
     }
+    Err(Refusal::try_from(number).expect("the library's contracts rule this number out"))
 }
 
 #[cfg(test)]
@@ -185,6 +190,14 @@ mod tests {
         assert_eq!(accepted(0), Ok(()));
         assert_eq!(accepted(7), Err(Refusal::Clash));
         assert_eq!(accepted(13), Err(Refusal::Short));
+    }
+
+    #[test]
+    fn another_number_is_none() {
+        for number in [0, 14, u32::MAX] {
+            assert_eq!(Refusal::try_from(number), Err(UnknownRefusal(number)));
+        }
+        assert_eq!(UnknownRefusal(14).to_string(), "14 is the number of no refusal");
     }
 
     #[test]

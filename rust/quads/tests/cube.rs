@@ -1,18 +1,18 @@
 //! The operations on the unit cube.
 mod common;
-use common::{cube, euler, squared_sum, unit_box};
+use common::{counts, cube, euler, squared_sum, unit_box};
 
 #[test]
 fn the_cube_is_closed() {
     let cube = cube();
-    assert_eq!(cube.counts(), [8, 6, 6]);
+    assert_eq!(cube.counts(), counts(8, 6));
     assert_eq!((euler(&cube), squared_sum(&cube)), (2, 8));
 }
 
 #[test]
 fn refined_it_has_26_points_and_24_quads() {
     let finer = cube().refine().unwrap();
-    assert_eq!(finer.counts(), [26, 24, 24]);
+    assert_eq!(finer.counts(), counts(26, 24));
     assert_eq!((euler(&finer), squared_sum(&finer)), (2, 8));
     assert_eq!(finer.points[8], [0.0, 0.0, 0.5]);
     assert_eq!(finer.labels[..8], [2, 2, 2, 2, 3, 3, 3, 3]);
@@ -21,20 +21,20 @@ fn refined_it_has_26_points_and_24_quads() {
 #[test]
 fn refined_again_it_has_98_points_and_96_quads() {
     let finer = cube().refine().and_then(|sheet| sheet.refine()).unwrap();
-    assert_eq!((finer.counts(), euler(&finer)), ([98, 96, 96], 2));
+    assert_eq!((finer.counts(), euler(&finer)), (counts(98, 96), 2));
 }
 
 #[test]
 fn subdivided_it_keeps_its_corners() {
     let finer = cube().subdivide(&unit_box()).unwrap();
-    assert_eq!(finer.counts(), [26, 24, 24]);
+    assert_eq!(finer.counts(), counts(26, 24));
     assert_eq!(finer.points[..8], cube().points);
 }
 
 #[test]
 fn with_rows_it_has_32_points_and_30_quads() {
     let rows = cube().boundary_rows(&unit_box()).unwrap();
-    assert_eq!((rows.counts(), euler(&rows)), ([32, 30, 30], 2));
+    assert_eq!((rows.counts(), euler(&rows)), (counts(32, 30), 2));
     assert_eq!(rows.labels[..6], cube().labels);
 }
 

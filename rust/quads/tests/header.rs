@@ -1,4 +1,7 @@
-//! The C header: it declares what the library exports and what the Rust crate calls, and a small C program runs with it.
+//! The C header: it declares what the library exports and what the Rust crate calls, its numbers and sizes are those of
+//! the crate, and a small C program runs with it.
+use quads::sizes::{draw_work, sheet_work};
+use quads::{Counts, LIMIT, Refusal};
 use std::collections::BTreeMap;
 use std::path::{Path, PathBuf};
 use std::process::Command;
@@ -8,7 +11,8 @@ fn file(name: &str) -> PathBuf {
     Path::new(env!("CARGO_MANIFEST_DIR")).join("../..").join(name)
 }
 
-/// The exports that a file declares, each with its parameters: a declaration starts with these words, and `read` turns a parameter into Rust's.
+/// The exports that a file declares, each with its parameters: a declaration starts with these words, and `read`
+/// turns a parameter into Rust's.
 fn declared(name: &str, start: &str, read: fn(&str) -> String) -> BTreeMap<String, Vec<String>> {
     let text = std::fs::read_to_string(file(name)).unwrap();
     let declaration = |part: &str| {
@@ -63,13 +67,41 @@ fn run(command: &mut Command) -> String {
     String::from_utf8(output.stdout).unwrap()
 }
 
-#[test]
-fn a_c_program_refines_and_measures_the_cube() {
-    let program = Path::new(env!("CARGO_TARGET_TMPDIR")).join("cube");
+/// Compiles a C program of the tests.
+fn compiled(name: &str) -> PathBuf {
+    let program = Path::new(env!("CARGO_TARGET_TMPDIR")).join(name);
     let mut compiler = Command::new("cc");
     compiler.args(["-std=c99", "-Wall", "-Wextra", "-Wpedantic", "-Werror", "-O2", "-I"]).arg(file("include"));
-    compiler.arg(file("rust/quads/tests/cube.c")).arg(env!("QUADS_ARCHIVE")).arg("-o").arg(&program);
+    compiler.arg(file(&format!("rust/quads/tests/{name}.c"))).arg(env!("QUADS_ARCHIVE")).arg("-o").arg(&program);
     run(&mut compiler);
+    program
+}
+
+#[test]
+fn the_header_has_the_numbers_of_the_refusals() {
+    let text = std::fs::read_to_string(file("include/quads.h")).unwrap();
+    let entries = text.lines().filter_map(|line| line.trim_start().strip_prefix("QUADS_")?.split_once(" = "));
+    let number = |rest: &str| rest.split([',', ' ']).next().and_then(|word| word.parse().ok()).unwrap();
+    let header: Vec<(String, u32)> = entries.map(|(name, rest)| (name.to_lowercase(), number(rest))).collect();
+    let refusals = Refusal::all().map(|refusal| (refusal.word().to_string(), refusal.number()));
+    let crates: Vec<(String, u32)> = [("accepted".to_string(), 0)].into_iter().chain(refusals).collect();
+    assert_eq!(header, crates);
+}
+
+#[test]
+fn the_header_has_the_sizes_of_the_crate() {
+    let program = compiled("sizes");
+    for (points, quads, cells) in [(0, 0, 4), (1, 0, 5), (0, 1, 6), (8, 6, 17), (LIMIT, LIMIT, 128)] {
+        let printed = run(Command::new(&program).args([points, quads, cells].map(|n| n.to_string())));
+        let (lent, drawing) = (sheet_work(Counts { points, quads, labels: quads }), draw_work(cells));
+        let sizes = [lent.wholes, lent.floats, drawing.wholes, drawing.floats, LIMIT].map(|n| n.to_string());
+        assert_eq!(printed.trim_end(), sizes.join(" "), "{points} points, {quads} quads, {cells} cells");
+    }
+}
+
+#[test]
+fn a_c_program_refines_and_measures_the_cube() {
+    let program = compiled("cube");
     assert_eq!(
         run(&mut Command::new(&program)),
         "refine 0: 26 points, 24 quads, last label 7\n\

@@ -1,6 +1,7 @@
-//! differential [CALLS] [SEED]: the library's leaf functions and the original on the same random inputs, every bit compared.
+//! differential [CALLS] [SEED]: the library's leaf functions and the original on the same random inputs, every bit
+//! compared.
 use differential::library;
-use oracle::call::Operation;
+use oracle::operation::Operation;
 use oracle::{arguments, driver};
 use std::process::ExitCode;
 

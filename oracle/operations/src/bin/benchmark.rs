@@ -1,10 +1,11 @@
-//! benchmark [CELLS]: the library's operations and the original's on the same drawn sheets at 8, 16, .. cells, in one process; then the library's on
-//! hostile sheets, in which one point has almost all the quads. Each figure is the best of several runs, taken in turns; growth is the library's time
-//! over that at half as many cells or quads.
+//! benchmark [CELLS]: the library's operations and the original's on the same drawn sheets at 8, 16, .. cells, in one
+//! process; then the library's on hostile sheets, in which one point has almost all the quads. Each figure is the
+//! best of several runs, taken in turns; growth is the library's time over that at half as many cells or quads.
 use operations::library::{self, Lent};
 use oracle::bands::UNIT;
-use oracle::call::{Call, Operation, original};
+use oracle::call::{Call, original};
 use oracle::field::{BandNumbers, Field};
+use oracle::operation::Operation;
 use oracle::quads::{self, QuadMesh};
 use oracle::{arguments, sheets};
 use std::hint::black_box;
@@ -37,8 +38,8 @@ const BANDS: [(&str, BandNumbers); 2] = [
 /// A name, a sheet of so many quads, and the most quads that are timed.
 type Hostile = (&'static str, fn(usize) -> QuadMesh, usize);
 
-/// Hostile sheets: one point, or two, has all the quads or half of them. The rule of `coarsen` asks for each diagonal at a point whether every quad
-/// there keeps its shape, which in the guarded wheel only the last one does not.
+/// Hostile sheets: one point, or two, has all the quads or half of them. The rule of `coarsen` asks for each diagonal
+/// at a point whether every quad there keeps its shape, which in the guarded wheel only the last one does not.
 const HOSTILE: [Hostile; 4] = [
     ("fan", sheets::fan, 100_000),
     ("poles", poles, 100_000),
@@ -65,7 +66,8 @@ fn is_slow(operation: Operation, cells: usize) -> bool {
     cells > 64 && matches!(operation, Operation::Regularize | Operation::ImproveLayout)
 }
 
-/// The best times of the library and of the original, in turns until both have run for two seconds; the original's only if it is asked for.
+/// The best times of the library and of the original, in turns until both have run for two seconds; the original's
+/// only if it is asked for.
 fn best(call: &Call, with_original: bool) -> (f64, Option<f64>) {
     let (mut ours, mut theirs, mut total) = (f64::INFINITY, None::<f64>, 0.0);
     let mut turns = 0;
@@ -99,7 +101,8 @@ fn calls(cells: usize, band: &BandNumbers, sheet: &QuadMesh) -> Vec<Call> {
     std::iter::once(drawing).chain(OPERATIONS.map(on)).collect()
 }
 
-/// A line for each operation on a drawn sheet, with a word if the answers differ; the library's times for the next doubling.
+/// A line for each operation on a drawn sheet, with a word if the answers differ; the library's times for the next
+/// doubling.
 fn lines(name: &str, cells: usize, band: &BandNumbers, sheet: &QuadMesh, before: &[f64]) -> Vec<f64> {
     let time = |(i, call): (usize, &Call)| {
         let (ours, theirs) = best(call, !is_slow(call.operation, cells));
@@ -131,7 +134,8 @@ fn table(cells: usize) {
     }
 }
 
-/// A line for each operation on a hostile sheet, with the number of its answer; the library's times for the next doubling.
+/// A line for each operation on a hostile sheet, with the number of its answer; the library's times for the next
+/// doubling.
 fn hostile_lines(name: &str, sheet: &QuadMesh, before: &[f64]) -> Vec<f64> {
     let time = |(i, &(operation, argument)): (usize, &(Operation, u64))| {
         let call = Call { operation, argument, band: UNIT, sheet: sheet.clone() };

@@ -1,7 +1,8 @@
-//! operations [CALLS] [SEED]: the library's operations and the original on the same random sheets, every bit compared: single calls, lists of calls
-//! on one sheet, and drawings. The library's result and work slices are filled before, and must hold the result and zeros after.
+//! operations [CALLS] [SEED]: the library's operations and the original on the same random sheets, every bit
+//! compared: single calls, lists of calls on one sheet, and drawings. The library's result and work slices are filled
+//! before, and must hold the result and zeros after.
 use operations::{draws, library, lists};
-use oracle::call::Operation;
+use oracle::operation::Operation;
 use oracle::{arguments, driver};
 use std::process::ExitCode;
 

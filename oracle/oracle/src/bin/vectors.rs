@@ -12,7 +12,7 @@ fn table(records: &[Record]) -> String {
     for Record { call, answer } in records {
         *seen.entry((call.operation, answer.number)).or_default() += 1;
     }
-    let line = |(&(operation, number), count): (&(oracle::call::Operation, u8), &usize)| {
+    let line = |(&(operation, number), count): (&(oracle::operation::Operation, u8), &usize)| {
         format!("{} {number}: {count}\n", operation.name())
     };
     seen.iter().map(line).collect::<String>() + &format!("{} records", records.len())

@@ -1,4 +1,5 @@
-//! Pictures of a sheet: its quads that face the eye, drawn from the farthest to the nearest, flatly shaded in the colours of their labels.
+//! Pictures of a sheet: its quads that face the eye, drawn from the farthest to the nearest, flatly shaded in the
+//! colours of their labels.
 mod png;
 mod raster;
 mod scene;

@@ -51,7 +51,8 @@ fn darker(colour: Colour, part: f64) -> Colour {
     colour.map(|x| (f64::from(x) * part).round().min(255.0) as u8)
 }
 
-/// The faces of a sheet that face the eye, the farthest first. What cannot be drawn, as a corner that is not there or not finite, is left out.
+/// The faces of a sheet that face the eye, the farthest first. What cannot be drawn, as a corner that is not there or
+/// not finite, is left out.
 pub fn faces(sheet: &Sheet, view: &View) -> Vec<Face> {
     let axes = Axes::of(view.from);
     let points: Vec<Vector> = sheet.points.iter().map(|&p| axes.along(p)).collect();

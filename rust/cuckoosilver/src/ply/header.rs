@@ -3,11 +3,13 @@
 /// How the values are written.
 #[derive(Clone, Copy, Debug, PartialEq)]
 pub enum Format {
+    /// As text.
     Ascii,
+    /// Little-endian.
     Binary,
 }
 
-/// The types of values.
+/// The types of values, by their kind and bits.
 #[derive(Clone, Copy, Debug, PartialEq)]
 pub enum Scalar {
     I8,
@@ -40,24 +42,33 @@ impl Scalar {
 /// A property: one value, or a list with the type of its length.
 #[derive(Clone, Debug, PartialEq)]
 pub struct Property {
+    /// Its name.
     pub name: String,
+    /// The type of the length, of a list.
     pub length: Option<Scalar>,
+    /// The type of a value.
     pub scalar: Scalar,
 }
 
 /// An element, as `vertex`: how many there are, and what each has.
 #[derive(Clone, Debug, PartialEq)]
 pub struct Element {
+    /// Its name.
     pub name: String,
+    /// How many there are.
     pub count: u64,
+    /// What each has.
     pub properties: Vec<Property>,
 }
 
 /// A header.
 #[derive(Clone, Debug, PartialEq)]
 pub struct Header {
+    /// How the values are written.
     pub format: Format,
+    /// The comments.
     pub comments: Vec<String>,
+    /// The elements.
     pub elements: Vec<Element>,
 }
 

@@ -3,7 +3,9 @@ use super::header::{Format, Scalar};
 
 /// What is left of the values.
 pub enum Values<'a> {
+    /// Words.
     Ascii(std::str::SplitAsciiWhitespace<'a>),
+    /// Bytes.
     Binary(&'a [u8]),
 }
 

@@ -1,6 +1,6 @@
 //! Writes a sheet.
 use crate::labels;
-use quads::Sheet;
+use quads::{Counts, Sheet};
 use std::fmt::Write;
 
 /// The header of a file with these counts.
@@ -15,7 +15,7 @@ fn header(points: usize, quads: usize, format: &str, comment: &str) -> String {
 
 /// The file of a sheet, as text or binary, with a comment.
 pub fn write(sheet: &Sheet, ascii: bool, comment: &str) -> Vec<u8> {
-    let [points, quads, labels] = sheet.counts();
+    let Counts { points, quads, labels } = sheet.counts();
     let quads = quads.min(labels);
     if ascii {
         (header(points, quads, "ascii", comment) + &text(sheet)).into_bytes()

@@ -1,7 +1,12 @@
 //! The sheets and bands of the tests.
 #![allow(dead_code, reason = "no test uses all of them")]
-use quads::{Band, Field, Sheet};
+use quads::{Band, Counts, Field, Sheet};
 use std::collections::BTreeMap;
+
+/// The counts of a sheet with one label a quad.
+pub fn counts(points: usize, quads: usize) -> Counts {
+    Counts { points, quads, labels: quads }
+}
 
 /// The unit cube: six quads labelled 2 to 7, all turned outwards.
 pub fn cube() -> Sheet {

@@ -1,10 +1,11 @@
 //! One call of the face, between margins, and what it must leave.
 use crate::guarded::{Bits, Guarded, is_zero, same};
 use crate::inputs::Input;
-use quads::ffi;
+use quads::Counts;
+use quads::ffi::{self, Answer, BandRef, SheetMut, SheetOut, SheetRef, WorkMut};
 
 /// The operations.
-#[derive(Clone, Copy, Debug, PartialEq)]
+#[derive(Clone, Copy, Debug, PartialEq, Eq, PartialOrd, Ord)]
 pub enum Operation {
     Extract,
     Refine,
@@ -89,29 +90,28 @@ impl Lent {
     /// Calls an operation: its number.
     pub fn call(&mut self, operation: Operation, input: &Input) -> u32 {
         let Input { counts, kind, levels: [lower, upper], argument, .. } = *input;
-        let (numbers, bounds) = (self.numbers.list(), self.bounds.list());
-        let band = ffi::Given { kind, numbers, bounds, lower, upper };
-        let work = ffi::Work { wholes: self.work.list_mut(), floats: self.floats.list_mut() };
-        let answer = self.answer.list_mut();
-        if operation.alters() {
-            let (points, quads, labels) = (self.points.list_mut(), self.quads.list_mut(), self.labels.list_mut());
-            let sheet = ffi::Altered { points, quads, labels, counts };
-            return match operation {
-                Operation::Regularize => ffi::regularize(sheet, band, argument, work, answer),
-                Operation::ImproveLayout => ffi::improve_layout(sheet, band, argument, work, answer),
-                _ => ffi::coarsen(sheet, band, argument, work, answer),
-            };
-        }
-        let (points, quads, labels) = (self.points.list(), self.quads.list(), self.labels.list());
-        let sheet = ffi::Read { points, quads, labels, counts };
+        let band = BandRef { kind, numbers: self.numbers.list(), bounds: self.bounds.list(), lower, upper };
+        let work = WorkMut { wholes: self.work.list_mut(), floats: self.floats.list_mut() };
         let (points, quads) = (self.new_points.list_mut(), self.new_quads.list_mut());
-        let made = ffi::Written { points, quads, labels: self.new_labels.list_mut() };
+        let made = SheetOut { points, quads, labels: self.new_labels.list_mut() };
+        let answer = self.answer.list_mut();
+        let (points, quads, labels) = (self.points.list_mut(), self.quads.list_mut(), self.labels.list_mut());
+        let read = SheetRef { points, quads, labels, counts };
         match operation {
             Operation::Extract => ffi::extract_candidate(band, argument, made, work, answer),
-            Operation::Refine => ffi::refine(sheet, made, work, answer),
-            Operation::Subdivide => ffi::subdivide(sheet, band, made, work, answer),
-            Operation::Rows => ffi::boundary_rows(sheet, band, made, work, answer),
-            _ => ffi::quality(sheet, band, work, answer, self.measures.list_mut()),
+            Operation::Refine => ffi::refine(read, made, work, answer),
+            Operation::Subdivide => ffi::subdivide(read, band, made, work, answer),
+            Operation::Rows => ffi::boundary_rows(read, band, made, work, answer),
+            Operation::Quality => ffi::quality(read, band, work, answer, self.measures.list_mut()),
+            Operation::Regularize => {
+                ffi::regularize(SheetMut { points, quads, labels, counts }, band, argument, work, answer)
+            }
+            Operation::ImproveLayout => {
+                ffi::improve_layout(SheetMut { points, quads, labels, counts }, band, argument, work, answer)
+            }
+            Operation::Coarsen => {
+                ffi::coarsen(SheetMut { points, quads, labels, counts }, band, argument, work, answer)
+            }
         }
     }
 
@@ -182,7 +182,8 @@ impl Lent {
         self.answer.list().len() < operation.answers() || measures
     }
 
-    /// Whether the answer and the measures are written, zero after a refusal, and untouched behind and where they are too short.
+    /// Whether the answer and the measures are written, zero after a refusal, and untouched behind and where they are
+    /// too short.
     fn answers_fit(&self, before: &Lent, operation: Operation, accepted: bool) -> bool {
         let (now, then) = (self.answer.list(), before.answer.list());
         let (measures, measures_then) = (self.measures.list(), before.measures.list());
@@ -203,15 +204,18 @@ impl Lent {
         fn ends<T: Bits>(list: &[T], length: usize) -> bool {
             list.get(length..).is_some_and(is_zero)
         }
-        let count = |i: usize| self.answer.list().get(i).map_or(usize::MAX, |&n| n as usize);
-        let made = |points: &[f64], quads: &[u32], labels: &[u8]| {
-            ends(points, 3 * count(1)) && ends(quads, 4 * count(2)) && ends(labels, count(3))
+        let Some(&answer) = self.answer.list().first_chunk() else { return false };
+        let Counts { points, quads, labels } = Answer::from(answer).sheet;
+        let fits = |in_points: &[f64], in_quads: &[u32], in_labels: &[u8]| {
+            ends(in_points, 3 * points) && ends(in_quads, 4 * quads) && ends(in_labels, labels)
         };
         match operation {
             Operation::Quality => true,
-            Operation::Regularize | Operation::ImproveLayout => ends(self.quads.list(), 4 * count(2)),
-            Operation::Coarsen => made(self.points.list(), self.quads.list(), self.labels.list()),
-            _ => made(self.new_points.list(), self.new_quads.list(), self.new_labels.list()),
+            Operation::Regularize | Operation::ImproveLayout => ends(self.quads.list(), 4 * quads),
+            Operation::Coarsen => fits(self.points.list(), self.quads.list(), self.labels.list()),
+            Operation::Extract | Operation::Refine | Operation::Subdivide | Operation::Rows => {
+                fits(self.new_points.list(), self.new_quads.list(), self.new_labels.list())
+            }
         }
     }
 

@@ -46,7 +46,8 @@ pub fn is_zero<T: Bits>(list: &[T]) -> bool {
     list.iter().all(|x| x.bits() == 0)
 }
 
-/// A list with a margin of canaries on both sides. A margin of 0 puts the list's ends at those of its allocation, where valgrind sees them.
+/// A list with a margin of canaries on both sides. A margin of 0 puts the list's ends at those of its allocation,
+/// where valgrind sees them.
 #[derive(Clone)]
 pub struct Guarded<T> {
     all: Vec<T>,

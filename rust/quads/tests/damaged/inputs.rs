@@ -1,7 +1,7 @@
 //! Calls that are right, and the damage done to them.
 use crate::common::{bowl, cube, shell, unit_box};
 use crate::random::Random;
-use quads::{Band, Field, LIMIT, Sheet};
+use quads::{Band, Counts, Field, LIMIT, Sheet, sizes};
 
 /// Everything that a call may be lent.
 #[derive(Clone)]
@@ -9,7 +9,7 @@ pub struct Input {
     pub points: Vec<f64>,
     pub quads: Vec<u32>,
     pub labels: Vec<u8>,
-    pub counts: [usize; 3],
+    pub counts: Counts,
     pub kind: u32,
     pub numbers: Vec<f64>,
     pub bounds: Vec<f64>,
@@ -49,27 +49,26 @@ fn field(field: Field) -> (u32, Vec<f64>) {
 
 /// A call that is lent what it needs, its written slices full of what must go.
 pub fn right(random: &mut Random, (sheet, band): &(Sheet, Band), draws: bool) -> Input {
-    let [np, nq, nl] = sheet.counts();
+    let counts = sheet.counts();
     let (kind, numbers) = field(band.field);
     let cells: usize = random.pick(&[4, 5, 6]);
-    let (wholes, floats) =
-        if draws { (12 * (cells + 2).pow(3), (cells + 3).pow(3)) } else { (64 * (np + nq), 16 * (np + nq)) };
-    let n = if draws { 500 } else { 5 * nq };
+    let work = if draws { sizes::draw_work(cells) } else { sizes::sheet_work(counts) };
+    let n = if draws { 500 } else { 5 * counts.quads };
     Input {
         points: sheet.points.as_flattened().to_vec(),
         quads: sheet.quads.as_flattened().to_vec(),
         labels: sheet.labels.clone(),
-        counts: [np, nq, nl],
+        counts,
         kind,
         numbers,
         bounds: [band.low, band.high].as_flattened().to_vec(),
         levels: [band.lower, band.upper],
         argument: if draws { cells } else { random.pick(&[0, 1, 1, 2, 3]) },
-        new_points: vec![f64::NAN; 3 * (np + n)],
+        new_points: vec![f64::NAN; 3 * (counts.points + n)],
         new_quads: vec![u32::MAX; 4 * n],
         new_labels: vec![255; n],
-        work: vec![u32::MAX; wholes],
-        floats: vec![f64::NAN; floats],
+        work: vec![u32::MAX; work.wholes],
+        floats: vec![f64::NAN; work.floats],
         answer: vec![u64::MAX; 10],
         measures: vec![f64::NAN; 4],
     }
@@ -120,8 +119,13 @@ pub fn damage(random: &mut Random, input: &mut Input) {
         10 => stretch(random, &mut input.answer, u64::MAX),
         11 => stretch(random, &mut input.measures, f64::NAN),
         12..=14 => {
-            let which = random.below(3);
-            input.counts[which] = count(random, input.counts[which]);
+            let Counts { points, quads, labels } = &mut input.counts;
+            let n = match random.below(3) {
+                0 => points,
+                1 => quads,
+                _ => labels,
+            };
+            *n = count(random, *n);
         }
         15 => input.kind = random.pick(&[0, 1, 2, 3, u32::MAX]),
         16 => poke(random, &mut input.points, x),
@@ -133,7 +137,8 @@ pub fn damage(random: &mut Random, input: &mut Input) {
     }
 }
 
-/// Another number of cells or passes than a caller means to give. Without an end to the passes, neutral swaps may go on for ever.
+/// Another number of cells or passes than a caller means to give. Without an end to the passes, neutral swaps may go
+/// on for ever.
 pub fn damage_argument(random: &mut Random, input: &mut Input, endless: bool) {
     let most = if endless { 5 } else { usize::MAX };
     input.argument = random.pick(&[0, 3, 4, 5, 7, 129, 1 << 21, usize::MAX]).min(most);

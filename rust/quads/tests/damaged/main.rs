@@ -1,5 +1,6 @@
-//! The face of the library under damaged lengths, counts and numbers: no call crashes, writes outside of what it is lent, changes what it reads or
-//! leaves work behind. The calls follow from a seed: QUADS_SEED and QUADS_CALLS give another seed and another number of calls.
+//! The face of the library under damaged lengths, counts and numbers: no call crashes, writes outside of what it is
+//! lent, changes what it reads or leaves work behind. The calls follow from a seed: QUADS_SEED and QUADS_CALLS give
+//! another seed and another number of calls.
 mod call;
 #[path = "../common/mod.rs"]
 mod common;
@@ -9,6 +10,7 @@ mod random;
 
 use call::{Lent, OPERATIONS, Operation};
 use random::Random;
+use std::collections::BTreeMap;
 
 /// A number from the environment, or a default.
 fn number(name: &str, default: u64) -> u64 {
@@ -42,13 +44,13 @@ fn one(random: &mut Random, sheets: &[(quads::Sheet, quads::Band)]) -> (Operatio
 fn damaged_calls_are_answered() {
     let (calls, seed) = (number("QUADS_CALLS", 20_000), number("QUADS_SEED", 1));
     let (sheets, mut random) = (inputs::sheets(), Random(seed));
-    let mut answered = [[0_usize; 14]; 8];
+    let mut answered: BTreeMap<Operation, [usize; 14]> = OPERATIONS.map(|operation| (operation, [0; 14])).into();
     for call in 0..calls {
         let (operation, number, broken) = one(&mut random, &sheets);
         assert!(broken.is_empty(), "seed {seed}, call {call}: {operation:?} answers {number}: {broken:?}");
-        answered[operation as usize][number as usize] += 1;
+        answered.entry(operation).or_default()[number as usize] += 1;
     }
-    for (operation, numbers) in OPERATIONS.iter().zip(&answered) {
+    for (operation, numbers) in answered {
         println!("{operation:?}: calls by the number they answered, 0 first: {numbers:?}");
         assert!(numbers[0] > 0 && numbers[13] > 0, "{operation:?} was not called both rightly and wrongly");
     }

@@ -1,11 +1,13 @@
 //! Runs steps, one after the other, on one sheet.
 use crate::band::Parts;
-use crate::display::{self, print};
+use crate::display::{Report, print};
+use crate::operation::Operation;
 use crate::picture::{self, View};
 use crate::ply;
 use crate::problem::Problem;
+use crate::setting::Setting;
 use crate::step::{Action, Step};
-use quads::{Quality, Sheet};
+use quads::{Counts, Sheet};
 use std::fmt::Arguments;
 use std::fs;
 use std::io::Write;
@@ -13,7 +15,7 @@ use std::path::Path;
 use std::time::Instant;
 
 /// The sheet as it is now, and the options that hold.
-pub struct Job<'a> {
+pub struct Pipeline<'a> {
     out: &'a mut dyn Write,
     log: &'a mut dyn Write,
     sheet: Sheet,
@@ -23,11 +25,11 @@ pub struct Job<'a> {
     quiet: bool,
 }
 
-impl<'a> Job<'a> {
+impl<'a> Pipeline<'a> {
     /// Nothing yet; results go to `out`, progress to `log`.
-    pub fn new(out: &'a mut dyn Write, log: &'a mut dyn Write) -> Job<'a> {
+    pub fn new(out: &'a mut dyn Write, log: &'a mut dyn Write) -> Pipeline<'a> {
         let (sheet, parts, view) = (Sheet::default(), Parts::default(), View::default());
-        Job { out, log, sheet, parts, view, ascii: false, quiet: false }
+        Pipeline { out, log, sheet, parts, view, ascii: false, quiet: false }
     }
 
     /// Runs all steps, up to the first problem.
@@ -35,18 +37,23 @@ impl<'a> Job<'a> {
         steps.iter().try_for_each(|step| self.step(step).map_err(|problem| problem.at(&step.text)))
     }
 
-    /// Runs one step. One that works on the sheet is told in the log: its words before it starts, what it did and its time after it.
+    /// Runs one step.
     fn step(&mut self, step: &Step) -> Result<(), Problem> {
-        if step.action.is_option() {
-            self.hold(&step.action);
-            return Ok(());
+        match &step.action {
+            Action::Set(setting) => {
+                self.set(setting);
+                Ok(())
+            }
+            Action::Print(report) => self.print(*report),
+            Action::Run(operation) => self.run_and_tell(operation, &step.text),
         }
-        if step.action.prints() {
-            return self.show(&step.action);
-        }
-        self.tell(format_args!("{}: ", step.text));
+    }
+
+    /// Runs an operation. It is told in the log: its words before it starts, what it did and its time after it.
+    fn run_and_tell(&mut self, operation: &Operation, text: &str) -> Result<(), Problem> {
+        self.tell(format_args!("{text}: "));
         let started = Instant::now();
-        let did = self.act(&step.action);
+        let did = self.operate(operation);
         match &did {
             Ok(did) => self.tell(format_args!("{did}, {:.2} s\n", started.elapsed().as_secs_f64())),
             Err(_) => self.tell(format_args!("failed\n")),
@@ -54,7 +61,7 @@ impl<'a> Job<'a> {
         did.map(|_| ())
     }
 
-    /// Writes to the log, unless the job is quiet. A log that cannot be written is no reason to stop.
+    /// Writes to the log, unless the pipeline is quiet. A log that cannot be written is no reason to stop.
     fn tell(&mut self, text: Arguments) {
         if !self.quiet {
             let _ = self.log.write_fmt(text).and_then(|()| self.log.flush());
@@ -62,47 +69,39 @@ impl<'a> Job<'a> {
     }
 
     /// An option takes hold.
-    fn hold(&mut self, option: &Action) {
-        match *option {
-            Action::Ascii(ascii) => self.ascii = ascii,
-            Action::View(from) => self.view.from = from,
-            Action::Size(size) => self.view.size = size,
-            Action::Quiet => self.quiet = true,
-            _ => {
-                self.parts.take(option);
-            }
+    fn set(&mut self, setting: &Setting) {
+        match *setting {
+            Setting::Band(part) => self.parts.take(part),
+            Setting::Ascii(ascii) => self.ascii = ascii,
+            Setting::View(from) => self.view.from = from,
+            Setting::Size(size) => self.view.size = size,
+            Setting::Quiet => self.quiet = true,
         }
     }
 
     /// Prints what is asked of the sheet's quality.
-    fn show(&mut self, action: &Action) -> Result<(), Problem> {
-        let text: fn(&Quality) -> String = match action {
-            Action::Display => display::two_lines,
-            Action::Page => display::page,
-            _ => display::record,
-        };
+    fn print(&mut self, report: Report) -> Result<(), Problem> {
         let quality = self.sheet.quality(&self.parts.band()?)?;
-        print(self.out, &text(&quality))
+        print(self.out, &report.text(&quality))
     }
 
     /// Works on the sheet: what was done.
-    fn act(&mut self, action: &Action) -> Result<String, Problem> {
+    fn operate(&mut self, operation: &Operation) -> Result<String, Problem> {
         let (sheet, parts) = (&mut self.sheet, self.parts);
         let mut counted = String::new();
-        match action {
-            Action::Draw(cells) => *sheet = Sheet::extract_candidate(&parts.band()?, *cells)?,
-            Action::Refine => *sheet = sheet.refine()?,
-            Action::Subdivide => *sheet = sheet.subdivide(&parts.band()?)?,
-            Action::Rows => *sheet = sheet.boundary_rows(&parts.band()?)?,
-            Action::Regularize(passes) => counted = count(sheet.regularize(&parts.band()?, *passes)?, "swaps"),
-            Action::Improve(passes) => counted = count(sheet.improve_layout(&parts.band()?, *passes)?, "swaps"),
-            Action::Coarsen(passes) => counted = count(sheet.coarsen(&parts.band()?, *passes)?, "merges"),
-            Action::Read(file) => self.read(file)?,
-            Action::Write(file) => return self.write(file),
-            Action::Picture(file) => return self.picture(file),
-            _ => {}
+        match operation {
+            Operation::Draw(cells) => *sheet = Sheet::extract_candidate(&parts.band()?, *cells)?,
+            Operation::Refine => *sheet = sheet.refine()?,
+            Operation::Subdivide => *sheet = sheet.subdivide(&parts.band()?)?,
+            Operation::Rows => *sheet = sheet.boundary_rows(&parts.band()?)?,
+            Operation::Regularize(passes) => counted = count(sheet.regularize(&parts.band()?, *passes)?, "swaps"),
+            Operation::Improve(passes) => counted = count(sheet.improve_layout(&parts.band()?, *passes)?, "swaps"),
+            Operation::Coarsen(passes) => counted = count(sheet.coarsen(&parts.band()?, *passes)?, "merges"),
+            Operation::Read(file) => self.read(file)?,
+            Operation::Write(file) => return self.write(file),
+            Operation::Picture(file) => return self.picture(file),
         }
-        let [points, quads, _] = self.sheet.counts();
+        let Counts { points, quads, .. } = self.sheet.counts();
         Ok(format!("{counted}{points} points, {quads} quads"))
     }
 

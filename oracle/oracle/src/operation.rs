@@ -1,0 +1,145 @@
+//! The operations and the leaf functions that can be asked.
+use std::fmt;
+
+/// An operation or a leaf function, by its number in a record.
+#[derive(Clone, Copy, Debug, PartialEq, Eq, PartialOrd, Ord)]
+#[repr(u8)]
+pub enum Operation {
+    /// Makes each quad four.
+    Refine = 1,
+    /// Refines, smooths and projects.
+    Subdivide = 2,
+    /// Draws a sheet.
+    Extract = 3,
+    /// Swaps edges.
+    Regularize = 4,
+    /// Swaps edges for better shapes too.
+    ImproveLayout = 5,
+    /// Merges corners.
+    Coarsen = 6,
+    /// Adds rows along the borders between labels.
+    Rows = 7,
+    /// Measures a sheet.
+    Quality = 8,
+    /// Projects a point.
+    Project = 9,
+    /// The value of a field.
+    Value = 10,
+    /// The gradient of a band's field.
+    Gradient = 11,
+    /// The normal of a label.
+    Normal = 12,
+    /// The square root.
+    Sqrt = 13,
+    /// Tests a sheet.
+    Constraints = 14,
+    /// Tests a band.
+    Validate = 15,
+}
+
+impl Operation {
+    /// Its name.
+    pub fn name(self) -> &'static str {
+        match self {
+            Operation::Refine => "refine",
+            Operation::Subdivide => "subdivide",
+            Operation::Extract => "extract_candidate",
+            Operation::Regularize => "regularize",
+            Operation::ImproveLayout => "improve_layout",
+            Operation::Coarsen => "coarsen",
+            Operation::Rows => "boundary_rows",
+            Operation::Quality => "quality",
+            Operation::Project => "project",
+            Operation::Value => "value",
+            Operation::Gradient => "gradient",
+            Operation::Normal => "normal",
+            Operation::Sqrt => "sqrt",
+            Operation::Constraints => "constraints",
+            Operation::Validate => "validate",
+        }
+    }
+
+    /// Its number.
+    pub fn number(self) -> u8 {
+        self as u8
+    }
+
+    /// All of them in the order of their numbers.
+    pub fn all() -> impl Iterator<Item = Operation> {
+        (1..).map_while(|number| Operation::try_from(number).ok())
+    }
+}
+
+impl TryFrom<u8> for Operation {
+    type Error = UnknownOperation;
+
+    /// The operation of a number.
+    fn try_from(number: u8) -> Result<Operation, UnknownOperation> {
+        match number {
+            1 => Ok(Operation::Refine),
+            2 => Ok(Operation::Subdivide),
+            3 => Ok(Operation::Extract),
+            4 => Ok(Operation::Regularize),
+            5 => Ok(Operation::ImproveLayout),
+            6 => Ok(Operation::Coarsen),
+            7 => Ok(Operation::Rows),
+            8 => Ok(Operation::Quality),
+            9 => Ok(Operation::Project),
+            10 => Ok(Operation::Value),
+            11 => Ok(Operation::Gradient),
+            12 => Ok(Operation::Normal),
+            13 => Ok(Operation::Sqrt),
+            14 => Ok(Operation::Constraints),
+            15 => Ok(Operation::Validate),
+            _ => Err(UnknownOperation(number)),
+        }
+    }
+}
+
+/// A number that no operation has.
+#[derive(Clone, Copy, Debug, PartialEq, Eq)]
+pub struct UnknownOperation(pub u8);
+
+impl fmt::Display for UnknownOperation {
+    fn fmt(&self, f: &mut fmt::Formatter<'_>) -> fmt::Result {
+        write!(f, "{} is the number of no operation", self.0)
+    }
+}
+
+impl std::error::Error for UnknownOperation {}
+
+#[cfg(test)]
+mod tests {
+    use super::*;
+
+    #[test]
+    fn numbers_and_names_are_those_of_the_record_format() {
+        let names = [
+            "refine",
+            "subdivide",
+            "extract_candidate",
+            "regularize",
+            "improve_layout",
+            "coarsen",
+            "boundary_rows",
+            "quality",
+            "project",
+            "value",
+            "gradient",
+            "normal",
+            "sqrt",
+            "constraints",
+            "validate",
+        ];
+        assert_eq!(Operation::all().map(Operation::name).collect::<Vec<_>>(), names);
+        assert!(Operation::all().map(Operation::number).eq(1..=15));
+    }
+
+    #[test]
+    fn another_number_is_none() {
+        for number in [0, 16, u8::MAX] {
+            assert_eq!(Operation::try_from(number), Err(UnknownOperation(number)));
+        }
+        assert_eq!(UnknownOperation(16).to_string(), "16 is the number of no operation");
+    }
+}

@@ -1,0 +1,86 @@
+//! What the command line asks for: help, the embedded example, or steps.
+use crate::display::print;
+use crate::example;
+use crate::help;
+use crate::pipeline::Pipeline;
+use crate::problem::Problem;
+use crate::step::{self, Action, Step};
+use std::io::Write;
+use std::path::PathBuf;
+
+/// What a command line asks for.
+#[derive(Debug, PartialEq)]
+pub enum Invocation {
+    /// Print the help.
+    Help,
+    /// Print name and version.
+    Version,
+    /// Run the embedded example, and leave its files in a folder if one is named.
+    Example(Option<PathBuf>),
+    /// Run steps.
+    Steps(Vec<Step>),
+}
+
+impl Invocation {
+    /// What the words of a command line ask for.
+    pub fn parse(words: &[String]) -> Result<Invocation, Problem> {
+        let texts: Vec<&str> = words.iter().map(String::as_str).collect();
+        match texts[..] {
+            [] | ["example"] => Ok(Invocation::Example(None)),
+            ["example", folder] => Ok(Invocation::Example(Some(folder.into()))),
+            ["example", ..] => Err(Problem::Usage("example takes one folder at most".into())),
+            _ if texts.iter().any(|&word| word == "--help" || word == "-h") => Ok(Invocation::Help),
+            ["--version"] => Ok(Invocation::Version),
+            _ => steps(words).map(Invocation::Steps),
+        }
+    }
+
+    /// Does what is asked for.
+    pub fn run(&self, out: &mut dyn Write, log: &mut dyn Write) -> Result<(), Problem> {
+        match self {
+            Invocation::Help => print(out, help::TEXT),
+            Invocation::Version => print(out, concat!("cuckoosilver ", env!("CARGO_PKG_VERSION"), "\n")),
+            Invocation::Example(folder) => example::run(folder.as_deref(), out, log),
+            Invocation::Steps(steps) => Pipeline::new(out, log).run(steps),
+        }
+    }
+}
+
+/// The steps of a command line, of which the first brings a sheet.
+pub fn steps(words: &[String]) -> Result<Vec<Step>, Problem> {
+    let steps = step::parse(words)?;
+    let first = steps.iter().map(|step| &step.action).find(|action| !matches!(action, Action::Set(_)));
+    match first {
+        Some(Action::Run(operation)) if operation.brings_sheet() => Ok(steps),
+        _ => Err(Problem::Usage("there is no sheet: begin with draw CELLS or read FILE".into())),
+    }
+}
+
+#[cfg(test)]
+mod tests {
+    use super::*;
+
+    fn parse(text: &str) -> Result<Invocation, Problem> {
+        Invocation::parse(&text.split_whitespace().map(String::from).collect::<Vec<_>>())
+    }
+
+    #[test]
+    fn no_word_is_the_example() {
+        assert_eq!(parse(""), Ok(Invocation::Example(None)));
+        assert_eq!(parse("example there"), Ok(Invocation::Example(Some("there".into()))));
+    }
+
+    #[test]
+    fn help_is_asked_for_anywhere() {
+        assert_eq!(parse("draw 8 --help"), Ok(Invocation::Help));
+        assert_eq!(parse("-h"), Ok(Invocation::Help));
+    }
+
+    #[test]
+    fn a_sheet_comes_first() {
+        assert!(parse("draw 8 refine").is_ok());
+        for wrong in ["refine", "quality draw 8", "--levels 1 2", "page read a.ply"] {
+            assert!(matches!(parse(wrong), Err(Problem::Usage(_))), "{wrong}");
+        }
+    }
+}
