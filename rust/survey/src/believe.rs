@@ -78,7 +78,7 @@ impl<'a> Beliefs<'a> {
     pub fn of(tree: &'a Tree) -> Beliefs<'a> {
         let graph = Graph::new(tree);
         let cited = |contracts: &[Contract]| -> BTreeSet<Node> {
-            graph.closure(contracts.iter().flat_map(|one| graph.contract(one.file, one.function)))
+            graph.closure(contracts.iter().flat_map(|one| graph.cited_in(one.file, &one.function.contract)))
         };
         let doors = doors(tree);
         let exports = contracts(tree, |library, one| library == EXPORTS && one.export);

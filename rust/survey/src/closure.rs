@@ -1,6 +1,5 @@
 //! Which definitions rest on which.
 use crate::imports::{Import, Place, What};
-use crate::source::Function;
 use crate::tokens;
 use crate::tree::Tree;
 use std::collections::{BTreeMap, BTreeSet};
@@ -58,6 +57,7 @@ impl<'a> Graph<'a> {
             let scope = graph.source_scope(i);
             graph.sources.push(scope);
         }
+        graph.lost.extend(graph.unfound());
         graph
     }
 
@@ -149,19 +149,37 @@ impl<'a> Graph<'a> {
         scope
     }
 
+    /// What a word with the name of a module before it means; none where the word has none.
+    fn qualified(&self, scope: &Scope, word: &str) -> Option<Option<Node>> {
+        let (first, rest) = word.split_once('.')?;
+        let place = scope.modules.get(first)?;
+        let mut path = place.path.clone();
+        path.extend(rest.split('.').map(String::from));
+        let name = path.pop()?;
+        Some(self.find(&Place { library: place.library.clone(), path }, &name, LONGEST_WAY))
+    }
+
     /// What the words of a text mean in a scope.
     fn cited(&self, scope: &Scope, text: &str) -> Vec<Node> {
-        let meaning = |word: &str| {
-            let (first, rest) = word.split_once('.').unwrap_or((word, ""));
-            let Some(place) = scope.modules.get(first).filter(|_| !rest.is_empty()) else {
-                return scope.names.get(first).cloned();
-            };
-            let mut path = place.path.clone();
-            path.extend(rest.split('.').map(String::from));
-            let name = path.pop()?;
-            self.find(&Place { library: place.library.clone(), path }, &name, LONGEST_WAY)
-        };
+        let plain = |word: &str| scope.names.get(word.split('.').next()?).cloned();
+        let meaning = |word: &str| self.qualified(scope, word).unwrap_or_else(|| plain(word));
         tokens::names(text).into_iter().filter_map(meaning).collect()
+    }
+
+    /// The words of definitions and contracts that their modules do not have, one line each.
+    fn unfound(&self) -> Vec<String> {
+        let specs = self.tree.specs.iter().zip(&self.specs);
+        let defined =
+            specs.flat_map(|(file, scope)| file.spec.definitions.iter().map(move |one| (&file.path, scope, &one.text)));
+        let sources = self.tree.sources.iter().zip(&self.sources);
+        let promised = sources
+            .flat_map(|(file, scope)| file.source.functions.iter().map(move |one| (&file.path, scope, &one.contract)));
+        let mut found = vec![];
+        for (path, scope, text) in defined.chain(promised) {
+            let lost = tokens::names(text).into_iter().filter(|word| self.qualified(scope, word) == Some(None));
+            found.extend(lost.map(|word| format!("{path}: {word} is not found")));
+        }
+        found
     }
 
     /// What a definition or a type cites.
@@ -177,9 +195,9 @@ impl<'a> Graph<'a> {
         }
     }
 
-    /// What the contract of a function of a file of code cites.
-    pub fn contract(&self, file: usize, function: &Function) -> Vec<Node> {
-        self.cited(&self.sources[file], &function.contract)
+    /// What a text, a contract or a part of one, in a file of code cites.
+    pub fn cited_in(&self, file: usize, text: &str) -> Vec<Node> {
+        self.cited(&self.sources[file], text)
     }
 
     /// All that these rest on, themselves among them.

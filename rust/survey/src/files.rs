@@ -7,7 +7,8 @@ pub fn text(path: &Path) -> io::Result<String> {
     std::fs::read_to_string(path).map_err(|error| io::Error::new(error.kind(), format!("{}: {error}", path.display())))
 }
 
-/// All files below a folder with this ending, in the order of their paths; none where there is no folder.
+/// All files below a folder with this ending, in the order of their paths; none where there is no folder. What cargo
+/// builds is left out.
 pub fn below(folder: &Path, ending: &str) -> io::Result<Vec<PathBuf>> {
     let mut found = vec![];
     if folder.is_dir() {
@@ -17,8 +18,11 @@ pub fn below(folder: &Path, ending: &str) -> io::Result<Vec<PathBuf>> {
     Ok(found)
 }
 
-/// Adds the files below a folder that have this ending.
+/// Adds the files below a folder that have this ending, unless it holds what cargo builds.
 fn collect(folder: &Path, ending: &str, found: &mut Vec<PathBuf>) -> io::Result<()> {
+    if folder.join("CACHEDIR.TAG").is_file() {
+        return Ok(());
+    }
     for entry in std::fs::read_dir(folder)? {
         let path = entry?.path();
         if path.is_dir() {

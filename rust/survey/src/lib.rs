@@ -5,6 +5,7 @@
 #![deny(missing_docs)]
 
 pub mod believe;
+pub mod call;
 pub mod catalogue;
 pub mod closure;
 pub mod columns;
@@ -12,6 +13,7 @@ pub mod document;
 pub mod files;
 pub mod imports;
 pub mod map;
+pub mod names;
 pub mod paths;
 pub mod prose;
 pub mod reading;

@@ -4,13 +4,13 @@ use std::io;
 use std::path::Path;
 use std::process::ExitCode;
 use survey::document::Document;
-use survey::{Report, believe, columns, map, paths, reading};
+use survey::{Report, believe, call, columns, map, paths, reading};
 
 /// How it is called.
 const USAGE: &str = "survey believe [--write | --check]   what a reader must believe, docs/READING.md
-survey map [--write | --check]       the picture of the families of crates in docs/ARCHITECTURE.md
+survey map [--write | --check]       the families of crates, and the tables of docs/ARCHITECTURE.md
 survey columns                       lines and functions that are too long
-survey paths                         paths in the documents that do not exist";
+survey paths                         paths and names in the documents that do not exist";
 
 /// The report, after the document was compared with it or written where that is asked for.
 fn with_document(root: &Path, mut report: Report, document: &Document, option: Option<&str>) -> io::Result<Report> {
@@ -23,10 +23,11 @@ fn with_document(root: &Path, mut report: Report, document: &Document, option: O
     Ok(report)
 }
 
-/// The map, and where it is compared also the table of crates.
+/// The map; with an option also the two tables of its document, of crates and of one call.
 fn map_report(root: &Path, option: Option<&str>) -> io::Result<Report> {
     let mut report = with_document(root, map::report(root)?, &map::PICTURE, option)?;
-    if option == Some("--check") {
+    if option.is_some() {
+        report.faults.extend(with_document(root, call::report(root)?, &call::TABLE, option)?.faults);
         report.faults.extend(map::table_faults(root)?);
     }
     Ok(report)

@@ -1,6 +1,6 @@
-//! Whether the paths that the documents name exist.
+//! Whether the paths and the names in the documents exist.
 use crate::Report;
-use crate::files;
+use crate::{files, names};
 use std::io;
 use std::path::Path;
 
@@ -46,15 +46,19 @@ fn dead(root: &Path, document: &str, text: &str) -> Vec<String> {
     found
 }
 
-/// All paths in README.md and docs/*.md that do not exist.
+/// All paths and names in README.md and docs/*.md that do not exist.
 pub fn report(root: &Path) -> io::Result<Report> {
+    let words = names::words(root)?;
     let mut documents = files::below(&root.join("docs"), "md")?;
     documents.insert(0, root.join("README.md"));
     let mut faults = vec![];
     for path in &documents {
-        faults.extend(dead(root, &files::from_root(root, path), &files::text(path)?));
+        let (name, text) = (files::from_root(root, path), files::text(path)?);
+        faults.extend(dead(root, &name, &text));
+        faults.extend(names::unknown(&words, &name, &text));
     }
-    Ok(Report { text: format!("documents: {}; paths that do not exist: {}\n", documents.len(), faults.len()), faults })
+    let text = format!("documents: {}; paths and names that do not exist: {}\n", documents.len(), faults.len());
+    Ok(Report { text, faults })
 }
 
 #[cfg(test)]

@@ -19,6 +19,24 @@ pub struct Function {
     pub body: usize,
 }
 
+impl Function {
+    /// The clauses of its contract that say what holds behind a call.
+    pub fn ensures(&self) -> String {
+        let mut inside = false;
+        let mut text = String::new();
+        for line in self.contract.lines() {
+            inside = match CLAUSES.iter().find(|word| line.trim_start().starts_with(**word)) {
+                Some(word) => *word == "ensures",
+                None => inside,
+            };
+            if inside {
+                text += &format!("{line}\n");
+            }
+        }
+        text
+    }
+}
+
 /// A type: a struct or an enum.
 #[derive(Debug, Clone, PartialEq)]
 pub struct Type {
@@ -183,6 +201,7 @@ fn one() -> u32 { 1 }
         assert!(functions[0].public && functions[0].export && !functions[1].public);
         assert!(functions[0].contract.contains("ruleOf s") && functions[0].contract.contains("Asks"));
         assert!(!functions[0].contract.contains("Refused"));
+        assert!(functions[0].ensures().contains("ruleOf s") && !functions[0].ensures().contains("Asks"));
     }
 
     #[test]

@@ -72,6 +72,9 @@ fn an_import_that_is_not_found_is_told() {
     let tree = Tree::new("believe_lost");
     tree.put("crates/safety/specs/Claim.antt", &CLAIM.replace("{Outcome,", "{Outcome, other,"));
     assert_eq!(faults(&tree), ["crates/safety/specs/Claim.antt: the import other is not found"]);
+    let tree = Tree::new("believe_lost_module");
+    tree.put("crates/quads/src/lib.rt", &QUADS.replace("rules.addRule", "rules.other (rules.addRule)"));
+    assert_eq!(faults(&tree), ["crates/quads/src/lib.rt: rules.other is not found"]);
 }
 
 #[test]

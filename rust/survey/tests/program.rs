@@ -25,21 +25,33 @@ fn a_page_is_printed_written_and_compared() {
     assert!(run(&tree, &["believe", "--check"]).2.starts_with(&format!("docs/READING.md:{line}: ")));
 }
 
-#[test]
-fn the_picture_is_written_between_its_marks() {
-    let tree = Tree::new("program_map");
+/// A document with an empty picture, a table of one call and a table of crates.
+fn architecture(cell: &str) -> String {
+    let call = format!("<!-- call -->\n| `add::add` | adds | {cell} |\n<!-- /call -->\n");
     let rows = "| `numbers`, `rule_add`, `machine`, `add`, `safety`, `quads` | all |\n";
-    let table = format!("<!-- crates -->\n\n{rows}\n<!-- /crates -->\n");
-    tree.put("docs/ARCHITECTURE.md", &format!("# A tree\n{table}"));
-    let told = "docs/ARCHITECTURE.md: the marks (\"<!-- map -->\", \"<!-- /map -->\") are missing\n";
-    assert_eq!(run(&tree, &["map", "--write"]), (Some(1), String::new(), told.to_string()));
-    tree.put("docs/ARCHITECTURE.md", &format!("# A tree\n<!-- map -->\n<!-- /map -->\n{table}"));
-    assert_eq!(run(&tree, &["map", "--check"]).0, Some(1));
-    assert_eq!(run(&tree, &["map", "--write"]).0, Some(0));
+    format!("# A tree\n<!-- map -->\n<!-- /map -->\n{call}<!-- crates -->\n{rows}<!-- /crates -->\n")
+}
+
+#[test]
+fn the_picture_and_the_call_are_written_between_their_marks() {
+    let tree = Tree::new("program_map");
+    tree.put("docs/ARCHITECTURE.md", &architecture("old"));
+    let told = |line: usize| format!("docs/ARCHITECTURE.md:{line}: not what tools/map prints: run tools/map --write\n");
+    assert_eq!(run(&tree, &["map", "--check"]), (Some(1), String::new(), told(3) + &told(5)));
+    assert_eq!(run(&tree, &["map", "--write"]), (Some(0), String::new(), String::new()));
     assert_eq!(run(&tree, &["map", "--check"]), (Some(0), String::new(), String::new()));
     let picture = run(&tree, &["map"]).1;
-    let whole = format!("# A tree\n<!-- map -->\n{picture}<!-- /map -->\n{table}");
+    let whole = architecture("`addRule` (rule_add)").replace("<!-- /map -->", &format!("{picture}<!-- /map -->"));
     assert_eq!(tree.get("docs/ARCHITECTURE.md"), whole);
+}
+
+#[test]
+fn a_document_without_marks_is_told() {
+    let tree = Tree::new("program_marks");
+    tree.put("docs/ARCHITECTURE.md", "# A tree\n");
+    let (code, _, log) = run(&tree, &["map", "--write"]);
+    assert_eq!((code, log.lines().count()), (Some(1), 3));
+    assert!(log.starts_with("docs/ARCHITECTURE.md: the marks (\"<!-- map -->\", \"<!-- /map -->\") are missing\n"));
 }
 
 #[test]
