@@ -35,6 +35,9 @@ pub record Unchanged (P : List Float) (Q labels : List ℕ) (P′ : List Float) 
   pub labelled : labels′ ≡ labels
 
 -- the answer to an outcome: a refusal with the slices unchanged, or what the passes leave
-pub data Finds (P : List Float) (Q labels : List ℕ) : Outcome (Answer Sheet) → Coarsened → List Float → List ℕ → List ℕ → Type 0 where
-  refused : {n : ℕ} {P′ : List Float} {Q′ labels′ : List ℕ} → Unchanged P Q labels P′ Q′ labels′ → Finds P Q labels (refuses n) (Refused n) P′ Q′ labels′
-  done : {a : Answer Sheet} {r : Merged} {P′ : List Float} {Q′ labels′ : List ℕ} → Remains a r P′ Q′ labels′ → Finds P Q labels (gives a) (Done r) P′ Q′ labels′
+pub data Finds (P : List Float) (Q labels : List ℕ) : Outcome (Answer Sheet) → Coarsened → List Float → List ℕ → List ℕ
+    → Type 0 where
+  refused : {n : ℕ} {P′ : List Float} {Q′ labels′ : List ℕ} → Unchanged P Q labels P′ Q′ labels′
+      → Finds P Q labels (refuses n) (Refused n) P′ Q′ labels′
+  done : {a : Answer Sheet} {r : Merged} {P′ : List Float} {Q′ labels′ : List ℕ} → Remains a r P′ Q′ labels′
+      → Finds P Q labels (gives a) (Done r) P′ Q′ labels′

@@ -1,4 +1,5 @@
--- The passes as 000 makes them: each tests the sheet before it. The rule tests it once: "No pass after the first can refuse".
+-- The passes as 000 makes them: each tests the sheet before it. The rule tests it once: "No pass after the first
+-- can refuse".
 use Prim.Native.Nat.{ℕ, zero, suc, _+_}
 use mathlib.Core.Bool.{true, false}
 use lib.Dec.{eqb}
@@ -20,4 +21,5 @@ passLeaves b s = nextSheet (bandPass b) s
 abbrev pub testedRun : Band → ℕ → Sheet → ℕ → Outcome (Answer Sheet)
 testedRun b zero s m = gives (record { left = s; count = m })
 testedRun b (suc k) s m =
-    afterTest (sheetVerdict b s) (elim (eqb (passCount b s) 0) [ true ↦ gives (record { left = s; count = m }) | false ↦ testedRun b k (passLeaves b s) (m + passCount b s) ])
+    afterTest (sheetVerdict b s) (elim (eqb (passCount b s) 0)
+    [ true ↦ gives (record { left = s; count = m }) | false ↦ testedRun b k (passLeaves b s) (m + passCount b s) ])

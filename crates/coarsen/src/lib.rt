@@ -29,7 +29,8 @@ fn merge_once(
 ) -> Merged
     requires { ⌜ Coarsenable b c (now points) (now quads) (now labels) (now w) (length (now floats)) ⌝ }
     requires { ⌜ len ≡ lengthOf b ⌝ }
-    ensures { λ r. ⌜ Remains (coarseSheet b 1 (sheetOf c (now (points .entry)) (now (quads .entry)) (now (labels .entry)))) r (now (points .exit)) (now (quads .exit)) (now (labels .exit)) ⌝ }
+    ensures { λ r. ⌜ Remains (coarseSheet b 1 (sheetOf c (now (points .entry)) (now (quads .entry))
+        (now (labels .entry)))) r (now (points .exit)) (now (quads .exit)) (now (labels .exit)) ⌝ }
 {
     let np = c.points;
     let nq = c.quads;
@@ -64,7 +65,8 @@ fn merge_passes(
     floats: &mut [f64],
 ) -> Merged
     requires { ⌜ Coarsenable b c (now points) (now quads) (now labels) (now w) (length (now floats)) ⌝ }
-    ensures { λ r. ⌜ Remains (coarseSheet b passes (sheetOf c (now (points .entry)) (now (quads .entry)) (now (labels .entry)))) r (now (points .exit)) (now (quads .exit)) (now (labels .exit)) ⌝ }
+    ensures { λ r. ⌜ Remains (coarseSheet b passes (sheetOf c (now (points .entry)) (now (quads .entry))
+        (now (labels .entry)))) r (now (points .exit)) (now (quads .exit)) (now (labels .exit)) ⌝ }
 {
     let len = band::length(b);
     let mut sheet = c;
@@ -99,7 +101,10 @@ fn coarsen_or_refusal(
     work: &mut [u32],
     floats: &mut [f64],
 ) -> Coarsened
-    ensures { λ r. ⌜ Finds (now (points .entry)) (now (quads .entry)) (now (labels .entry)) (coarsenRule b passes c (now (points .entry)) (now (quads .entry)) (now (labels .entry)) (length (now (work .entry))) (length (now (floats .entry)))) r (now (points .exit)) (now (quads .exit)) (now (labels .exit)) ⌝ }
+    ensures { λ r. ⌜ Finds (now (points .entry)) (now (quads .entry)) (now (labels .entry))
+        (coarsenRule b passes c (now (points .entry)) (now (quads .entry)) (now (labels .entry))
+        (length (now (work .entry))) (length (now (floats .entry)))) r (now (points .exit)) (now (quads .exit))
+        (now (labels .exit)) ⌝ }
 {
     let lent = sheet::lent(
         c,
@@ -122,7 +127,8 @@ fn coarsen_or_refusal(
     Coarsened::Done(merge_passes(b, passes, c, points, quads, labels, work, floats))
 }
 
-// Merges opposite corners of quads, at most so many passes. The sheet is altered in place; the answer has the merges made and the counts of the sheet that is left.
+// Merges opposite corners of quads, at most so many passes. The sheet is altered in place; the answer has the
+// merges made and the counts of the sheet that is left.
 pub fn coarsen(
     b: Band,
     passes: usize,
@@ -133,7 +139,9 @@ pub fn coarsen(
     work: &mut [u32],
     floats: &mut [f64],
 ) -> Coarsened
-    ensures { λ r. ⌜ Leaves (coarsenRule b passes c (now (points .entry)) (now (quads .entry)) (now (labels .entry)) (length (now (work .entry))) (length (now (floats .entry)))) (now (points .entry)) (now (quads .entry)) (now (labels .entry)) r (now (points .exit)) (now (quads .exit)) (now (labels .exit)) ⌝ }
+    ensures { λ r. ⌜ Leaves (coarsenRule b passes c (now (points .entry)) (now (quads .entry)) (now (labels .entry))
+        (length (now (work .entry))) (length (now (floats .entry)))) (now (points .entry)) (now (quads .entry))
+        (now (labels .entry)) r (now (points .exit)) (now (quads .exit)) (now (labels .exit)) ⌝ }
     ensures { λ _. ⌜ now (work .exit) ≡ replicate (length (now (work .entry))) 0 ⌝ }
     ensures { λ _. ⌜ now (floats .exit) ≡ replicate (length (now (floats .entry))) zeroF ⌝ }
 {

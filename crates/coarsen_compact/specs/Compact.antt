@@ -1,4 +1,5 @@
--- What a pass of merges leaves of a sheet in slices: some quads are out, and "Points are renumbered by first use after a pass that merged."
+-- What a pass of merges leaves of a sheet in slices: some quads are out, and "Points are renumbered by first use
+-- after a pass that merged."
 use Prim.Native.Nat.{ℕ, zero, suc, _+_, _*_, _/_, _≤_, _<_}
 use mathlib.Core.Path.{_≡_}
 use mathlib.Core.Bool.{Bool, cond}
@@ -32,7 +33,8 @@ pub record Begins (s : Sheet) (r : Counts) (P : List Float) (Q labels : List ℕ
   pub quads : Front (flatQuads (s .quads)) Q
   pub labelled : Front (s .labels) labels
 
--- what `compact` asks: corners among the points, slices of p coordinates, l labels and f floats that hold enough, and two regions of w
+-- what `compact` asks: corners among the points, slices of p coordinates, l labels and f floats that hold enough,
+-- and two regions of w
 pub record Compacting (np nq p : ℕ) (Q : List ℕ) (l removed numbers : ℕ) (w : List ℕ) (f : ℕ) : Type 0 where
   pub sheet : Cornered np nq Q
   pub points : np ≤ limit
@@ -71,7 +73,8 @@ numberIn Q n i = place (getD Q i 0) (usedIn Q n)
 abbrev pub pointsIn : List Float → List ℕ → List Point
 pointsIn P l = map (pointAt P) l
 
--- what the point v asks, of np points with p coordinates, when `used` of them have a number in the region at `numbers` and a place in f floats: a number is free where it has none
+-- what the point v asks, of np points with p coordinates, when `used` of them have a number in the region at
+-- `numbers` and a place in f floats: a number is free where it has none
 pub record Meeting (np p v used numbers : ℕ) (w : List ℕ) (f : ℕ) : Type 0 where
   pub few : np ≤ limit
   pub known : v < np
@@ -80,7 +83,8 @@ pub record Meeting (np p v used numbers : ℕ) (w : List ℕ) (f : ℕ) : Type 0
   pub in-numbers : numbers + np ≤ length w
   pub new : getD w (numbers + v) 0 ≡ 0 → used < np
 
--- what the numbering of m corners asks: points as corners, room for np points in p coordinates and f floats, and no number given
+-- what the numbering of m corners asks: points as corners, room for np points in p coordinates and f floats, and no
+-- number given
 pub record Numbering (np m p : ℕ) (Q : List ℕ) (numbers : ℕ) (w : List ℕ) (f : ℕ) : Type 0 where
   pub few : np ≤ limit
   pub fits : m ≤ length Q

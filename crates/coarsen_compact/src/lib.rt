@@ -1,4 +1,5 @@
-// The renumbering after a pass of merges: the quads that are still here, their labels, and the points in the order of their first use.
+// The renumbering after a pass of merges: the quads that are still here, their labels, and the points in the order
+// of their first use.
 
 use rule_sheet::Counts;
 ghost use mathlib.Core.Path.{_≡_};
@@ -12,7 +13,8 @@ ghost use Rattle.points.specs.Points.{pointAt};
 ghost use Rattle.points.specs.Steps.{withPoint};
 ghost use Rattle.rule_sheet.specs.Sheet.{flatPoints};
 ghost use Rattle.sheet.specs.Results.{Front};
-ghost use Rattle.coarsen_compact.specs.Compact.{compacted, Begins, Compacting, quadStays, cornerStays, packed, usedIn, numberIn, pointsIn, Meeting, Numbering};
+ghost use Rattle.coarsen_compact.specs.Compact.{compacted, Begins, Compacting, quadStays, cornerStays, packed};
+ghost use Rattle.coarsen_compact.specs.Compact.{usedIn, numberIn, pointsIn, Meeting, Numbering};
 
 // Moves the label of quad q to place k if the quad is still here; answers the place of the next one.
 fn keep_label(q: usize, k: usize, removed: usize, w: &[u32], labels: &mut [u8]) -> usize
@@ -20,7 +22,8 @@ fn keep_label(q: usize, k: usize, removed: usize, w: &[u32], labels: &mut [u8]) 
     requires { ⌜ q < length (now labels) ⌝ }
     requires { ⌜ k ≤ q ⌝ }
     ensures { λ r. ⌜ r ≡ cond (eqb (getD (now (w .entry)) (removed + q) 0) 0) (k + 1) k ⌝ }
-    ensures { λ _. ⌜ now (labels .exit) ≡ cond (eqb (getD (now (w .entry)) (removed + q) 0) 0) (set (now (labels .entry)) k (getD (now (labels .entry)) q 0)) (now (labels .entry)) ⌝ }
+    ensures { λ _. ⌜ now (labels .exit) ≡ cond (eqb (getD (now (w .entry)) (removed + q) 0) 0)
+        (set (now (labels .entry)) k (getD (now (labels .entry)) q 0)) (now (labels .entry)) ⌝ }
 {
     if w[removed + q] != 0 {
         return k;
@@ -34,7 +37,8 @@ fn pack_labels(nq: usize, removed: usize, w: &[u32], labels: &mut [u8]) -> usize
     requires { ⌜ removed + nq ≤ length (now w) ⌝ }
     requires { ⌜ nq ≤ length (now labels) ⌝ }
     ensures { λ r. ⌜ r ≡ length (packed (quadStays (part removed nq (now (w .entry)))) (now (labels .entry)) nq) ⌝ }
-    ensures { λ _. ⌜ Front (packed (quadStays (part removed nq (now (w .entry)))) (now (labels .entry)) nq) (now (labels .exit)) ⌝ }
+    ensures { λ _. ⌜ Front (packed (quadStays (part removed nq (now (w .entry)))) (now (labels .entry)) nq)
+        (now (labels .exit)) ⌝ }
 {
     let mut k = 0;
     let mut q = 0;
@@ -51,7 +55,8 @@ fn keep_corner(c: usize, k: usize, removed: usize, w: &[u32], quads: &mut [u32])
     requires { ⌜ c < length (now quads) ⌝ }
     requires { ⌜ k ≤ c ⌝ }
     ensures { λ r. ⌜ r ≡ cond (eqb (getD (now (w .entry)) (removed + c / 4) 0) 0) (k + 1) k ⌝ }
-    ensures { λ _. ⌜ now (quads .exit) ≡ cond (eqb (getD (now (w .entry)) (removed + c / 4) 0) 0) (set (now (quads .entry)) k (getD (now (quads .entry)) c 0)) (now (quads .entry)) ⌝ }
+    ensures { λ _. ⌜ now (quads .exit) ≡ cond (eqb (getD (now (w .entry)) (removed + c / 4) 0) 0)
+        (set (now (quads .entry)) k (getD (now (quads .entry)) c 0)) (now (quads .entry)) ⌝ }
 {
     if w[removed + c / 4] != 0 {
         return k;
@@ -64,8 +69,10 @@ fn keep_corner(c: usize, k: usize, removed: usize, w: &[u32], quads: &mut [u32])
 fn pack_corners(nq: usize, removed: usize, w: &[u32], quads: &mut [u32]) -> usize
     requires { ⌜ removed + nq ≤ length (now w) ⌝ }
     requires { ⌜ 4 * nq ≤ length (now quads) ⌝ }
-    ensures { λ r. ⌜ r ≡ length (packed (cornerStays (part removed nq (now (w .entry)))) (now (quads .entry)) (4 * nq)) ⌝ }
-    ensures { λ _. ⌜ Front (packed (cornerStays (part removed nq (now (w .entry)))) (now (quads .entry)) (4 * nq)) (now (quads .exit)) ⌝ }
+    ensures { λ r. ⌜ r ≡ length (packed (cornerStays (part removed nq (now (w .entry)))) (now (quads .entry))
+        (4 * nq)) ⌝ }
+    ensures { λ _. ⌜ Front (packed (cornerStays (part removed nq (now (w .entry)))) (now (quads .entry)) (4 * nq))
+        (now (quads .exit)) ⌝ }
 {
     let n = 4 * nq;
     let mut k = 0;
@@ -77,7 +84,8 @@ fn pack_corners(nq: usize, removed: usize, w: &[u32], quads: &mut [u32]) -> usiz
     k
 }
 
-// Gives point v the next number, if it has none: one more than it is in the region at numbers, and the point in the floats. Answers how many points have one.
+// Gives point v the next number, if it has none: one more than it is in the region at numbers, and the point in the
+// floats. Answers how many points have one.
 fn meet_point(
     np: usize,
     v: usize,
@@ -89,8 +97,10 @@ fn meet_point(
 ) -> usize
     requires { ⌜ Meeting np (length (now points)) v used numbers (now w) (length (now floats)) ⌝ }
     ensures { λ r. ⌜ r ≡ cond (eqb (getD (now (w .entry)) (numbers + v) 0) 0) (used + 1) used ⌝ }
-    ensures { λ _. ⌜ now (w .exit) ≡ cond (eqb (getD (now (w .entry)) (numbers + v) 0) 0) (set (now (w .entry)) (numbers + v) (used + 1)) (now (w .entry)) ⌝ }
-    ensures { λ _. ⌜ now (floats .exit) ≡ cond (eqb (getD (now (w .entry)) (numbers + v) 0) 0) (withPoint (now (floats .entry)) used (pointAt (now (points .entry)) v)) (now (floats .entry)) ⌝ }
+    ensures { λ _. ⌜ now (w .exit) ≡ cond (eqb (getD (now (w .entry)) (numbers + v) 0) 0)
+        (set (now (w .entry)) (numbers + v) (used + 1)) (now (w .entry)) ⌝ }
+    ensures { λ _. ⌜ now (floats .exit) ≡ cond (eqb (getD (now (w .entry)) (numbers + v) 0) 0)
+        (withPoint (now (floats .entry)) used (pointAt (now (points .entry)) v)) (now (floats .entry)) ⌝ }
 {
     if w[numbers + v] != 0 {
         return used;
@@ -100,7 +110,8 @@ fn meet_point(
     used + 1
 }
 
-// Numbers the points of the first m corners by their first use, and puts them to the floats in that order. Answers how many they are.
+// Numbers the points of the first m corners by their first use, and puts them to the floats in that order. Answers
+// how many they are.
 fn number_corners(
     np: usize,
     m: usize,
@@ -113,7 +124,8 @@ fn number_corners(
     requires { ⌜ Numbering np m (length (now points)) (now quads) numbers (now w) (length (now floats)) ⌝ }
     ensures { λ r. ⌜ r ≡ length (usedIn (now (quads .entry)) m) ⌝ }
     ensures { λ _. ⌜ Front (tabulate (numberIn (now (quads .entry)) m) m) (now (quads .exit)) ⌝ }
-    ensures { λ _. ⌜ Front (flatPoints (pointsIn (now (points .entry)) (usedIn (now (quads .entry)) m))) (now (floats .exit)) ⌝ }
+    ensures { λ _. ⌜ Front (flatPoints (pointsIn (now (points .entry)) (usedIn (now (quads .entry)) m)))
+        (now (floats .exit)) ⌝ }
     ensures { λ _. ⌜ Kept (Out numbers np) (now (w .entry)) (now (w .exit)) ⌝ }
 {
     let mut used = 0;
@@ -140,7 +152,8 @@ fn copy_front(n: usize, from: &[f64], to: &mut [f64])
     }
 }
 
-// Leaves the sheet without the quads whose marks in the region at removed are not 0, its points renumbered by first use, in front of its slices. The region at numbers and the floats are work.
+// Leaves the sheet without the quads whose marks in the region at removed are not 0, its points renumbered by first
+// use, in front of its slices. The region at numbers and the floats are work.
 pub fn compact(
     np: usize,
     nq: usize,
@@ -152,8 +165,10 @@ pub fn compact(
     w: &mut [u32],
     floats: &mut [f64],
 ) -> Counts
-    requires { ⌜ Compacting np nq (length (now points)) (now quads) (length (now labels)) removed numbers (now w) (length (now floats)) ⌝ }
-    ensures { λ r. ⌜ Begins (compacted np nq (now (points .entry)) (now (quads .entry)) (now (labels .entry)) (part removed nq (now (w .entry)))) r (now (points .exit)) (now (quads .exit)) (now (labels .exit)) ⌝ }
+    requires { ⌜ Compacting np nq (length (now points)) (now quads) (length (now labels)) removed numbers (now w)
+        (length (now floats)) ⌝ }
+    ensures { λ r. ⌜ Begins (compacted np nq (now (points .entry)) (now (quads .entry)) (now (labels .entry))
+        (part removed nq (now (w .entry)))) r (now (points .exit)) (now (quads .exit)) (now (labels .exit)) ⌝ }
     ensures { λ _. ⌜ Kept (Out numbers np) (now (w .entry)) (now (w .exit)) ⌝ }
 {
     let kept = pack_labels(nq, removed, w, labels);

@@ -1,4 +1,5 @@
-// How the exports take a band: its field as a kind and ten numbers, its box as six bounds, and two levels; and how they show counts.
+// How the exports take a band: its field as a kind and ten numbers, its box as six bounds, and two levels; and how
+// they show counts.
 
 use band::Band;
 use field::Coefficients;

@@ -64,7 +64,9 @@ fn clean_by(
     work: &mut [u32],
     floats: &mut [f64],
 ) -> Cleaned
-    ensures { λ r. ⌜ CleanedBy (cleanBy neutral (now (points .entry)) (now (quads .entry)) (now (labels .entry)) c kind (now (numbers .entry)) (now (bounds .entry)) lower upper passes (length (now (work .entry))) (length (now (floats .entry)))) (now (quads .entry)) r (now (quads .exit)) ⌝ }
+    ensures { λ r. ⌜ CleanedBy (cleanBy neutral (now (points .entry)) (now (quads .entry)) (now (labels .entry)) c kind
+        (now (numbers .entry)) (now (bounds .entry)) lower upper passes (length (now (work .entry)))
+        (length (now (floats .entry)))) (now (quads .entry)) r (now (quads .exit)) ⌝ }
     ensures { λ _. ⌜ now (work .exit) ≡ replicate (length (now (work .entry))) 0 ⌝ }
     ensures { λ _. ⌜ now (floats .exit) ≡ replicate (length (now (floats .entry))) zeroF ⌝ }
 {
@@ -97,9 +99,16 @@ pub fn clean_answered(
     floats: &mut [f64],
     answer: &mut [u64],
 ) -> u32
-    ensures { λ r. ⌜ r ≡ cleanedNumber (answerOf (roomFor (length (now (answer .entry))) (cleanBy neutral (now (points .entry)) (now (quads .entry)) (now (labels .entry)) c kind (now (numbers .entry)) (now (bounds .entry)) lower upper passes (length (now (work .entry))) (length (now (floats .entry)))))) ⌝ }
-    ensures { λ _. ⌜ now (quads .exit) ≡ quadsLeft (roomFor (length (now (answer .entry))) (cleanBy neutral (now (points .entry)) (now (quads .entry)) (now (labels .entry)) c kind (now (numbers .entry)) (now (bounds .entry)) lower upper passes (length (now (work .entry))) (length (now (floats .entry))))) (now (quads .entry)) ⌝ }
-    ensures { λ _. ⌜ now (answer .exit) ≡ countLeft (cleanBy neutral (now (points .entry)) (now (quads .entry)) (now (labels .entry)) c kind (now (numbers .entry)) (now (bounds .entry)) lower upper passes (length (now (work .entry))) (length (now (floats .entry)))) c (now (answer .entry)) ⌝ }
+    ensures { λ r. ⌜ r ≡ cleanedNumber (answerOf (roomFor (length (now (answer .entry)))
+        (cleanBy neutral (now (points .entry)) (now (quads .entry)) (now (labels .entry)) c kind (now (numbers .entry))
+        (now (bounds .entry)) lower upper passes (length (now (work .entry))) (length (now (floats .entry)))))) ⌝ }
+    ensures { λ _. ⌜ now (quads .exit) ≡ quadsLeft (roomFor (length (now (answer .entry)))
+        (cleanBy neutral (now (points .entry)) (now (quads .entry)) (now (labels .entry)) c kind (now (numbers .entry))
+        (now (bounds .entry)) lower upper passes (length (now (work .entry))) (length (now (floats .entry)))))
+        (now (quads .entry)) ⌝ }
+    ensures { λ _. ⌜ now (answer .exit) ≡ countLeft (cleanBy neutral (now (points .entry)) (now (quads .entry))
+        (now (labels .entry)) c kind (now (numbers .entry)) (now (bounds .entry)) lower upper passes
+        (length (now (work .entry))) (length (now (floats .entry)))) c (now (answer .entry)) ⌝ }
     ensures { λ _. ⌜ now (work .exit) ≡ replicate (length (now (work .entry))) 0 ⌝ }
     ensures { λ _. ⌜ now (floats .exit) ≡ replicate (length (now (floats .entry))) zeroF ⌝ }
 {
@@ -177,7 +186,10 @@ fn coarsen_by(
     work: &mut [u32],
     floats: &mut [f64],
 ) -> Coarsened
-    ensures { λ r. ⌜ Leaves (coarsenBy (now (points .entry)) (now (quads .entry)) (now (labels .entry)) c kind (now (numbers .entry)) (now (bounds .entry)) lower upper passes (length (now (work .entry))) (length (now (floats .entry)))) (now (points .entry)) (now (quads .entry)) (now (labels .entry)) r (now (points .exit)) (now (quads .exit)) (now (labels .exit)) ⌝ }
+    ensures { λ r. ⌜ Leaves (coarsenBy (now (points .entry)) (now (quads .entry)) (now (labels .entry)) c kind
+        (now (numbers .entry)) (now (bounds .entry)) lower upper passes (length (now (work .entry)))
+        (length (now (floats .entry)))) (now (points .entry)) (now (quads .entry)) (now (labels .entry)) r
+        (now (points .exit)) (now (quads .exit)) (now (labels .exit)) ⌝ }
     ensures { λ _. ⌜ now (work .exit) ≡ replicate (length (now (work .entry))) 0 ⌝ }
     ensures { λ _. ⌜ now (floats .exit) ≡ replicate (length (now (floats .entry))) zeroF ⌝ }
 {
@@ -206,7 +218,10 @@ pub fn coarsen_answered(
     floats: &mut [f64],
     answer: &mut [u64],
 ) -> u32
-    ensures { λ r. ⌜ Coarsens (coarsenBy (now (points .entry)) (now (quads .entry)) (now (labels .entry)) c kind (now (numbers .entry)) (now (bounds .entry)) lower upper passes (length (now (work .entry))) (length (now (floats .entry)))) (now (points .entry)) (now (quads .entry)) (now (labels .entry)) (now (answer .entry)) r (now (points .exit)) (now (quads .exit)) (now (labels .exit)) (now (answer .exit)) ⌝ }
+    ensures { λ r. ⌜ Coarsens (coarsenBy (now (points .entry)) (now (quads .entry)) (now (labels .entry)) c kind
+        (now (numbers .entry)) (now (bounds .entry)) lower upper passes (length (now (work .entry)))
+        (length (now (floats .entry)))) (now (points .entry)) (now (quads .entry)) (now (labels .entry))
+        (now (answer .entry)) r (now (points .exit)) (now (quads .exit)) (now (labels .exit)) (now (answer .exit)) ⌝ }
     ensures { λ _. ⌜ now (work .exit) ≡ replicate (length (now (work .entry))) 0 ⌝ }
     ensures { λ _. ⌜ now (floats .exit) ≡ replicate (length (now (floats .entry))) zeroF ⌝ }
 {

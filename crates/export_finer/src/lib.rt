@@ -35,8 +35,16 @@ pub fn refine_answered(
     floats: &mut [f64],
     answer: &mut [u64],
 ) -> u32
-    ensures { λ r. ⌜ Exports (roomFor (length (now (answer .entry))) (refineRule c (now (points .entry)) (now (quads .entry)) (now (labels .entry)) (length (now (work .entry))) (length (now (floats .entry))) (length (now («new_points» .entry))) (length (now («new_quads» .entry))) (length (now («new_labels» .entry))))) (length (now («new_points» .entry))) (length (now («new_quads» .entry))) (length (now («new_labels» .entry))) r (now («new_points» .exit)) (now («new_quads» .exit)) (now («new_labels» .exit)) ⌝ }
-    ensures { λ _. ⌜ now (answer .exit) ≡ answerLeft (refineRule c (now (points .entry)) (now (quads .entry)) (now (labels .entry)) (length (now (work .entry))) (length (now (floats .entry))) (length (now («new_points» .entry))) (length (now («new_quads» .entry))) (length (now («new_labels» .entry)))) (now (answer .entry)) ⌝ }
+    ensures { λ r. ⌜ Exports (roomFor (length (now (answer .entry)))
+        (refineRule c (now (points .entry)) (now (quads .entry)) (now (labels .entry)) (length (now (work .entry)))
+        (length (now (floats .entry))) (length (now («new_points» .entry))) (length (now («new_quads» .entry)))
+        (length (now («new_labels» .entry))))) (length (now («new_points» .entry))) (length (now («new_quads» .entry)))
+        (length (now («new_labels» .entry))) r (now («new_points» .exit)) (now («new_quads» .exit))
+        (now («new_labels» .exit)) ⌝ }
+    ensures { λ _. ⌜ now (answer .exit) ≡ answerLeft (refineRule c (now (points .entry)) (now (quads .entry))
+        (now (labels .entry)) (length (now (work .entry))) (length (now (floats .entry)))
+        (length (now («new_points» .entry))) (length (now («new_quads» .entry))) (length (now («new_labels» .entry))))
+        (now (answer .entry)) ⌝ }
     ensures { λ _. ⌜ now (work .exit) ≡ replicate (length (now (work .entry))) 0 ⌝ }
     ensures { λ _. ⌜ now (floats .exit) ≡ replicate (length (now (floats .entry))) zeroF ⌝ }
 {
@@ -82,7 +90,12 @@ fn subdivide_by(
     work: &mut [u32],
     floats: &mut [f64],
 ) -> Made
-    ensures { λ r. ⌜ Leaves (subdivideBy (now (points .entry)) (now (quads .entry)) (now (labels .entry)) c kind (now (numbers .entry)) (now (bounds .entry)) lower upper (length (now (work .entry))) (length (now (floats .entry))) (length (now («new_points» .entry))) (length (now («new_quads» .entry))) (length (now («new_labels» .entry)))) (length (now («new_points» .entry))) (length (now («new_quads» .entry))) (length (now («new_labels» .entry))) r (now («new_points» .exit)) (now («new_quads» .exit)) (now («new_labels» .exit)) ⌝ }
+    ensures { λ r. ⌜ Leaves (subdivideBy (now (points .entry)) (now (quads .entry)) (now (labels .entry)) c kind
+        (now (numbers .entry)) (now (bounds .entry)) lower upper (length (now (work .entry)))
+        (length (now (floats .entry))) (length (now («new_points» .entry))) (length (now («new_quads» .entry)))
+        (length (now («new_labels» .entry)))) (length (now («new_points» .entry))) (length (now («new_quads» .entry)))
+        (length (now («new_labels» .entry))) r (now («new_points» .exit)) (now («new_quads» .exit))
+        (now («new_labels» .exit)) ⌝ }
     ensures { λ _. ⌜ now (work .exit) ≡ replicate (length (now (work .entry))) 0 ⌝ }
     ensures { λ _. ⌜ now (floats .exit) ≡ replicate (length (now (floats .entry))) zeroF ⌝ }
 {
@@ -130,8 +143,16 @@ pub fn subdivide_answered(
     floats: &mut [f64],
     answer: &mut [u64],
 ) -> u32
-    ensures { λ r. ⌜ Exports (roomFor (length (now (answer .entry))) (subdivideBy (now (points .entry)) (now (quads .entry)) (now (labels .entry)) c kind (now (numbers .entry)) (now (bounds .entry)) lower upper (length (now (work .entry))) (length (now (floats .entry))) (length (now («new_points» .entry))) (length (now («new_quads» .entry))) (length (now («new_labels» .entry))))) (length (now («new_points» .entry))) (length (now («new_quads» .entry))) (length (now («new_labels» .entry))) r (now («new_points» .exit)) (now («new_quads» .exit)) (now («new_labels» .exit)) ⌝ }
-    ensures { λ _. ⌜ now (answer .exit) ≡ answerLeft (subdivideBy (now (points .entry)) (now (quads .entry)) (now (labels .entry)) c kind (now (numbers .entry)) (now (bounds .entry)) lower upper (length (now (work .entry))) (length (now (floats .entry))) (length (now («new_points» .entry))) (length (now («new_quads» .entry))) (length (now («new_labels» .entry)))) (now (answer .entry)) ⌝ }
+    ensures { λ r. ⌜ Exports (roomFor (length (now (answer .entry)))
+        (subdivideBy (now (points .entry)) (now (quads .entry)) (now (labels .entry)) c kind (now (numbers .entry))
+        (now (bounds .entry)) lower upper (length (now (work .entry))) (length (now (floats .entry)))
+        (length (now («new_points» .entry))) (length (now («new_quads» .entry))) (length (now («new_labels» .entry)))))
+        (length (now («new_points» .entry))) (length (now («new_quads» .entry))) (length (now («new_labels» .entry))) r
+        (now («new_points» .exit)) (now («new_quads» .exit)) (now («new_labels» .exit)) ⌝ }
+    ensures { λ _. ⌜ now (answer .exit) ≡ answerLeft (subdivideBy (now (points .entry)) (now (quads .entry))
+        (now (labels .entry)) c kind (now (numbers .entry)) (now (bounds .entry)) lower upper
+        (length (now (work .entry))) (length (now (floats .entry))) (length (now («new_points» .entry)))
+        (length (now («new_quads» .entry))) (length (now («new_labels» .entry)))) (now (answer .entry)) ⌝ }
     ensures { λ _. ⌜ now (work .exit) ≡ replicate (length (now (work .entry))) 0 ⌝ }
     ensures { λ _. ⌜ now (floats .exit) ≡ replicate (length (now (floats .entry))) zeroF ⌝ }
 {
@@ -182,7 +203,12 @@ fn rows_by(
     work: &mut [u32],
     floats: &mut [f64],
 ) -> Made
-    ensures { λ r. ⌜ Leaves (rowsBy (now (points .entry)) (now (quads .entry)) (now (labels .entry)) c kind (now (numbers .entry)) (now (bounds .entry)) lower upper (length (now (work .entry))) (length (now (floats .entry))) (length (now («new_points» .entry))) (length (now («new_quads» .entry))) (length (now («new_labels» .entry)))) (length (now («new_points» .entry))) (length (now («new_quads» .entry))) (length (now («new_labels» .entry))) r (now («new_points» .exit)) (now («new_quads» .exit)) (now («new_labels» .exit)) ⌝ }
+    ensures { λ r. ⌜ Leaves (rowsBy (now (points .entry)) (now (quads .entry)) (now (labels .entry)) c kind
+        (now (numbers .entry)) (now (bounds .entry)) lower upper (length (now (work .entry)))
+        (length (now (floats .entry))) (length (now («new_points» .entry))) (length (now («new_quads» .entry)))
+        (length (now («new_labels» .entry)))) (length (now («new_points» .entry))) (length (now («new_quads» .entry)))
+        (length (now («new_labels» .entry))) r (now («new_points» .exit)) (now («new_quads» .exit))
+        (now («new_labels» .exit)) ⌝ }
     ensures { λ _. ⌜ now (work .exit) ≡ replicate (length (now (work .entry))) 0 ⌝ }
     ensures { λ _. ⌜ now (floats .exit) ≡ replicate (length (now (floats .entry))) zeroF ⌝ }
 {
@@ -230,8 +256,16 @@ pub fn rows_answered(
     floats: &mut [f64],
     answer: &mut [u64],
 ) -> u32
-    ensures { λ r. ⌜ Exports (roomFor (length (now (answer .entry))) (rowsBy (now (points .entry)) (now (quads .entry)) (now (labels .entry)) c kind (now (numbers .entry)) (now (bounds .entry)) lower upper (length (now (work .entry))) (length (now (floats .entry))) (length (now («new_points» .entry))) (length (now («new_quads» .entry))) (length (now («new_labels» .entry))))) (length (now («new_points» .entry))) (length (now («new_quads» .entry))) (length (now («new_labels» .entry))) r (now («new_points» .exit)) (now («new_quads» .exit)) (now («new_labels» .exit)) ⌝ }
-    ensures { λ _. ⌜ now (answer .exit) ≡ answerLeft (rowsBy (now (points .entry)) (now (quads .entry)) (now (labels .entry)) c kind (now (numbers .entry)) (now (bounds .entry)) lower upper (length (now (work .entry))) (length (now (floats .entry))) (length (now («new_points» .entry))) (length (now («new_quads» .entry))) (length (now («new_labels» .entry)))) (now (answer .entry)) ⌝ }
+    ensures { λ r. ⌜ Exports (roomFor (length (now (answer .entry)))
+        (rowsBy (now (points .entry)) (now (quads .entry)) (now (labels .entry)) c kind (now (numbers .entry))
+        (now (bounds .entry)) lower upper (length (now (work .entry))) (length (now (floats .entry)))
+        (length (now («new_points» .entry))) (length (now («new_quads» .entry))) (length (now («new_labels» .entry)))))
+        (length (now («new_points» .entry))) (length (now («new_quads» .entry))) (length (now («new_labels» .entry))) r
+        (now («new_points» .exit)) (now («new_quads» .exit)) (now («new_labels» .exit)) ⌝ }
+    ensures { λ _. ⌜ now (answer .exit) ≡ answerLeft (rowsBy (now (points .entry)) (now (quads .entry))
+        (now (labels .entry)) c kind (now (numbers .entry)) (now (bounds .entry)) lower upper
+        (length (now (work .entry))) (length (now (floats .entry))) (length (now («new_points» .entry)))
+        (length (now («new_quads» .entry))) (length (now («new_labels» .entry)))) (now (answer .entry)) ⌝ }
     ensures { λ _. ⌜ now (work .exit) ≡ replicate (length (now (work .entry))) 0 ⌝ }
     ensures { λ _. ⌜ now (floats .exit) ≡ replicate (length (now (floats .entry))) zeroF ⌝ }
 {

@@ -11,4 +11,5 @@ use Rattle.rule_exports.specs.Given.{coefficientsOf, fieldOf}
 -- the value of a field at a point, NaN if it has fewer than ten numbers
 unfoldable pub valueAt : ℕ → List Float → Float → Float → Float → Float
 valueAt kind k x y z =
-    cond (ltb (length k) 10) (div binary64 (ofBits binary64 0) (ofBits binary64 0)) (valueOf (fieldOf kind (coefficientsOf k)) (record { x = x; y = y; z = z }))
+    cond (ltb (length k) 10) (div binary64 (ofBits binary64 0) (ofBits binary64 0))
+    (valueOf (fieldOf kind (coefficientsOf k)) (record { x = x; y = y; z = z }))

@@ -10,7 +10,8 @@ ghost use lib.ListN.{length, replicate};
 ghost use Rattle.numeric.specs.Num.{zeroF};
 ghost use Rattle.rule_sheet.specs.Quads.{num};
 ghost use Rattle.export_quality.specs.Assessments.{noQuality};
-ghost use Rattle.rule_exports.specs.Assessments.{countsOf, measuresOf, countsShown, measuresShown, fronted, qualityBy, assessedNumber, answersBy, countsLeft, measuresLeft};
+ghost use Rattle.rule_exports.specs.Assessments.{countsOf, measuresOf, countsShown, measuresShown, fronted, qualityBy};
+ghost use Rattle.rule_exports.specs.Assessments.{assessedNumber, answersBy, countsLeft, measuresLeft};
 
 // Writes the counts of a record, tight and valid.
 fn put_counts(answer: &mut [u64], q: Quality, tight: bool, valid: bool)
@@ -96,7 +97,9 @@ fn quality_by(
     work: &mut [u32],
     floats: &mut [f64],
 ) -> Assessed
-    ensures { λ r. ⌜ r ≡ qualityBy (now (points .entry)) (now (quads .entry)) (now (labels .entry)) c kind (now (numbers .entry)) (now (bounds .entry)) lower upper (length (now (work .entry))) (length (now (floats .entry))) ⌝ }
+    ensures { λ r. ⌜ r ≡ qualityBy (now (points .entry)) (now (quads .entry)) (now (labels .entry)) c kind
+        (now (numbers .entry)) (now (bounds .entry)) lower upper (length (now (work .entry)))
+        (length (now (floats .entry))) ⌝ }
     ensures { λ _. ⌜ now (work .exit) ≡ replicate (length (now (work .entry))) 0 ⌝ }
     ensures { λ _. ⌜ now (floats .exit) ≡ replicate (length (now (floats .entry))) zeroF ⌝ }
 {
@@ -125,9 +128,17 @@ pub fn quality_answered(
     answer: &mut [u64],
     measures: &mut [f64],
 ) -> u32
-    ensures { λ r. ⌜ r ≡ answersBy (length (now (answer .entry))) (length (now (measures .entry))) (qualityBy (now (points .entry)) (now (quads .entry)) (now (labels .entry)) c kind (now (numbers .entry)) (now (bounds .entry)) lower upper (length (now (work .entry))) (length (now (floats .entry)))) ⌝ }
-    ensures { λ _. ⌜ now (answer .exit) ≡ countsLeft (length (now (measures .entry))) (qualityBy (now (points .entry)) (now (quads .entry)) (now (labels .entry)) c kind (now (numbers .entry)) (now (bounds .entry)) lower upper (length (now (work .entry))) (length (now (floats .entry)))) (now (answer .entry)) ⌝ }
-    ensures { λ _. ⌜ now (measures .exit) ≡ measuresLeft (length (now (answer .entry))) (qualityBy (now (points .entry)) (now (quads .entry)) (now (labels .entry)) c kind (now (numbers .entry)) (now (bounds .entry)) lower upper (length (now (work .entry))) (length (now (floats .entry)))) (now (measures .entry)) ⌝ }
+    ensures { λ r. ⌜ r ≡ answersBy (length (now (answer .entry))) (length (now (measures .entry)))
+        (qualityBy (now (points .entry)) (now (quads .entry)) (now (labels .entry)) c kind (now (numbers .entry))
+        (now (bounds .entry)) lower upper (length (now (work .entry))) (length (now (floats .entry)))) ⌝ }
+    ensures { λ _. ⌜ now (answer .exit) ≡ countsLeft (length (now (measures .entry)))
+        (qualityBy (now (points .entry)) (now (quads .entry)) (now (labels .entry)) c kind (now (numbers .entry))
+        (now (bounds .entry)) lower upper (length (now (work .entry))) (length (now (floats .entry))))
+        (now (answer .entry)) ⌝ }
+    ensures { λ _. ⌜ now (measures .exit) ≡ measuresLeft (length (now (answer .entry)))
+        (qualityBy (now (points .entry)) (now (quads .entry)) (now (labels .entry)) c kind (now (numbers .entry))
+        (now (bounds .entry)) lower upper (length (now (work .entry))) (length (now (floats .entry))))
+        (now (measures .entry)) ⌝ }
     ensures { λ _. ⌜ now (work .exit) ≡ replicate (length (now (work .entry))) 0 ⌝ }
     ensures { λ _. ⌜ now (floats .exit) ≡ replicate (length (now (floats .entry))) zeroF ⌝ }
 {

@@ -11,7 +11,9 @@ use Rattle.rule_extract.specs.Drawing.{samplesNumber, finiteSamples, drawnSheet
 
 -- 5, 7
 unfoldable pub testedOr : Sheet → Outcome Sheet
-testedOr s = cond (isBare s) (refuses bare) (cond (goodMasks (length (s .points)) (s .quads) (s .labels)) (gives s) (refuses clash))
+testedOr s =
+    cond (isBare s) (refuses bare) (cond (goodMasks (length (s .points)) (s .quads) (s .labels)) (gives s)
+    (refuses clash))
 
 -- 4, 13 (result), 5, 7
 unfoldable pub sampledOr : Grid → ℕ → ℕ → ℕ → ℕ → Outcome Sheet

@@ -20,7 +20,8 @@ ghost use Rattle.extract_grid.specs.Lattice.{Samples};
 ghost use Rattle.rule_extract.specs.Drawing.{goodCells, shortWork, drawnSheet, drawnOr, extractRule};
 ghost use Rattle.extract.specs.Stages.{testedOr, sampledOr};
 
-// The numbers of refusals: a lower level that is not finite, a number of cells out of range, and a sample that is not finite.
+// The numbers of refusals: a lower level that is not finite, a number of cells out of range, and a sample that is
+// not finite.
 pub const BOTTOMLESS: u32 = 2;
 
 pub const CELLS: u32 = 3;
@@ -38,7 +39,8 @@ pub const MOST_CELLS: usize = 128;
 fn masks_tested(nq: usize, quads: &[u32], labels: &[u8], masks: &mut [u32]) -> bool
     requires { ⌜ Holds nq (now quads) (now labels) ⌝ }
     requires { ⌜ goodCorners (length (now masks)) (quadsOf nq (now quads)) (take nq (now labels)) ≡ true ⌝ }
-    ensures { λ r. ⌜ r ≡ goodMasks (length (now (masks .entry))) (quadsOf nq (now (quads .entry))) (take nq (now (labels .entry))) ⌝ }
+    ensures { λ r. ⌜ r ≡ goodMasks (length (now (masks .entry))) (quadsOf nq (now (quads .entry)))
+        (take nq (now (labels .entry))) ⌝ }
 {
     lists::clear(masks);
     sheet::mark_quads(nq, quads, labels, masks);
@@ -50,7 +52,8 @@ fn tested(c: Counts, points: &[f64], quads: &[u32], labels: &[u8], w: &mut [u32]
     requires { ⌜ LentSheet c (length (now points)) (length (now quads)) (length (now labels)) ⌝ }
     requires { ⌜ c .points ≤ length (now w) ⌝ }
     requires { ⌜ goodCorners (c .points) (quadsOf (c .quads) (now quads)) (take (c .labels) (now labels)) ≡ true ⌝ }
-    ensures { λ r. ⌜ r ≡ answerOf (testedOr (sheetOf c (now (points .entry)) (now (quads .entry)) (now (labels .entry)))) ⌝ }
+    ensures { λ r. ⌜ r ≡ answerOf (testedOr (sheetOf c (now (points .entry)) (now (quads .entry))
+        (now (labels .entry)))) ⌝ }
 {
     if sheet::is_bare(c, points) {
         return Made::Refused(sheet::BARE);
@@ -91,7 +94,8 @@ fn draw_sheet(
 )
     requires { ⌜ Samples g (n + 1) (now samples) ⌝ }
     requires { ⌜ 12 * (n * n * n) ≤ length (now w) ⌝ }
-    requires { ⌜ LentSheet (countsOf (drawnSheet g n)) (length (now «new_points»)) (length (now «new_quads»)) (length (now «new_labels»)) ⌝ }
+    requires { ⌜ LentSheet (countsOf (drawnSheet g n)) (length (now «new_points»)) (length (now «new_quads»))
+        (length (now «new_labels»)) ⌝ }
     ensures { λ _. ⌜ Front (flatPoints (drawnSheet g n .points)) (now («new_points» .exit)) ⌝ }
     ensures { λ _. ⌜ Front (flatQuads (drawnSheet g n .quads)) (now («new_quads» .exit)) ⌝ }
     ensures { λ _. ⌜ Front (drawnSheet g n .labels) (now («new_labels» .exit)) ⌝ }
@@ -113,7 +117,9 @@ fn draw_or_refusal(
 ) -> Made
     requires { ⌜ Samples g (n + 1) (now samples) ⌝ }
     requires { ⌜ 12 * (n * n * n) ≤ length (now w) ⌝ }
-    ensures { λ r. ⌜ Fills (drawnOr (drawnSheet g n) (length (now («new_points» .entry))) (length (now («new_quads» .entry))) (length (now («new_labels» .entry)))) r (now («new_points» .exit)) (now («new_quads» .exit)) (now («new_labels» .exit)) ⌝ }
+    ensures { λ r. ⌜ Fills (drawnOr (drawnSheet g n) (length (now («new_points» .entry)))
+        (length (now («new_quads» .entry))) (length (now («new_labels» .entry)))) r (now («new_points» .exit))
+        (now («new_quads» .exit)) (now («new_labels» .exit)) ⌝ }
 {
     let c = count_sheet(g, n, samples);
     if sheet::is_large(c) {
@@ -139,7 +145,9 @@ fn sample_or_refusal(
     requires { ⌜ n ≤ 130 ⌝ }
     requires { ⌜ length (now samples) ≡ (n + 1) * (n + 1) * (n + 1) ⌝ }
     requires { ⌜ 12 * (n * n * n) ≤ length (now w) ⌝ }
-    ensures { λ r. ⌜ Fills (sampledOr g n (length (now («new_points» .entry))) (length (now («new_quads» .entry))) (length (now («new_labels» .entry)))) r (now («new_points» .exit)) (now («new_quads» .exit)) (now («new_labels» .exit)) ⌝ }
+    ensures { λ r. ⌜ Fills (sampledOr g n (length (now («new_points» .entry))) (length (now («new_quads» .entry)))
+        (length (now («new_labels» .entry)))) r (now («new_points» .exit)) (now («new_quads» .exit))
+        (now («new_labels» .exit)) ⌝ }
 {
     extract_grid::sample_grid(g, n + 1, samples);
     if extract_grid::all_finite(samples) {
@@ -177,7 +185,9 @@ fn extract_or_refusal(
     w: &mut [u32],
     floats: &mut [f64],
 ) -> Made
-    ensures { λ r. ⌜ Fills (extractRule b cells (length (now (w .entry))) (length (now (floats .entry))) (length (now («new_points» .entry))) (length (now («new_quads» .entry))) (length (now («new_labels» .entry)))) r (now («new_points» .exit)) (now («new_quads» .exit)) (now («new_labels» .exit)) ⌝ }
+    ensures { λ r. ⌜ Fills (extractRule b cells (length (now (w .entry))) (length (now (floats .entry)))
+        (length (now («new_points» .entry))) (length (now («new_quads» .entry))) (length (now («new_labels» .entry)))) r
+        (now («new_points» .exit)) (now («new_quads» .exit)) (now («new_labels» .exit)) ⌝ }
 {
     if !band::validate(b) {
         return Made::Refused(sheet::BOX);
@@ -205,7 +215,8 @@ fn extract_or_refusal(
     )
 }
 
-// Draws the sheet around a band, with a number of cells along each side of its box. The sheet goes to the result slices, the answer has its counts.
+// Draws the sheet around a band, with a number of cells along each side of its box. The sheet goes to the result
+// slices, the answer has its counts.
 pub fn extract_candidate(
     b: Band,
     cells: usize,
@@ -215,7 +226,10 @@ pub fn extract_candidate(
     work: &mut [u32],
     floats: &mut [f64],
 ) -> Made
-    ensures { λ r. ⌜ Leaves (extractRule b cells (length (now (work .entry))) (length (now (floats .entry))) (length (now («new_points» .entry))) (length (now («new_quads» .entry))) (length (now («new_labels» .entry)))) (length (now («new_points» .entry))) (length (now («new_quads» .entry))) (length (now («new_labels» .entry))) r (now («new_points» .exit)) (now («new_quads» .exit)) (now («new_labels» .exit)) ⌝ }
+    ensures { λ r. ⌜ Leaves (extractRule b cells (length (now (work .entry))) (length (now (floats .entry)))
+        (length (now («new_points» .entry))) (length (now («new_quads» .entry))) (length (now («new_labels» .entry))))
+        (length (now («new_points» .entry))) (length (now («new_quads» .entry))) (length (now («new_labels» .entry))) r
+        (now («new_points» .exit)) (now («new_quads» .exit)) (now («new_labels» .exit)) ⌝ }
     ensures { λ _. ⌜ now (work .exit) ≡ replicate (length (now (work .entry))) 0 ⌝ }
     ensures { λ _. ⌜ now (floats .exit) ≡ replicate (length (now (floats .entry))) zeroF ⌝ }
 {

@@ -8,7 +8,8 @@ use Rattle.lists.specs.Sort.{tabulate, itself}
 use Rattle.rule_sheet.specs.Quads.{packTo}
 use Rattle.rule_extract.specs.Cells.{crosses, edgesOn, fourOn, Pair, pair, pairsIn, parted, merged}
 
--- ---- the kind of a cell as one number: bits 0 to 11 for the edges that cross, bits 12 to 17 for the faces with four crossings
+-- ---- the kind of a cell as one number: bits 0 to 11 for the edges that cross, bits 12 to 17 for the faces with
+-- four crossings
 
 unfoldable pub kindBit : (ℕ → Bool) → ℕ → Bool
 kindBit sign i = cond (ltb i 12) (crosses sign i) (fourOn sign (i - 12))
@@ -23,7 +24,8 @@ pairAt t = getD (pairsIn (edgesOn (t / 6))) (t % 6) (pair 0 0)
 
 -- a pair is joined, by the face's kind
 unfoldable pub joinedBy : (ℕ → Bool) → Bool → ℕ → Pair → Bool
-joinedBy sign centre f p = crosses sign (p .first) && crosses sign (p .second) && (not (fourOn sign f) || parted sign centre p)
+joinedBy sign centre f p =
+    crosses sign (p .first) && crosses sign (p .second) && (not (fourOn sign f) || parted sign centre p)
 
 -- the groups with a pair joined where the test says so
 unfoldable pub mergedIf : (Pair → Bool) → List ℕ → Pair → List ℕ

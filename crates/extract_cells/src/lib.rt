@@ -1,11 +1,13 @@
-// What a cell of the grid draws, by the signs at its eight corners: which of its edges cross the band, and which crossings belong together.
+// What a cell of the grid draws, by the signs at its eight corners: which of its edges cross the band, and which
+// crossings belong together.
 
 ghost use mathlib.Core.Path.{_≡_};
 ghost use mathlib.Core.Bool.{cond};
 ghost use Prim.Native.Nat.{_/_, _%_, _<_};
 ghost use lib.Dec.{eqb};
 ghost use lib.ListN.{length, getD};
-ghost use Rattle.rule_extract.specs.Cells.{bitOf, lowEnd, highEnd, crosses, edgesOn, fourOn, pair, isEnd, sharedBy, parted, renamedOf, merged, groupsOf};
+ghost use Rattle.rule_extract.specs.Cells.{bitOf, lowEnd, highEnd, crosses, edgesOn, fourOn, pair, isEnd, sharedBy};
+ghost use Rattle.rule_extract.specs.Cells.{parted, renamedOf, merged, groupsOf};
 ghost use Rattle.extract_cells.specs.Cells.{kindBit, kindOf, pairAt, joinedBy, mergedIf};
 
 // The corners at the two ends of the twelve edges of a cell.
@@ -242,7 +244,8 @@ fn merge_if(case: u32, kind: u32, centre: bool, t: usize, groups: &mut [u32; 12]
     requires { ⌜ t < 36 ⌝ }
     requires { ⌜ kind ≡ kindOf (bitOf case) ⌝ }
     requires { ⌜ length (now groups) ≡ 12 ⌝ }
-    ensures { λ _. ⌜ now (groups .exit) ≡ mergedIf (joinedBy (bitOf case) centre (t / 6)) (now (groups .entry)) (pairAt t) ⌝ }
+    ensures { λ _. ⌜ now (groups .exit) ≡ mergedIf (joinedBy (bitOf case) centre (t / 6)) (now (groups .entry))
+        (pairAt t) ⌝ }
 {
     if joined(case, kind, centre, t) {
         merge(groups, pair_first(t), pair_second(t));

@@ -1,5 +1,5 @@
-// Where the grid's edges cross the band. A crossing is found by 32 halvings of its edge; the decisions, one bit each, are its path, by which it
-// is found again without a sample.
+// Where the grid's edges cross the band. A crossing is found by 32 halvings of its edge; the decisions, one bit
+// each, are its path, by which it is found again without a sample.
 
 use points::Point;
 use rule_extract::Grid;

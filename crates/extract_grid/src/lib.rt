@@ -1,4 +1,5 @@
-// The grid of extraction as numbered places: its samples in a slice, the signs at the corners of a cell and at the centres of its faces.
+// The grid of extraction as numbered places: its samples in a slice, the signs at the corners of a cell and at the
+// centres of its faces.
 
 use rule_extract::Grid;
 use rule_extract::Site;
@@ -11,8 +12,10 @@ ghost use Rattle.rule_sheet.specs.Quads.{num, packTo};
 ghost use Rattle.extract_crossings.specs.Crossings.{Near};
 ghost use Rattle.rule_extract.specs.Cells.{bitOf};
 ghost use Rattle.extract_cells.specs.Cells.{kindOf};
-ghost use Rattle.extract_grid.specs.Lattice.{Within, finiteIn, CellIn, isNegative, pairOf, fourOf, eightOf, centreBit};
-ghost use Rattle.rule_extract.specs.Lattice.{siteAt, indexOf, sampleAt, caseOf, cornerSite, edgeSite, faceSite, centreInside, cellGroups};
+ghost use Rattle.extract_grid.specs.Lattice.{Within, finiteIn, CellIn, isNegative, pairOf, fourOf, eightOf};
+ghost use Rattle.extract_grid.specs.Lattice.{centreBit};
+ghost use Rattle.rule_extract.specs.Lattice.{siteAt, indexOf, sampleAt, caseOf, cornerSite, edgeSite, faceSite};
+ghost use Rattle.rule_extract.specs.Lattice.{centreInside, cellGroups};
 
 // ---- places
 

@@ -1,4 +1,5 @@
--- The paths of all crossings in a list of twelve slots a cell: slot 12 × e + j is for the edge j of the cell with the number e.
+-- The paths of all crossings in a list of twelve slots a cell: slot 12 × e + j is for the edge j of the cell with
+-- the number e.
 use Prim.Native.Nat.{ℕ, _+_, _-_, _*_, _/_, _%_, _≤_, _<_}
 use mathlib.Core.Path.{_≡_}
 use mathlib.Core.Bool.{true, cond, _&&_}

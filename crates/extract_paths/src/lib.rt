@@ -1,5 +1,5 @@
-// The paths of all crossings of the grid, in twelve slots a cell: slot 12 × e + j is for the edge j of the cell with the number e. Each crossing
-// is sampled once: a cell takes over what the cell before it has found.
+// The paths of all crossings of the grid, in twelve slots a cell: slot 12 × e + j is for the edge j of the cell
+// with the number e. Each crossing is sampled once: a cell takes over what the cell before it has found.
 
 use rule_extract::Grid;
 use rule_extract::Site;

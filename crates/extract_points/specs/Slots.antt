@@ -66,9 +66,11 @@ slotNumber g n c e = 8 * numberOf g n c e + labelOf g c e
 
 -- the slots w with the number of the edge e of a cell where it crosses; `first` is the number of the cell's first point
 unfoldable pub numberedIf : Grid → Site → ℕ → ℕ → ℕ → List ℕ → ℕ → List ℕ → List ℕ
-numberedIf g c i first kind G e w = cond (bitOf kind e) (set w (12 * i + e) (8 * (first + rankIn kind G (getD G e 0)) + labelOf g c e)) w
+numberedIf g c i first kind G e w =
+    cond (bitOf kind e) (set w (12 * i + e) (8 * (first + rankIn kind G (getD G e 0)) + labelOf g c e)) w
 
--- the slots of the cell with the number i have the numbers of the points of its crossings, and the others are those of v
+-- the slots of the cell with the number i have the numbers of the points of its crossings, and the others are those
+-- of v
 pub record Numbered (g : Grid) (n : ℕ) (c : Site) (i : ℕ) (v w : List ℕ) : Type 0 where
   pub is : (e : ℕ) → e < 12 → edgeCrosses g c e ≡ true → getD w (12 * i + e) 0 ≡ slotNumber g n c e
   pub below : (k : ℕ) → k < 12 * i → getD w k 0 ≡ getD v k 0

@@ -12,4 +12,5 @@ use Rattle.extract_points.specs.Slots.{slotNumber}
 -- each slot of an edge that crosses has the number of its point, times 8, and its label
 pub record AllNumbered (g : Grid) (n : ℕ) (w : List ℕ) : Type 0 where
   pub fits : 12 * (n * n * n) ≤ length w
-  pub is : (i e : ℕ) → i < n * n * n → e < 12 → edgeCrosses g (siteAt n i) e ≡ true → getD w (12 * i + e) 0 ≡ slotNumber g n (siteAt n i) e
+  pub is : (i e : ℕ) → i < n * n * n → e < 12 → edgeCrosses g (siteAt n i) e ≡ true → getD w (12 * i + e) 0
+      ≡ slotNumber g n (siteAt n i) e

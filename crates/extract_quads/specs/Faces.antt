@@ -19,7 +19,8 @@ use Rattle.extract_quads.specs.declared.Row.{Row}
 
 -- ---- the four cells of an inner edge
 
--- "offsets (1,1), (0,1), (0,0), (1,0)": how far cell k begins before its edge, along the next axis and along the one after
+-- "offsets (1,1), (0,1), (0,0), (1,0)": how far cell k begins before its edge, along the next axis and along the
+-- one after
 abbrev pub offsetU : ℕ → ℕ
 offsetU k = getD (1 ∷ 0 ∷ 0 ∷ 1 ∷ []) k 0
 

@@ -17,15 +17,17 @@ ghost use Rattle.rule_extract.specs.Paths.{crossedAt};
 ghost use Rattle.extract_paths.specs.Paths.{strideOf};
 ghost use Rattle.rule_extract.specs.Drawing.{placeOn, innerCount, innerSite, innerQuad, quadIf, labelIf};
 ghost use Rattle.extract_points.specs.Vertices.{AllNumbered};
-ghost use Rattle.extract_quads.specs.Faces.{offsetU, offsetW, slotBy, edgeIn, RowIn, RowAt, rowCount, edgeNumber, Counted, Drawn};
+ghost use Rattle.extract_quads.specs.Faces.{offsetU, offsetW, slotBy, edgeIn, RowIn, RowAt, rowCount};
+ghost use Rattle.extract_quads.specs.Faces.{edgeNumber, Counted, Drawn};
 
-// The four cells of an inner edge, in the order of its quad: how far each begins before the edge, along the next axis and along the one after.
+// The four cells of an inner edge, in the order of its quad: how far each begins before the edge, along the next
+// axis and along the one after.
 const OFFSET_U: [usize; 4] = [1, 0, 0, 1];
 
 const OFFSET_W: [usize; 4] = [1, 1, 0, 0];
 
-// A row of inner edges: those along an axis from its place a, at place b of the next axis. The first one begins at the sample `from`; an edge
-// ends at the sample `next` behind, and the edge after it begins `step` behind.
+// A row of inner edges: those along an axis from its place a, at place b of the next axis. The first one begins at
+// the sample `from`; an edge ends at the sample `next` behind, and the edge after it begins `step` behind.
 pub struct Row {
     pub axis: usize,
     pub a: usize,
@@ -207,7 +209,8 @@ fn put_quad(
     requires { ⌜ 4 * place + 4 ≤ length (now quads) ⌝ }
     requires { ⌜ place < length (now labels) ⌝ }
     ensures { λ _. ⌜ now (quads .exit) ≡ withQuad (now (quads .entry)) place (innerQuad g n (edgeIn row j)) ⌝ }
-    ensures { λ _. ⌜ now (labels .exit) ≡ set (now (labels .entry)) place (crossedLabel g (innerSite (edgeIn row j)) (row .axis)) ⌝ }
+    ensures { λ _. ⌜ now (labels .exit) ≡ set (now (labels .entry)) place
+        (crossedLabel g (innerSite (edgeIn row j)) (row .axis)) ⌝ }
 {
     let p = slot_at(g, n, row, j, 0, w);
     let q = slot_at(g, n, row, j, 1, w);

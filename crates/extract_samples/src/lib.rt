@@ -1,4 +1,5 @@
-// Samples of a band: how far outside it a point lies, and which of its levels and faces is the farthest; the grid that extraction lays over its box.
+// Samples of a band: how far outside it a point lies, and which of its levels and faces is the farthest; the grid
+// that extraction lays over its box.
 
 use band::Band;
 use field::Field;
@@ -9,7 +10,8 @@ use rule_extract::Site;
 ghost use mathlib.Core.Path.{_≡_};
 ghost use Prim.Native.Nat.{_<_};
 ghost use Rattle.rule_extract.specs.Samples.{fartherOf, levelsOf, axisOf, sampleOf, isInside};
-ghost use Rattle.rule_extract.specs.Grids.{coordinateOf, gridPoint, middleOf, faceCentre, stepOf, startOf, scaleOf, stepsOf, startsOf, gridOf};
+ghost use Rattle.rule_extract.specs.Grids.{coordinateOf, gridPoint, middleOf, faceCentre, stepOf, startOf, scaleOf};
+ghost use Rattle.rule_extract.specs.Grids.{stepsOf, startsOf, gridOf};
 
 // ---- samples
 

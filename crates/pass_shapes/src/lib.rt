@@ -1,4 +1,5 @@
-// What the rules of swaps and merges read of the points: the shapes of quads before and after, and the position of a merged point.
+// What the rules of swaps and merges read of the points: the shapes of quads before and after, and the position of
+// a merged point.
 
 use band::Band;
 use field::Field;
@@ -152,7 +153,8 @@ pub fn hold(
     requires { ⌜ i < nq ⌝ }
     requires { ⌜ j < nq ⌝ }
     requires { ⌜ SixBelow np h ⌝ }
-    ensures { λ r. ⌜ r ≡ heldOf f len (pointAt (now (points .entry))) label (quadAt (now (quads .entry)) i) (quadAt (now (quads .entry)) j) (hexOf h) ⌝ }
+    ensures { λ r. ⌜ r ≡ heldOf f len (pointAt (now (points .entry))) label (quadAt (now (quads .entry)) i)
+        (quadAt (now (quads .entry)) j) (hexOf h) ⌝ }
 {
     let normal = band::normal(f, len, hex_centre(np, points, h), label);
     let q = four_at(np, nq, quads, i);
@@ -230,7 +232,8 @@ pub fn new_position(
     requires { ⌜ 3 * np ≤ length (now points) ⌝ }
     requires { ⌜ a < np ⌝ }
     requires { ⌜ c < np ⌝ }
-    ensures { λ r. ⌜ r ≡ projectWith b len longestMove lookCount (halfwayP (pointAt (now (points .entry)) a) (pointAt (now (points .entry)) c)) mask ⌝ }
+    ensures { λ r. ⌜ r ≡ projectWith b len longestMove lookCount
+        (halfwayP (pointAt (now (points .entry)) a) (pointAt (now (points .entry)) c)) mask ⌝ }
 {
     let p = points::halfway(points::point_at(points, a), points::point_at(points, c));
     projection::project(b, len, LONGEST_MOVE, LOOKS, p, mask)
@@ -299,7 +302,8 @@ fn face_stays(
     requires { ⌜ Positioned np nq (now points) (now quads) ⌝ }
     requires { ⌜ nq ≤ length (now labels) ⌝ }
     requires { ⌜ j < nq ⌝ }
-    ensures { λ r. ⌜ r ≡ faceStays f len (pointAt (now (points .entry))) (now (labels .entry)) (now (quads .entry)) m j ⌝ }
+    ensures { λ r. ⌜ r ≡ faceStays f len (pointAt (now (points .entry))) (now (labels .entry)) (now (quads .entry)) m
+        j ⌝ }
 {
     if j == m.face {
         return true;
@@ -308,7 +312,8 @@ fn face_stays(
     quad_stays(np, f, len, points, labels[j], q, m)
 }
 
-// The first place, from one of the work slice on, whose corner has a quad that is not the merge's own and does not stay; the end if there is none.
+// The first place, from one of the work slice on, whose corner has a quad that is not the merge's own and does not
+// stay; the end if there is none.
 fn first_fallen(
     np: usize,
     nq: usize,
@@ -325,7 +330,8 @@ fn first_fallen(
     requires { ⌜ Positioned np nq (now points) (now quads) ⌝ }
     requires { ⌜ nq ≤ length (now labels) ⌝ }
     requires { ⌜ CornersIn nq from to (now w) ⌝ }
-    ensures { λ r. ⌜ FirstFallen (cornerStays f len (pointAt (now (points .entry))) (now (labels .entry)) (now (quads .entry)) m (now (w .entry))) from to r ⌝ }
+    ensures { λ r. ⌜ FirstFallen (cornerStays f len (pointAt (now (points .entry))) (now (labels .entry))
+        (now (quads .entry)) m (now (w .entry))) from to r ⌝ }
 {
     let mut i = from;
     while i < to {
@@ -354,7 +360,8 @@ fn within(s: usize, e: usize, place: usize) -> usize
     s
 }
 
-// Whether every quad at point v is the merge's own or stays; the walk begins at a place, where the one before it ended, and goes once round the corners of v.
+// Whether every quad at point v is the merge's own or stays; the walk begins at a place, where the one before it
+// ended, and goes once round the corners of v.
 pub fn quads_stay(
     np: usize,
     nq: usize,
@@ -374,7 +381,8 @@ pub fn quads_stay(
     requires { ⌜ 3 * np ≤ length (now points) ⌝ }
     requires { ⌜ nq ≤ length (now labels) ⌝ }
     requires { ⌜ v < np ⌝ }
-    ensures { λ r. ⌜ r .stays ≡ every (staysAt f len (pointAt (now (points .entry))) (now (labels .entry)) (part was (4 * nq) (now (w .entry))) m v) nq ⌝ }
+    ensures { λ r. ⌜ r .stays ≡ every (staysAt f len (pointAt (now (points .entry))) (now (labels .entry))
+        (part was (4 * nq) (now (w .entry))) m v) nq ⌝ }
     ensures { λ r. ⌜ r .at ≤ order + getD (now (w .entry)) (starts + v + 1) 0 ⌝ }
 {
     let first = lists::at(w, starts + v);

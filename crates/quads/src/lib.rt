@@ -1,4 +1,5 @@
-// The public face: every operation under its name, as a function that C and Rust can link. A slice passes as its pointer and its length.
+// The public face: every operation under its name, as a function that C and Rust can link. A slice passes as its
+// pointer and its length.
 
 use rule_sheet::Counts;
 ghost use mathlib.Core.Path.{_≡_};
@@ -31,8 +32,15 @@ pub extern "C" fn quads_extract_candidate(
     floats: &mut [f64],
     answer: &mut [u64],
 ) -> u32
-    ensures { λ r. ⌜ Exports (roomFor (length (now (answer .entry))) (extractBy kind (now (numbers .entry)) (now (bounds .entry)) lower upper cells (length (now (work .entry))) (length (now (floats .entry))) (length (now («new_points» .entry))) (length (now («new_quads» .entry))) (length (now («new_labels» .entry))))) (length (now («new_points» .entry))) (length (now («new_quads» .entry))) (length (now («new_labels» .entry))) r (now («new_points» .exit)) (now («new_quads» .exit)) (now («new_labels» .exit)) ⌝ }
-    ensures { λ _. ⌜ now (answer .exit) ≡ answerLeft (extractBy kind (now (numbers .entry)) (now (bounds .entry)) lower upper cells (length (now (work .entry))) (length (now (floats .entry))) (length (now («new_points» .entry))) (length (now («new_quads» .entry))) (length (now («new_labels» .entry)))) (now (answer .entry)) ⌝ }
+    ensures { λ r. ⌜ Exports (roomFor (length (now (answer .entry)))
+        (extractBy kind (now (numbers .entry)) (now (bounds .entry)) lower upper cells (length (now (work .entry)))
+        (length (now (floats .entry))) (length (now («new_points» .entry))) (length (now («new_quads» .entry)))
+        (length (now («new_labels» .entry))))) (length (now («new_points» .entry))) (length (now («new_quads» .entry)))
+        (length (now («new_labels» .entry))) r (now («new_points» .exit)) (now («new_quads» .exit))
+        (now («new_labels» .exit)) ⌝ }
+    ensures { λ _. ⌜ now (answer .exit) ≡ answerLeft (extractBy kind (now (numbers .entry)) (now (bounds .entry)) lower
+        upper cells (length (now (work .entry))) (length (now (floats .entry))) (length (now («new_points» .entry)))
+        (length (now («new_quads» .entry))) (length (now («new_labels» .entry)))) (now (answer .entry)) ⌝ }
     ensures { λ _. ⌜ now (work .exit) ≡ replicate (length (now (work .entry))) 0 ⌝ }
     ensures { λ _. ⌜ now (floats .exit) ≡ replicate (length (now (floats .entry))) zeroF ⌝ }
 {
@@ -68,8 +76,16 @@ pub extern "C" fn quads_refine(
     floats: &mut [f64],
     answer: &mut [u64],
 ) -> u32
-    ensures { λ r. ⌜ Exports (roomFor (length (now (answer .entry))) (refineRule (record { points = np; quads = nq; labels = nl }) (now (points .entry)) (now (quads .entry)) (now (labels .entry)) (length (now (work .entry))) (length (now (floats .entry))) (length (now («new_points» .entry))) (length (now («new_quads» .entry))) (length (now («new_labels» .entry))))) (length (now («new_points» .entry))) (length (now («new_quads» .entry))) (length (now («new_labels» .entry))) r (now («new_points» .exit)) (now («new_quads» .exit)) (now («new_labels» .exit)) ⌝ }
-    ensures { λ _. ⌜ now (answer .exit) ≡ answerLeft (refineRule (record { points = np; quads = nq; labels = nl }) (now (points .entry)) (now (quads .entry)) (now (labels .entry)) (length (now (work .entry))) (length (now (floats .entry))) (length (now («new_points» .entry))) (length (now («new_quads» .entry))) (length (now («new_labels» .entry)))) (now (answer .entry)) ⌝ }
+    ensures { λ r. ⌜ Exports (roomFor (length (now (answer .entry)))
+        (refineRule (record { points = np; quads = nq; labels = nl }) (now (points .entry)) (now (quads .entry))
+        (now (labels .entry)) (length (now (work .entry))) (length (now (floats .entry)))
+        (length (now («new_points» .entry))) (length (now («new_quads» .entry))) (length (now («new_labels» .entry)))))
+        (length (now («new_points» .entry))) (length (now («new_quads» .entry))) (length (now («new_labels» .entry))) r
+        (now («new_points» .exit)) (now («new_quads» .exit)) (now («new_labels» .exit)) ⌝ }
+    ensures { λ _. ⌜ now (answer .exit) ≡ answerLeft (refineRule (record { points = np; quads = nq; labels = nl })
+        (now (points .entry)) (now (quads .entry)) (now (labels .entry)) (length (now (work .entry)))
+        (length (now (floats .entry))) (length (now («new_points» .entry))) (length (now («new_quads» .entry)))
+        (length (now («new_labels» .entry)))) (now (answer .entry)) ⌝ }
     ensures { λ _. ⌜ now (work .exit) ≡ replicate (length (now (work .entry))) 0 ⌝ }
     ensures { λ _. ⌜ now (floats .exit) ≡ replicate (length (now (floats .entry))) zeroF ⌝ }
 {
@@ -113,8 +129,18 @@ pub extern "C" fn quads_subdivide(
     floats: &mut [f64],
     answer: &mut [u64],
 ) -> u32
-    ensures { λ r. ⌜ Exports (roomFor (length (now (answer .entry))) (subdivideBy (now (points .entry)) (now (quads .entry)) (now (labels .entry)) (record { points = np; quads = nq; labels = nl }) kind (now (numbers .entry)) (now (bounds .entry)) lower upper (length (now (work .entry))) (length (now (floats .entry))) (length (now («new_points» .entry))) (length (now («new_quads» .entry))) (length (now («new_labels» .entry))))) (length (now («new_points» .entry))) (length (now («new_quads» .entry))) (length (now («new_labels» .entry))) r (now («new_points» .exit)) (now («new_quads» .exit)) (now («new_labels» .exit)) ⌝ }
-    ensures { λ _. ⌜ now (answer .exit) ≡ answerLeft (subdivideBy (now (points .entry)) (now (quads .entry)) (now (labels .entry)) (record { points = np; quads = nq; labels = nl }) kind (now (numbers .entry)) (now (bounds .entry)) lower upper (length (now (work .entry))) (length (now (floats .entry))) (length (now («new_points» .entry))) (length (now («new_quads» .entry))) (length (now («new_labels» .entry)))) (now (answer .entry)) ⌝ }
+    ensures { λ r. ⌜ Exports (roomFor (length (now (answer .entry)))
+        (subdivideBy (now (points .entry)) (now (quads .entry)) (now (labels .entry))
+        (record { points = np; quads = nq; labels = nl }) kind (now (numbers .entry)) (now (bounds .entry)) lower upper
+        (length (now (work .entry))) (length (now (floats .entry))) (length (now («new_points» .entry)))
+        (length (now («new_quads» .entry))) (length (now («new_labels» .entry))))) (length (now («new_points» .entry)))
+        (length (now («new_quads» .entry))) (length (now («new_labels» .entry))) r (now («new_points» .exit))
+        (now («new_quads» .exit)) (now («new_labels» .exit)) ⌝ }
+    ensures { λ _. ⌜ now (answer .exit) ≡ answerLeft (subdivideBy (now (points .entry)) (now (quads .entry))
+        (now (labels .entry)) (record { points = np; quads = nq; labels = nl }) kind (now (numbers .entry))
+        (now (bounds .entry)) lower upper (length (now (work .entry))) (length (now (floats .entry)))
+        (length (now («new_points» .entry))) (length (now («new_quads» .entry))) (length (now («new_labels» .entry))))
+        (now (answer .entry)) ⌝ }
     ensures { λ _. ⌜ now (work .exit) ≡ replicate (length (now (work .entry))) 0 ⌝ }
     ensures { λ _. ⌜ now (floats .exit) ≡ replicate (length (now (floats .entry))) zeroF ⌝ }
 {
@@ -163,8 +189,18 @@ pub extern "C" fn quads_boundary_rows(
     floats: &mut [f64],
     answer: &mut [u64],
 ) -> u32
-    ensures { λ r. ⌜ Exports (roomFor (length (now (answer .entry))) (rowsBy (now (points .entry)) (now (quads .entry)) (now (labels .entry)) (record { points = np; quads = nq; labels = nl }) kind (now (numbers .entry)) (now (bounds .entry)) lower upper (length (now (work .entry))) (length (now (floats .entry))) (length (now («new_points» .entry))) (length (now («new_quads» .entry))) (length (now («new_labels» .entry))))) (length (now («new_points» .entry))) (length (now («new_quads» .entry))) (length (now («new_labels» .entry))) r (now («new_points» .exit)) (now («new_quads» .exit)) (now («new_labels» .exit)) ⌝ }
-    ensures { λ _. ⌜ now (answer .exit) ≡ answerLeft (rowsBy (now (points .entry)) (now (quads .entry)) (now (labels .entry)) (record { points = np; quads = nq; labels = nl }) kind (now (numbers .entry)) (now (bounds .entry)) lower upper (length (now (work .entry))) (length (now (floats .entry))) (length (now («new_points» .entry))) (length (now («new_quads» .entry))) (length (now («new_labels» .entry)))) (now (answer .entry)) ⌝ }
+    ensures { λ r. ⌜ Exports (roomFor (length (now (answer .entry)))
+        (rowsBy (now (points .entry)) (now (quads .entry)) (now (labels .entry))
+        (record { points = np; quads = nq; labels = nl }) kind (now (numbers .entry)) (now (bounds .entry)) lower upper
+        (length (now (work .entry))) (length (now (floats .entry))) (length (now («new_points» .entry)))
+        (length (now («new_quads» .entry))) (length (now («new_labels» .entry))))) (length (now («new_points» .entry)))
+        (length (now («new_quads» .entry))) (length (now («new_labels» .entry))) r (now («new_points» .exit))
+        (now («new_quads» .exit)) (now («new_labels» .exit)) ⌝ }
+    ensures { λ _. ⌜ now (answer .exit) ≡ answerLeft (rowsBy (now (points .entry)) (now (quads .entry))
+        (now (labels .entry)) (record { points = np; quads = nq; labels = nl }) kind (now (numbers .entry))
+        (now (bounds .entry)) lower upper (length (now (work .entry))) (length (now (floats .entry)))
+        (length (now («new_points» .entry))) (length (now («new_quads» .entry))) (length (now («new_labels» .entry))))
+        (now (answer .entry)) ⌝ }
     ensures { λ _. ⌜ now (work .exit) ≡ replicate (length (now (work .entry))) 0 ⌝ }
     ensures { λ _. ⌜ now (floats .exit) ≡ replicate (length (now (floats .entry))) zeroF ⌝ }
 {
@@ -192,7 +228,8 @@ pub extern "C" fn quads_boundary_rows(
     )
 }
 
-// `quality`: the eight counts in the record's order, tight and valid go to answer[..10], the four measures to measures[..4].
+// `quality`: the eight counts in the record's order, tight and valid go to answer[..10], the four measures to
+// measures[..4].
 #[no_mangle]
 pub extern "C" fn quads_quality(
     points: &[f64],
@@ -211,9 +248,18 @@ pub extern "C" fn quads_quality(
     answer: &mut [u64],
     measures: &mut [f64],
 ) -> u32
-    ensures { λ r. ⌜ r ≡ answersBy (length (now (answer .entry))) (length (now (measures .entry))) (qualityBy (now (points .entry)) (now (quads .entry)) (now (labels .entry)) (record { points = np; quads = nq; labels = nl }) kind (now (numbers .entry)) (now (bounds .entry)) lower upper (length (now (work .entry))) (length (now (floats .entry)))) ⌝ }
-    ensures { λ _. ⌜ now (answer .exit) ≡ countsLeft (length (now (measures .entry))) (qualityBy (now (points .entry)) (now (quads .entry)) (now (labels .entry)) (record { points = np; quads = nq; labels = nl }) kind (now (numbers .entry)) (now (bounds .entry)) lower upper (length (now (work .entry))) (length (now (floats .entry)))) (now (answer .entry)) ⌝ }
-    ensures { λ _. ⌜ now (measures .exit) ≡ measuresLeft (length (now (answer .entry))) (qualityBy (now (points .entry)) (now (quads .entry)) (now (labels .entry)) (record { points = np; quads = nq; labels = nl }) kind (now (numbers .entry)) (now (bounds .entry)) lower upper (length (now (work .entry))) (length (now (floats .entry)))) (now (measures .entry)) ⌝ }
+    ensures { λ r. ⌜ r ≡ answersBy (length (now (answer .entry))) (length (now (measures .entry)))
+        (qualityBy (now (points .entry)) (now (quads .entry)) (now (labels .entry))
+        (record { points = np; quads = nq; labels = nl }) kind (now (numbers .entry)) (now (bounds .entry)) lower upper
+        (length (now (work .entry))) (length (now (floats .entry)))) ⌝ }
+    ensures { λ _. ⌜ now (answer .exit) ≡ countsLeft (length (now (measures .entry)))
+        (qualityBy (now (points .entry)) (now (quads .entry)) (now (labels .entry))
+        (record { points = np; quads = nq; labels = nl }) kind (now (numbers .entry)) (now (bounds .entry)) lower upper
+        (length (now (work .entry))) (length (now (floats .entry)))) (now (answer .entry)) ⌝ }
+    ensures { λ _. ⌜ now (measures .exit) ≡ measuresLeft (length (now (answer .entry)))
+        (qualityBy (now (points .entry)) (now (quads .entry)) (now (labels .entry))
+        (record { points = np; quads = nq; labels = nl }) kind (now (numbers .entry)) (now (bounds .entry)) lower upper
+        (length (now (work .entry))) (length (now (floats .entry)))) (now (measures .entry)) ⌝ }
     ensures { λ _. ⌜ now (work .exit) ≡ replicate (length (now (work .entry))) 0 ⌝ }
     ensures { λ _. ⌜ now (floats .exit) ≡ replicate (length (now (floats .entry))) zeroF ⌝ }
 {
@@ -258,9 +304,18 @@ pub extern "C" fn quads_regularize(
     floats: &mut [f64],
     answer: &mut [u64],
 ) -> u32
-    ensures { λ r. ⌜ r ≡ cleanedNumber (answerOf (roomFor (length (now (answer .entry))) (cleanBy false (now (points .entry)) (now (quads .entry)) (now (labels .entry)) (record { points = np; quads = nq; labels = nl }) kind (now (numbers .entry)) (now (bounds .entry)) lower upper passes (length (now (work .entry))) (length (now (floats .entry)))))) ⌝ }
-    ensures { λ _. ⌜ now (quads .exit) ≡ quadsLeft (roomFor (length (now (answer .entry))) (cleanBy false (now (points .entry)) (now (quads .entry)) (now (labels .entry)) (record { points = np; quads = nq; labels = nl }) kind (now (numbers .entry)) (now (bounds .entry)) lower upper passes (length (now (work .entry))) (length (now (floats .entry))))) (now (quads .entry)) ⌝ }
-    ensures { λ _. ⌜ now (answer .exit) ≡ countLeft (cleanBy false (now (points .entry)) (now (quads .entry)) (now (labels .entry)) (record { points = np; quads = nq; labels = nl }) kind (now (numbers .entry)) (now (bounds .entry)) lower upper passes (length (now (work .entry))) (length (now (floats .entry)))) (record { points = np; quads = nq; labels = nl }) (now (answer .entry)) ⌝ }
+    ensures { λ r. ⌜ r ≡ cleanedNumber (answerOf (roomFor (length (now (answer .entry)))
+        (cleanBy false (now (points .entry)) (now (quads .entry)) (now (labels .entry))
+        (record { points = np; quads = nq; labels = nl }) kind (now (numbers .entry)) (now (bounds .entry)) lower upper
+        passes (length (now (work .entry))) (length (now (floats .entry)))))) ⌝ }
+    ensures { λ _. ⌜ now (quads .exit) ≡ quadsLeft (roomFor (length (now (answer .entry)))
+        (cleanBy false (now (points .entry)) (now (quads .entry)) (now (labels .entry))
+        (record { points = np; quads = nq; labels = nl }) kind (now (numbers .entry)) (now (bounds .entry)) lower upper
+        passes (length (now (work .entry))) (length (now (floats .entry))))) (now (quads .entry)) ⌝ }
+    ensures { λ _. ⌜ now (answer .exit) ≡ countLeft (cleanBy false (now (points .entry)) (now (quads .entry))
+        (now (labels .entry)) (record { points = np; quads = nq; labels = nl }) kind (now (numbers .entry))
+        (now (bounds .entry)) lower upper passes (length (now (work .entry))) (length (now (floats .entry))))
+        (record { points = np; quads = nq; labels = nl }) (now (answer .entry)) ⌝ }
     ensures { λ _. ⌜ now (work .exit) ≡ replicate (length (now (work .entry))) 0 ⌝ }
     ensures { λ _. ⌜ now (floats .exit) ≡ replicate (length (now (floats .entry))) zeroF ⌝ }
 {
@@ -306,9 +361,18 @@ pub extern "C" fn quads_improve_layout(
     floats: &mut [f64],
     answer: &mut [u64],
 ) -> u32
-    ensures { λ r. ⌜ r ≡ cleanedNumber (answerOf (roomFor (length (now (answer .entry))) (cleanBy true (now (points .entry)) (now (quads .entry)) (now (labels .entry)) (record { points = np; quads = nq; labels = nl }) kind (now (numbers .entry)) (now (bounds .entry)) lower upper passes (length (now (work .entry))) (length (now (floats .entry)))))) ⌝ }
-    ensures { λ _. ⌜ now (quads .exit) ≡ quadsLeft (roomFor (length (now (answer .entry))) (cleanBy true (now (points .entry)) (now (quads .entry)) (now (labels .entry)) (record { points = np; quads = nq; labels = nl }) kind (now (numbers .entry)) (now (bounds .entry)) lower upper passes (length (now (work .entry))) (length (now (floats .entry))))) (now (quads .entry)) ⌝ }
-    ensures { λ _. ⌜ now (answer .exit) ≡ countLeft (cleanBy true (now (points .entry)) (now (quads .entry)) (now (labels .entry)) (record { points = np; quads = nq; labels = nl }) kind (now (numbers .entry)) (now (bounds .entry)) lower upper passes (length (now (work .entry))) (length (now (floats .entry)))) (record { points = np; quads = nq; labels = nl }) (now (answer .entry)) ⌝ }
+    ensures { λ r. ⌜ r ≡ cleanedNumber (answerOf (roomFor (length (now (answer .entry)))
+        (cleanBy true (now (points .entry)) (now (quads .entry)) (now (labels .entry))
+        (record { points = np; quads = nq; labels = nl }) kind (now (numbers .entry)) (now (bounds .entry)) lower upper
+        passes (length (now (work .entry))) (length (now (floats .entry)))))) ⌝ }
+    ensures { λ _. ⌜ now (quads .exit) ≡ quadsLeft (roomFor (length (now (answer .entry)))
+        (cleanBy true (now (points .entry)) (now (quads .entry)) (now (labels .entry))
+        (record { points = np; quads = nq; labels = nl }) kind (now (numbers .entry)) (now (bounds .entry)) lower upper
+        passes (length (now (work .entry))) (length (now (floats .entry))))) (now (quads .entry)) ⌝ }
+    ensures { λ _. ⌜ now (answer .exit) ≡ countLeft (cleanBy true (now (points .entry)) (now (quads .entry))
+        (now (labels .entry)) (record { points = np; quads = nq; labels = nl }) kind (now (numbers .entry))
+        (now (bounds .entry)) lower upper passes (length (now (work .entry))) (length (now (floats .entry))))
+        (record { points = np; quads = nq; labels = nl }) (now (answer .entry)) ⌝ }
     ensures { λ _. ⌜ now (work .exit) ≡ replicate (length (now (work .entry))) 0 ⌝ }
     ensures { λ _. ⌜ now (floats .exit) ≡ replicate (length (now (floats .entry))) zeroF ⌝ }
 {
@@ -354,7 +418,11 @@ pub extern "C" fn quads_coarsen(
     floats: &mut [f64],
     answer: &mut [u64],
 ) -> u32
-    ensures { λ r. ⌜ Coarsens (coarsenBy (now (points .entry)) (now (quads .entry)) (now (labels .entry)) (record { points = np; quads = nq; labels = nl }) kind (now (numbers .entry)) (now (bounds .entry)) lower upper passes (length (now (work .entry))) (length (now (floats .entry)))) (now (points .entry)) (now (quads .entry)) (now (labels .entry)) (now (answer .entry)) r (now (points .exit)) (now (quads .exit)) (now (labels .exit)) (now (answer .exit)) ⌝ }
+    ensures { λ r. ⌜ Coarsens (coarsenBy (now (points .entry)) (now (quads .entry)) (now (labels .entry))
+        (record { points = np; quads = nq; labels = nl }) kind (now (numbers .entry)) (now (bounds .entry)) lower upper
+        passes (length (now (work .entry))) (length (now (floats .entry)))) (now (points .entry)) (now (quads .entry))
+        (now (labels .entry)) (now (answer .entry)) r (now (points .exit)) (now (quads .exit)) (now (labels .exit))
+        (now (answer .exit)) ⌝ }
     ensures { λ _. ⌜ now (work .exit) ≡ replicate (length (now (work .entry))) 0 ⌝ }
     ensures { λ _. ⌜ now (floats .exit) ≡ replicate (length (now (floats .entry))) zeroF ⌝ }
 {

@@ -19,7 +19,8 @@ use Rattle.quality.specs.declared.PointCounts.{PointCounts}
 unfoldable pub pointCounts : ℕ → List Quad → PointCounts
 pointCounts n S = record { irregular = irregular n S; «bad_links» = badLinks n S }
 
--- what the counts ask of np points and nq quads in Q, with w elements of work: corners that are four different points, and room
+-- what the counts ask of np points and nq quads in Q, with w elements of work: corners that are four different
+-- points, and room
 pub record Countable (np nq : ℕ) (Q : List ℕ) (w : ℕ) : Type 0 where
   pub sheet : Cornered np nq Q
   pub good : all (proper np) (quadsOf nq Q) ≡ true

@@ -74,7 +74,8 @@ fn count_duplicates(np: usize, nq: usize, quads: &[u32], work: &mut [u32]) -> us
 // The record of a sheet with these measures, and whether it is tight.
 fn with_counts(np: usize, nq: usize, quads: &[u32], m: Measures, work: &mut [u32]) -> Assessed
     requires { ⌜ Countable np nq (now quads) (length (now work)) ⌝ }
-    ensures { λ r. ⌜ r ≡ Done (qualityOf np (quadsOf nq (now (quads .entry))) m) (tight np (quadsOf nq (now (quads .entry)))) ⌝ }
+    ensures { λ r. ⌜ r ≡ Done (qualityOf np (quadsOf nq (now (quads .entry))) m)
+        (tight np (quadsOf nq (now (quads .entry)))) ⌝ }
 {
     let points = count_points(np, nq, quads, work);
     let edges = count_edges(np, nq, quads, work);
@@ -106,8 +107,10 @@ fn assess(
     work: &mut [u32],
     floats: &mut [f64],
 ) -> Assessed
-    requires { ⌜ Measuring c (length (now points)) (now quads) (length (now labels)) (length (now work)) (length (now floats)) ⌝ }
-    ensures { λ r. ⌜ r ≡ withCounts (c .points) (quadsOf (c .quads) (now (quads .entry))) (measureRule b (sheetOf c (now (points .entry)) (now (quads .entry)) (now (labels .entry)))) ⌝ }
+    requires { ⌜ Measuring c (length (now points)) (now quads) (length (now labels)) (length (now work))
+        (length (now floats)) ⌝ }
+    ensures { λ r. ⌜ r ≡ withCounts (c .points) (quadsOf (c .quads) (now (quads .entry)))
+        (measureRule b (sheetOf c (now (points .entry)) (now (quads .entry)) (now (labels .entry)))) ⌝ }
 {
     let np = c.points;
     let nq = c.quads;
@@ -128,7 +131,8 @@ fn quality_or_refusal(
     work: &mut [u32],
     floats: &mut [f64],
 ) -> Assessed
-    ensures { λ r. ⌜ r ≡ qualityRule b c (now (points .entry)) (now (quads .entry)) (now (labels .entry)) (length (now (work .entry))) (length (now (floats .entry))) ⌝ }
+    ensures { λ r. ⌜ r ≡ qualityRule b c (now (points .entry)) (now (quads .entry)) (now (labels .entry))
+        (length (now (work .entry))) (length (now (floats .entry))) ⌝ }
 {
     let lent = sheet::lent(
         c,
@@ -159,7 +163,8 @@ pub fn quality(
     work: &mut [u32],
     floats: &mut [f64],
 ) -> Assessed
-    ensures { λ r. ⌜ r ≡ qualityRule b c (now (points .entry)) (now (quads .entry)) (now (labels .entry)) (length (now (work .entry))) (length (now (floats .entry))) ⌝ }
+    ensures { λ r. ⌜ r ≡ qualityRule b c (now (points .entry)) (now (quads .entry)) (now (labels .entry))
+        (length (now (work .entry))) (length (now (floats .entry))) ⌝ }
     ensures { λ _. ⌜ now (work .exit) ≡ replicate (length (now (work .entry))) 0 ⌝ }
     ensures { λ _. ⌜ now (floats .exit) ≡ replicate (length (now (floats .entry))) zeroF ⌝ }
 {

@@ -1,4 +1,5 @@
--- The least Jacobian with ten norms, not fifty: du depends on v alone and dv on u alone, so each norm is worked out once.
+-- The least Jacobian with ten norms, not fifty: du depends on v alone and dv on u alone, so each norm is worked out
+-- once.
 use lib.Ieee.{Float}
 use Rattle.numeric.specs.Num.{zeroF, half, minOf, quarter}
 use Rattle.points.specs.declared.Point.{Point}

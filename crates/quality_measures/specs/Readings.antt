@@ -19,7 +19,14 @@ use Rattle.rule_quality.specs.Measure.{Cell, centreOf, hasNormal, cellShape, ce
 
 -- the points at the corners of quad q
 unfoldable pub cornersAt : List Float → List ℕ → ℕ → Corners
-cornersAt P Q q = record { p0 = pointAt P (corner Q q 0); p1 = pointAt P (corner Q q 1); p2 = pointAt P (corner Q q 2); p3 = pointAt P (corner Q q 3) }
+cornersAt P Q q =
+    record {
+      p0 = pointAt P (corner Q q 0);
+      p1 = pointAt P (corner Q q 1);
+      p2 = pointAt P (corner Q q 2);
+      p3 = pointAt P
+          (corner Q q 3);
+    }
 
 -- the cell of these points with the label l, by the band's field and length
 unfoldable pub cellWith : Field → Float → Corners → ℕ → Cell
@@ -62,7 +69,8 @@ pub record Readable (n p : ℕ) (Q : List ℕ) (l f : ℕ) : Type 0 where
   pub floats : 3 * n ≤ f
   pub held : (q : ℕ) → q < n → Held p Q q
 
--- what `measure` asks of a lent sheet: slices that hold it, a quad, a label for each quad, and corners that are numbers of its points
+-- what `measure` asks of a lent sheet: slices that hold it, a quad, a label for each quad, and corners that are
+-- numbers of its points
 pub record Measurable (c : Counts) (p : ℕ) (Q : List ℕ) (l : ℕ) : Type 0 where
   pub lent : LentSheet c p (length Q) l
   pub some : 0 < c .quads

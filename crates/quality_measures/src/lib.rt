@@ -20,8 +20,11 @@ ghost use Rattle.points.specs.Points.{pointAt};
 ghost use Rattle.rule_sheet.specs.Flat.{corner};
 ghost use Rattle.rule_sheet.specs.Quads.{all, num};
 ghost use Rattle.rule_sheet.specs.Sheet.{sheetOf, limit};
-ghost use Rattle.rule_quality.specs.Measure.{goodNormal, hasNormal, leastOf, totalOf, meanOf, flat, invalidOf, scoreOf, scoresOf, fractOf, ceilOf, valueAtPlace, p05Of, summaryOf, measureRule};
-ghost use Rattle.quality_measures.specs.Readings.{cornersAt, cellWith, cellsTo, stored, storedIf, Readings, Held, Readable, Measurable};
+ghost use Rattle.rule_quality.specs.Measure.{goodNormal, hasNormal, leastOf, totalOf, meanOf, flat, invalidOf};
+ghost use Rattle.rule_quality.specs.Measure.{scoreOf, scoresOf, fractOf, ceilOf, valueAtPlace, p05Of, summaryOf};
+ghost use Rattle.rule_quality.specs.Measure.{measureRule};
+ghost use Rattle.quality_measures.specs.Readings.{cornersAt, cellWith, cellsTo, stored, storedIf, Readings};
+ghost use Rattle.quality_measures.specs.Readings.{Held, Readable, Measurable};
 
 // The number of the refusal: a normal that is not finite or shorter than 0.5.
 pub const NORMAL: u32 = 11;
@@ -104,8 +107,10 @@ fn read_cells(
     floats: &mut [f64],
 ) -> bool
     requires { ⌜ Readable n (length (now points)) (now quads) (length (now labels)) (length (now floats)) ⌝ }
-    ensures { λ r. ⌜ r ≡ all hasNormal (cellsTo f len (now (points .entry)) (now (quads .entry)) (now (labels .entry)) n) ⌝ }
-    ensures { λ r. ⌜ (r ≡ true → Readings n (cellsTo f len (now (points .entry)) (now (quads .entry)) (now (labels .entry)) n) (now (floats .exit))) ⌝ }
+    ensures { λ r. ⌜ r ≡ all hasNormal (cellsTo f len (now (points .entry)) (now (quads .entry)) (now (labels .entry))
+        n) ⌝ }
+    ensures { λ r. ⌜ (r ≡ true → Readings n (cellsTo f len (now (points .entry)) (now (quads .entry))
+        (now (labels .entry)) n) (now (floats .exit))) ⌝ }
     ensures { λ _. ⌜ Kept (Out 0 (3 * n)) (now (floats .entry)) (now (floats .exit)) ⌝ }
 {
     let mut q = 0;
@@ -198,7 +203,8 @@ fn score(mean: f64, shape: f64, area: f64) -> f64
 fn scores(mean: f64, n: usize, floats: &mut [f64])
     requires { ⌜ n ≤ limit ⌝ }
     requires { ⌜ 5 * n ≤ length (now floats) ⌝ }
-    ensures { λ _. ⌜ Part (3 * n) n (zipWith (scoreOf mean) (part 0 n (now (floats .entry))) (part (2 * n) n (now (floats .entry)))) (now (floats .exit)) ⌝ }
+    ensures { λ _. ⌜ Part (3 * n) n (zipWith (scoreOf mean) (part 0 n (now (floats .entry)))
+        (part (2 * n) n (now (floats .entry)))) (now (floats .exit)) ⌝ }
     ensures { λ _. ⌜ Kept (Out (3 * n) n) (now (floats .entry)) (now (floats .exit)) ⌝ }
 {
     let mut q = 0;
@@ -213,7 +219,8 @@ fn sort_scores(n: usize, at: usize, work: &mut [u32], floats: &mut [f64])
     requires { ⌜ n ≤ limit ⌝ }
     requires { ⌜ at + (2 * n + 256) ≤ length (now work) ⌝ }
     requires { ⌜ 5 * n ≤ length (now floats) ⌝ }
-    ensures { λ _. ⌜ Part (4 * n) n (sortFloats (scoresOf (part 0 n (now (floats .entry))) (part (2 * n) n (now (floats .entry))))) (now (floats .exit)) ⌝ }
+    ensures { λ _. ⌜ Part (4 * n) n (sortFloats (scoresOf (part 0 n (now (floats .entry)))
+        (part (2 * n) n (now (floats .entry))))) (now (floats .exit)) ⌝ }
     ensures { λ _. ⌜ Kept (Out (3 * n) (2 * n)) (now (floats .entry)) (now (floats .exit)) ⌝ }
     ensures { λ _. ⌜ Kept (Out at (2 * n + 256)) (now (work .entry)) (now (work .exit)) ⌝ }
 {
@@ -274,7 +281,8 @@ fn summary(n: usize, floats: &[f64]) -> Measures
     requires { ⌜ n ≤ limit ⌝ }
     requires { ⌜ 0 < n ⌝ }
     requires { ⌜ 5 * n ≤ length (now floats) ⌝ }
-    ensures { λ r. ⌜ r ≡ summaryOf (part 0 n (now (floats .entry))) (part n n (now (floats .entry))) (part (4 * n) n (now (floats .entry))) ⌝ }
+    ensures { λ r. ⌜ r ≡ summaryOf (part 0 n (now (floats .entry))) (part n n (now (floats .entry)))
+        (part (4 * n) n (now (floats .entry))) ⌝ }
 {
     let sorted = 4 * n;
     let minimum_shape = least(&floats[0..n]);
@@ -291,7 +299,8 @@ fn summary(n: usize, floats: &[f64]) -> Measures
     }
 }
 
-// The measures of a lent sheet, through the 2 * quads + 256 elements of the work at `at` and the first 5 * quads floats.
+// The measures of a lent sheet, through the 2 * quads + 256 elements of the work at `at` and the first 5 * quads
+// floats.
 pub fn measure(
     b: Band,
     c: Counts,

@@ -20,7 +20,8 @@ use Rattle.refine.specs.Requests.{firstsOf, linkedTo, own, numberOf}
 abbrev pub lowAt : ℕ → List ℕ → ℕ → Bool
 lowAt n Q c = ltb (getD Q c 0) n
 
--- the search for the first requests, once i corners are seen: the corners in the order of their edges at `order`, what is known of the requests at `first`
+-- the search for the first requests, once i corners are seen: the corners in the order of their edges at `order`,
+-- what is known of the requests at `first`
 pub record Linking (np nq : ℕ) (Q : List ℕ) (order first i : ℕ) (w : List ℕ) : Type 0 where
   pub cornered : Cornered np nq Q
   pub at : Part order (4 * nq) (edgeOrder np nq Q) w
@@ -32,7 +33,8 @@ pub record Firsts (m : ℕ) (F : List ℕ) : Type 0 where
   pub le : (t : ℕ) → t < m → getD F t 0 ≤ t
   pub self : (t : ℕ) → t < m → getD F (getD F t 0) 0 ≡ getD F t 0
 
--- the numbering of the points of m requests behind n points, once t requests are numbered: their first requests at `first`, the numbers at `num`
+-- the numbering of the points of m requests behind n points, once t requests are numbered: their first requests at
+-- `first`, the numbers at `num`
 pub record Numbering (n m first num : ℕ) (F : List ℕ) (t next : ℕ) (w : List ℕ) : Type 0 where
   pub few : n + m < 2 ^ 32
   pub firsts : Firsts m F
@@ -51,7 +53,8 @@ madeTo F pos (suc t) = madeTo F pos t ++ cond (own F t) (pos t ∷ []) []
 abbrev pub putRequest : List ℕ → List ℕ → (ℕ → Point) → ℕ → List Float → List Float
 putRequest F N pos t s = cond (own F t) (withPoint s (getD N t 0) (pos t)) s
 
--- what the writing of the new points asks: first requests F at `first`, numbers N at `num`, and room for each number in a slice of `room` elements
+-- what the writing of the new points asks: first requests F at `first`, numbers N at `num`, and room for each
+-- number in a slice of `room` elements
 pub record Writing (np nq : ℕ) (P : List Float) (Q : List ℕ) (first num : ℕ) (F N w : List ℕ) (room : ℕ) : Type 0 where
   pub held : Positioned np nq P Q
   pub firsts : Part first (5 * nq) F w
@@ -98,7 +101,8 @@ pub record Finished (np nq : ℕ) (P : List Float) (Q labels w : List ℕ) (p q 
   pub in-quads : 16 * nq ≤ q
   pub in-labels : 4 * nq ≤ l
 
--- what the tests 12, 13, 5 and 6 leave: a sheet in slices of p coordinates and l labels that can be refined, and work of w elements
+-- what the tests 12, 13, 5 and 6 leave: a sheet in slices of p coordinates and l labels that can be refined, and
+-- work of w elements
 pub record Refinable (c : Counts) (p : ℕ) (Q : List ℕ) (l w : ℕ) : Type 0 where
   pub lent : LentSheet c p (length Q) l
   pub same : c .labels ≡ c .quads

@@ -1,4 +1,5 @@
--- The requests for new points by their places: request 5 q + j is for the edge of corner j of quad q, or for the centre where j is 4.
+-- The requests for new points by their places: request 5 q + j is for the edge of corner j of quad q, or for the
+-- centre where j is 4.
 use Prim.Native.Nat.{ℕ, _+_, _*_, _/_, _%_}
 use mathlib.Core.Bool.{Bool, cond}
 use mathlib.Core.List.{List}
@@ -72,7 +73,8 @@ numberOf n F t = n + countTo (own F) (getD F t 0)
 abbrev pub isLinked : List ℕ → ℕ → ℕ → Bool
 isLinked E t i = eqb (requestOf (getD E i 0)) t
 
--- what is known of request t once the first i corners in the order of their edges are seen: its first request, or itself where its corner is not seen
+-- what is known of request t once the first i corners in the order of their edges are seen: its first request, or
+-- itself where its corner is not seen
 unfoldable pub linkedTo : ℕ → ℕ → List ℕ → ℕ → ℕ → ℕ
 linkedTo n nq Q i t = cond (some (isLinked (edgeOrder n nq Q) t) i) (firstOf n nq Q t) t
 

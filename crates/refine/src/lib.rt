@@ -1,5 +1,6 @@
-// The finer sheet: every edge gets its halfway point, every quad its centre, and every quad becomes four. Request 5 q + j is for the point of
-// the edge of corner j of quad q, or for the centre where j is 4; the first request of an edge makes its point.
+// The finer sheet: every edge gets its halfway point, every quad its centre, and every quad becomes four. Request 5
+// q + j is for the point of the edge of corner j of quad q, or for the centre where j is 4; the first request of an
+// edge makes its point.
 
 use points::Point;
 use rule_sheet::Counts;
@@ -22,12 +23,15 @@ ghost use Rattle.rule_sheet.specs.Results.{Leaves};
 ghost use Rattle.sheet.specs.Results.{Fills, Front};
 ghost use Rattle.incidence.specs.Corners.{Cornered, Positioned};
 ghost use Rattle.rule_finer.specs.Finer.{finerSheet, madeOrShort, refineRule};
-ghost use Rattle.refine.specs.Requests.{requestOf, positionIn, positionAt, firstOf, linkedTo, own, numberOf, childAt, labelAt, firstsOf};
-ghost use Rattle.refine.specs.Loops.{lowAt, Linking, Numbering, putRequest, madeTo, Writing, Numbered, Behind, Worked, Finished, Refinable, pointsAfter};
+ghost use Rattle.refine.specs.Requests.{requestOf, positionIn, positionAt, firstOf, linkedTo, own, numberOf};
+ghost use Rattle.refine.specs.Requests.{childAt, labelAt, firstsOf};
+ghost use Rattle.refine.specs.Loops.{lowAt, Linking, Numbering, putRequest, madeTo, Writing, Numbered, Behind};
+ghost use Rattle.refine.specs.Loops.{Worked, Finished, Refinable, pointsAfter};
 ghost use Rattle.lists.specs.Steps.{nth};
 
-// Regions of the work slice, in units of points and quads together: behind the counters of the sort and its first order stand the corners in the
-// order of their edges, the first request of each request's key, and the numbers of the requests' points.
+// Regions of the work slice, in units of points and quads together: behind the counters of the sort and its first
+// order stand the corners in the order of their edges, the first request of each request's key, and the numbers of
+// the requests' points.
 pub const ORDER: usize = 5;
 
 pub const FIRST: usize = 9;
@@ -62,7 +66,8 @@ fn request_of(c: usize) -> usize
 fn link(np: usize, nq: usize, quads: &[u32], order: usize, first: usize, i: usize, w: &mut [u32])
     requires { ⌜ Linking np nq (now quads) order first i (now w) ⌝ }
     requires { ⌜ i < 4 * nq ⌝ }
-    ensures { λ _. ⌜ Part first (5 * nq) (tabulate (linkedTo np nq (now (quads .entry)) (i + 1)) (5 * nq)) (now (w .exit)) ⌝ }
+    ensures { λ _. ⌜ Part first (5 * nq) (tabulate (linkedTo np nq (now (quads .entry)) (i + 1)) (5 * nq))
+        (now (w .exit)) ⌝ }
     ensures { λ _. ⌜ Kept (Out first (5 * nq)) (now (w .entry)) (now (w .exit)) ⌝ }
 {
     if i == 0 {
@@ -193,9 +198,12 @@ fn put_request(
     w: &[u32],
     out: &mut [f64],
 )
-    requires { ⌜ Writing np nq (now points) (now quads) first num (part first (5 * nq) (now w)) (part num (5 * nq) (now w)) (now w) (length (now out)) ⌝ }
+    requires { ⌜ Writing np nq (now points) (now quads) first num (part first (5 * nq) (now w))
+        (part num (5 * nq) (now w)) (now w) (length (now out)) ⌝ }
     requires { ⌜ t < 5 * nq ⌝ }
-    ensures { λ _. ⌜ now (out .exit) ≡ putRequest (part first (5 * nq) (now (w .entry))) (part num (5 * nq) (now (w .entry))) (positionAt (pointAt (now (points .entry))) (now (quads .entry))) t (now (out .entry)) ⌝ }
+    ensures { λ _. ⌜ now (out .exit) ≡ putRequest (part first (5 * nq) (now (w .entry)))
+        (part num (5 * nq) (now (w .entry))) (positionAt (pointAt (now (points .entry))) (now (quads .entry))) t
+        (now (out .entry)) ⌝ }
 {
     if w[first + t] as usize == t {
         let p = position(points, quads, np, nq, t / 5, t % 5);
@@ -215,10 +223,13 @@ fn put_points(
     w: &[u32],
     out: &mut [f64],
 )
-    requires { ⌜ Writing np nq (now points) (now quads) first num (part first (5 * nq) (now w)) (part num (5 * nq) (now w)) (now w) (length (now out)) ⌝ }
+    requires { ⌜ Writing np nq (now points) (now quads) first num (part first (5 * nq) (now w))
+        (part num (5 * nq) (now w)) (now w) (length (now out)) ⌝ }
     requires { ⌜ Numbered np (5 * nq) (part first (5 * nq) (now w)) (part num (5 * nq) (now w)) ⌝ }
     requires { ⌜ Front (flatPoints (pointsOf np (now points))) (now out) ⌝ }
-    ensures { λ _. ⌜ Front (flatPoints (pointsOf np (now (points .entry)) ++ madeTo (part first (5 * nq) (now (w .entry))) (positionAt (pointAt (now (points .entry))) (now (quads .entry))) (5 * nq))) (now (out .exit)) ⌝ }
+    ensures { λ _. ⌜ Front (flatPoints (pointsOf np (now (points .entry))
+        ++ madeTo (part first (5 * nq) (now (w .entry))) (positionAt (pointAt (now (points .entry)))
+        (now (quads .entry))) (5 * nq))) (now (out .exit)) ⌝ }
 {
     let mut t = 0;
     while t < 5 * nq {
@@ -233,7 +244,8 @@ fn put_child(nq: usize, quads: &[u32], num: usize, c: usize, w: &[u32], out: &mu
     requires { ⌜ 4 * nq ≤ length (now quads) ⌝ }
     requires { ⌜ num + 5 * nq ≤ length (now w) ⌝ }
     requires { ⌜ 16 * nq ≤ length (now out) ⌝ }
-    ensures { λ _. ⌜ now (out .exit) ≡ withQuad (now (out .entry)) c (childAt (nth (part num (5 * nq) (now (w .entry)))) (now (quads .entry)) c) ⌝ }
+    ensures { λ _. ⌜ now (out .exit) ≡ withQuad (now (out .entry)) c
+        (childAt (nth (part num (5 * nq) (now (w .entry)))) (now (quads .entry)) c) ⌝ }
 {
     let q = c / 4;
     let j = c % 4;
@@ -249,7 +261,8 @@ pub fn put_quads(nq: usize, quads: &[u32], num: usize, w: &[u32], out: &mut [u32
     requires { ⌜ 4 * nq ≤ length (now quads) ⌝ }
     requires { ⌜ num + 5 * nq ≤ length (now w) ⌝ }
     requires { ⌜ 16 * nq ≤ length (now out) ⌝ }
-    ensures { λ _. ⌜ Front (flatQuads (tabulate (childAt (nth (part num (5 * nq) (now (w .entry)))) (now (quads .entry))) (4 * nq))) (now (out .exit)) ⌝ }
+    ensures { λ _. ⌜ Front (flatQuads (tabulate (childAt (nth (part num (5 * nq) (now (w .entry))))
+        (now (quads .entry))) (4 * nq))) (now (out .exit)) ⌝ }
 {
     let mut c = 0;
     while c < 4 * nq {
@@ -271,7 +284,8 @@ pub fn put_labels(nq: usize, labels: &[u8], out: &mut [u8])
     }
 }
 
-// Finds the first request of each key and numbers the new points, in regions of the work slice; how many points there are then.
+// Finds the first request of each key and numbers the new points, in regions of the work slice; how many points
+// there are then.
 pub fn number_sheet(np: usize, nq: usize, quads: &[u32], w: &mut [u32]) -> usize
     requires { ⌜ Cornered np nq (now quads) ⌝ }
     requires { ⌜ np ≤ 1048576 ⌝ }
@@ -302,9 +316,13 @@ fn put_sheet(
     new_quads: &mut [u32],
     new_labels: &mut [u8],
 )
-    requires { ⌜ Finished np nq (now points) (now quads) (now labels) (now w) (length (now «new_points»)) (length (now «new_quads»)) (length (now «new_labels»)) ⌝ }
-    ensures { λ _. ⌜ Front (flatPoints (pointsOf np (now (points .entry)) ++ madeTo (firstsOf np nq (now (quads .entry))) (positionAt (pointAt (now (points .entry))) (now (quads .entry))) (5 * nq))) (now («new_points» .exit)) ⌝ }
-    ensures { λ _. ⌜ Front (flatQuads (tabulate (childAt (numberOf np (firstsOf np nq (now (quads .entry)))) (now (quads .entry))) (4 * nq))) (now («new_quads» .exit)) ⌝ }
+    requires { ⌜ Finished np nq (now points) (now quads) (now labels) (now w) (length (now «new_points»))
+        (length (now «new_quads»)) (length (now «new_labels»)) ⌝ }
+    ensures { λ _. ⌜ Front (flatPoints (pointsOf np (now (points .entry))
+        ++ madeTo (firstsOf np nq (now (quads .entry))) (positionAt (pointAt (now (points .entry)))
+        (now (quads .entry))) (5 * nq))) (now («new_points» .exit)) ⌝ }
+    ensures { λ _. ⌜ Front (flatQuads (tabulate (childAt (numberOf np (firstsOf np nq (now (quads .entry))))
+        (now (quads .entry))) (4 * nq))) (now («new_quads» .exit)) ⌝ }
     ensures { λ _. ⌜ Front (tabulate (labelAt (now (labels .entry))) (4 * nq)) (now («new_labels» .exit)) ⌝ }
 {
     let n = np + nq;
@@ -326,7 +344,10 @@ fn refine_tested(
     w: &mut [u32],
 ) -> Made
     requires { ⌜ Refinable c (length (now points)) (now quads) (length (now labels)) (length (now w)) ⌝ }
-    ensures { λ r. ⌜ Fills (madeOrShort (finerSheet (sheetOf c (now (points .entry)) (now (quads .entry)) (now (labels .entry)))) (length (now («new_points» .entry))) (length (now («new_quads» .entry))) (length (now («new_labels» .entry)))) r (now («new_points» .exit)) (now («new_quads» .exit)) (now («new_labels» .exit)) ⌝ }
+    ensures { λ r. ⌜ Fills (madeOrShort (finerSheet (sheetOf c (now (points .entry)) (now (quads .entry))
+        (now (labels .entry)))) (length (now («new_points» .entry))) (length (now («new_quads» .entry)))
+        (length (now («new_labels» .entry)))) r (now («new_points» .exit)) (now («new_quads» .exit))
+        (now («new_labels» .exit)) ⌝ }
 {
     let np = c.points;
     let nq = c.quads;
@@ -367,7 +388,10 @@ fn refine_or_refusal(
     w: &mut [u32],
     floats: usize,
 ) -> Made
-    ensures { λ r. ⌜ Fills (refineRule c (now (points .entry)) (now (quads .entry)) (now (labels .entry)) (length (now (w .entry))) floats (length (now («new_points» .entry))) (length (now («new_quads» .entry))) (length (now («new_labels» .entry)))) r (now («new_points» .exit)) (now («new_quads» .exit)) (now («new_labels» .exit)) ⌝ }
+    ensures { λ r. ⌜ Fills (refineRule c (now (points .entry)) (now (quads .entry)) (now (labels .entry))
+        (length (now (w .entry))) floats (length (now («new_points» .entry))) (length (now («new_quads» .entry)))
+        (length (now («new_labels» .entry)))) r (now («new_points» .exit)) (now («new_quads» .exit))
+        (now («new_labels» .exit)) ⌝ }
 {
     let v = sheet::lent(c, points.len(), quads.len(), labels.len(), w.len(), floats);
     if let Verdict::Refused(n) = v {
@@ -391,7 +415,8 @@ fn refine_or_refusal(
     Made::Refused(sheet::CORNER)
 }
 
-// Refines a sheet: a halfway point on each edge, a centre in each quad, four quads for each. The sheet goes to the result slices, the answer has its counts.
+// Refines a sheet: a halfway point on each edge, a centre in each quad, four quads for each. The sheet goes to the
+// result slices, the answer has its counts.
 pub fn refine(
     c: Counts,
     points: &[f64],
@@ -403,7 +428,11 @@ pub fn refine(
     work: &mut [u32],
     floats: &mut [f64],
 ) -> Made
-    ensures { λ r. ⌜ Leaves (refineRule c (now (points .entry)) (now (quads .entry)) (now (labels .entry)) (length (now (work .entry))) (length (now (floats .entry))) (length (now («new_points» .entry))) (length (now («new_quads» .entry))) (length (now («new_labels» .entry)))) (length (now («new_points» .entry))) (length (now («new_quads» .entry))) (length (now («new_labels» .entry))) r (now («new_points» .exit)) (now («new_quads» .exit)) (now («new_labels» .exit)) ⌝ }
+    ensures { λ r. ⌜ Leaves (refineRule c (now (points .entry)) (now (quads .entry)) (now (labels .entry))
+        (length (now (work .entry))) (length (now (floats .entry))) (length (now («new_points» .entry)))
+        (length (now («new_quads» .entry))) (length (now («new_labels» .entry)))) (length (now («new_points» .entry)))
+        (length (now («new_quads» .entry))) (length (now («new_labels» .entry))) r (now («new_points» .exit))
+        (now («new_quads» .exit)) (now («new_labels» .exit)) ⌝ }
     ensures { λ _. ⌜ now (work .exit) ≡ replicate (length (now (work .entry))) 0 ⌝ }
     ensures { λ _. ⌜ now (floats .exit) ≡ replicate (length (now (floats .entry))) zeroF ⌝ }
 {

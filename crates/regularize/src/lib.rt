@@ -46,7 +46,8 @@ fn run_passes(
     w: &mut [u32],
 ) -> usize
     requires { ⌜ SwapPassAsks np nq t (now points) (now quads) (now labels) (now w) ⌝ }
-    ensures { λ r. ⌜ Ran np nq t (now (points .entry)) (now (labels .entry)) passes (now (quads .entry)) (now (quads .exit)) r ⌝ }
+    ensures { λ r. ⌜ Ran np nq t (now (points .entry)) (now (labels .entry)) passes (now (quads .entry))
+        (now (quads .exit)) r ⌝ }
 {
     let mut total: usize = 0;
     let mut left = passes;
@@ -73,7 +74,8 @@ fn clean_accepted(
     w: &mut [u32],
 ) -> usize
     requires { ⌜ Cleanable b least c (now points) (now quads) (now labels) (now w) ⌝ }
-    ensures { λ r. ⌜ Cleans (swapSheet least b passes (sheetOf c (now (points .entry)) (now (quads .entry)) (now (labels .entry)))) (now (quads .entry)) r (now (quads .exit)) ⌝ }
+    ensures { λ r. ⌜ Cleans (swapSheet least b passes (sheetOf c (now (points .entry)) (now (quads .entry))
+        (now (labels .entry)))) (now (quads .entry)) r (now (quads .exit)) ⌝ }
 {
     let field = b.field;
     let t = Trial {
@@ -100,7 +102,8 @@ fn clean_or_refusal(
     floats: usize,
 ) -> Cleaned
     requires { ⌜ least ≤ 1 ⌝ }
-    ensures { λ r. ⌜ Leaves (cleanRule least b passes c (now (points .entry)) (now (quads .entry)) (now (labels .entry)) (length (now (w .entry))) floats) (now (quads .entry)) r (now (quads .exit)) ⌝ }
+    ensures { λ r. ⌜ Leaves (cleanRule least b passes c (now (points .entry)) (now (quads .entry)) (now (labels .entry))
+        (length (now (w .entry))) floats) (now (quads .entry)) r (now (quads .exit)) ⌝ }
 {
     let v = sheet::lent(c, points.len(), quads.len(), labels.len(), w.len(), floats);
     if let Verdict::Refused(n) = v {
@@ -113,7 +116,8 @@ fn clean_or_refusal(
     Cleaned::Done(clean_accepted(b, passes, least, c, points, quads, labels, w))
 }
 
-// Swaps diagonals where the valences gain, at most so many passes. The quads are altered in place; the answer has the swaps made.
+// Swaps diagonals where the valences gain, at most so many passes. The quads are altered in place; the answer has
+// the swaps made.
 pub fn regularize(
     b: Band,
     passes: usize,
@@ -124,7 +128,8 @@ pub fn regularize(
     work: &mut [u32],
     floats: &mut [f64],
 ) -> Cleaned
-    ensures { λ r. ⌜ Leaves (regularizeRule b passes c (now (points .entry)) (now (quads .entry)) (now (labels .entry)) (length (now (work .entry))) (length (now (floats .entry)))) (now (quads .entry)) r (now (quads .exit)) ⌝ }
+    ensures { λ r. ⌜ Leaves (regularizeRule b passes c (now (points .entry)) (now (quads .entry)) (now (labels .entry))
+        (length (now (work .entry))) (length (now (floats .entry)))) (now (quads .entry)) r (now (quads .exit)) ⌝ }
     ensures { λ _. ⌜ now (work .exit) ≡ replicate (length (now (work .entry))) 0 ⌝ }
     ensures { λ _. ⌜ now (floats .exit) ≡ replicate (length (now (floats .entry))) zeroF ⌝ }
 {
@@ -154,7 +159,8 @@ pub fn improve_layout(
     work: &mut [u32],
     floats: &mut [f64],
 ) -> Cleaned
-    ensures { λ r. ⌜ Leaves (improveRule b passes c (now (points .entry)) (now (quads .entry)) (now (labels .entry)) (length (now (work .entry))) (length (now (floats .entry)))) (now (quads .entry)) r (now (quads .exit)) ⌝ }
+    ensures { λ r. ⌜ Leaves (improveRule b passes c (now (points .entry)) (now (quads .entry)) (now (labels .entry))
+        (length (now (work .entry))) (length (now (floats .entry)))) (now (quads .entry)) r (now (quads .exit)) ⌝ }
     ensures { λ _. ⌜ now (work .exit) ≡ replicate (length (now (work .entry))) 0 ⌝ }
     ensures { λ _. ⌜ now (floats .exit) ≡ replicate (length (now (floats .entry))) zeroF ⌝ }
 {

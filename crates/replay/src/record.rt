@@ -23,7 +23,8 @@ fn read(bytes: &mut [u8]) -> bool {
     read_part(bytes, 208, size)
 }
 
-// Whether the proved function of an operation answers as the record says. Operations up to number 8 take a sheet; a larger one is not taken.
+// Whether the proved function of an operation answers as the record says. Operations up to number 8 take a sheet; a
+// larger one is not taken.
 fn agrees(bytes: &[u8], operation: u64, number: u64) -> bool {
     if operation <= 8 && !sheets::is_taken(bytes) {
         return false;

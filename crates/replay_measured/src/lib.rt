@@ -1,5 +1,5 @@
-// What answers with numbers and no sheet, asked as a record says, and whether it answers as it: `quality`, the functions at a point, and
-// the tests of a band and of a sheet.
+// What answers with numbers and no sheet, asked as a record says, and whether it answers as it: `quality`, the
+// functions at a point, and the tests of a band and of a sheet.
 
 mod constraints;
 mod measures;

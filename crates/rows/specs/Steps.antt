@@ -79,7 +79,8 @@ inwardAt nq P Q labels v l =
 -- the copy of the key k
 unfoldable pub copyAt : Band → ℕ → List Float → List ℕ → List ℕ → ℕ → Projected
 copyAt b nq P Q labels k =
-    tryFrom tryCount b (pointAt P (pointIn k)) (inwardAt nq P Q labels (pointIn k) (labelIn k)) (2 ^ labelIn k) firstStep
+    tryFrom tryCount b (pointAt P (pointIn k)) (inwardAt nq P Q labels (pointIn k) (labelIn k)) (2 ^ labelIn k)
+    firstStep
 
 -- the key k has no copy, or it is found
 unfoldable pub foundAt : Band → ℕ → List Float → List ℕ → List ℕ → List ℕ → ℕ → Bool
@@ -87,7 +88,8 @@ foundAt b nq P Q labels M k = not (copiedIn M k) || isOnto (copyAt b nq P Q labe
 
 -- the coordinates s with the copy of the key k at its number, if it has one
 unfoldable pub putCopy : Band → ℕ → ℕ → List Float → List ℕ → List ℕ → List ℕ → ℕ → List Float → List Float
-putCopy b np nq P Q labels M k s = cond (copiedIn M k) (withPoint s (numberIn np M k) (ontoOf (copyAt b nq P Q labels k))) s
+putCopy b np nq P Q labels M k s =
+    cond (copiedIn M k) (withPoint s (numberIn np M k) (ontoOf (copyAt b nq P Q labels k))) s
 
 -- the copies of the keys below n
 unfoldable pub copiesTo : Band → ℕ → List Float → List ℕ → List ℕ → List ℕ → ℕ → List Point
@@ -130,7 +132,8 @@ stripIn np Q labels M c =
     let l = cornerLabel labels c in
     quad (from Q c) (to Q c) (numberIn np M (keyOf (to Q c) l)) (numberIn np M (keyOf (from Q c) l))
 
--- ---- the work slice: behind the corners in the order of their edges stand the corners of each point behind where they begin, the masks, the numbers of
+-- ---- the work slice: behind the corners in the order of their edges stand the corners of each point behind where
+-- they begin, the masks, the numbers of
 -- the copies, and the corners at which strips run
 
 abbrev pub startsAt : ℕ → ℕ → ℕ
@@ -204,7 +207,8 @@ abbrev pub madeBy : Counts → Verdict → Made
 madeBy c Accepted = Done c
 madeBy c (Refused n) = RefusedMade n
 
--- what the writing of the sheet with rows asks: the sheet and all that is gathered of it, its counts m, and room in result slices of p, q and l elements
+-- what the writing of the sheet with rows asks: the sheet and all that is gathered of it, its counts m, and room in
+-- result slices of p, q and l elements
 pub record Finished (m : Counts) (np nq : ℕ) (P : List Float) (Q labels w : List ℕ) (p q l : ℕ) : Type 0 where
   pub gathered : Gathered np nq P Q labels (part (masksAt np nq) np w) w
   pub masks : part (masksAt np nq) np w ≡ masksOf np (quadsOf nq Q) (take nq labels)
@@ -219,5 +223,6 @@ pub record Tested (c : Counts) (P : List Float) (Q labels w : List ℕ) : Type 0
   pub sheet : Labelled (c .points) (c .quads) P Q labels
   pub some : 0 < c .quads
   pub good : all (proper (c .points)) (quadsOf (c .quads) Q) ≡ true
-  pub masks : Part (masksAt (c .points) (c .quads)) (c .points) (masksOf (c .points) (quadsOf (c .quads) Q) (take (c .quads) labels)) w
+  pub masks : Part (masksAt (c .points) (c .quads)) (c .points)
+      (masksOf (c .points) (quadsOf (c .quads) Q) (take (c .quads) labels)) w
   pub work : 64 * (c .points + c .quads) ≤ length w

@@ -1,5 +1,5 @@
-// A row of quads along the edges between two labels: each point at such an edge gets a copy for each of its labels, and strips of quads join the points to
-// their copies. A point v and a label l have the key 8 v + l.
+// A row of quads along the edges between two labels: each point at such an edge gets a copy for each of its labels,
+// and strips of quads join the points to their copies. A point v and a label l have the key 8 v + l.
 
 use band::Band;
 use points::Point;
@@ -30,7 +30,11 @@ ghost use Rattle.incidence.specs.Marks.{Incident};
 ghost use Rattle.refine.specs.Loops.{orderAt};
 ghost use Rattle.subdivide_points.specs.Steps.{Below, flatSheet};
 ghost use Rattle.rule_rows.specs.Rows.{firstStep, tryCount, tryFrom, rowsMade, rowed, rowsRule};
-ghost use Rattle.rows.specs.Steps.{copiedBy, copiedIn, numberIn, pointsAfter, ofLabel, centresOf, withCentre, inwardAt, copyAt, foundAt, putCopy, copiesTo, cornerIn, startsAt, listAt, masksAt, seamsAt, seamAt, seamsTo, seamsOf, stripIn, cornerLabel, countsAfter, madeBy, Labelled, Worked, Gathered, Seaming, Gathering, Finished, Tested};
+ghost use Rattle.rows.specs.Steps.{copiedBy, copiedIn, numberIn, pointsAfter, ofLabel, centresOf, withCentre};
+ghost use Rattle.rows.specs.Steps.{inwardAt, copyAt, foundAt, putCopy, copiesTo, cornerIn, startsAt, listAt};
+ghost use Rattle.rows.specs.Steps.{masksAt, seamsAt, seamAt, seamsTo, seamsOf, stripIn, cornerLabel};
+ghost use Rattle.rows.specs.Steps.{countsAfter, madeBy, Labelled, Worked, Gathered, Seaming, Gathering};
+ghost use Rattle.rows.specs.Steps.{Finished, Tested};
 
 // The number of a refusal: a copy for which all steps fail.
 pub const ROW: u32 = 10;
@@ -40,8 +44,9 @@ pub const FIRST_STEP: f64 = 0.7;
 
 pub const TRIES: usize = 20;
 
-// Regions of the work slice, in units of points and quads together: behind the corners in the order of their edges stand the corners of each point behind
-// where they begin, the masks, the numbers of the copies, and the corners at which strips run.
+// Regions of the work slice, in units of points and quads together: behind the corners in the order of their edges
+// stand the corners of each point behind where they begin, the masks, the numbers of the copies, and the corners at
+// which strips run.
 const STARTS: usize = 9;
 
 const LIST: usize = 10;
@@ -84,7 +89,8 @@ fn number_copies(np: usize, masks: usize, num: usize, w: &mut [u32]) -> usize
     requires { ⌜ num + 8 * np ≤ length (now w) ⌝ }
     requires { ⌜ Apart masks np num (8 * np) ⌝ }
     ensures { λ r. ⌜ r ≡ numberIn np (part masks np (now (w .entry))) (8 * np) ⌝ }
-    ensures { λ _. ⌜ Part num (8 * np) (tabulate (numberIn np (part masks np (now (w .entry)))) (8 * np)) (now (w .exit)) ⌝ }
+    ensures { λ _. ⌜ Part num (8 * np) (tabulate (numberIn np (part masks np (now (w .entry)))) (8 * np))
+        (now (w .exit)) ⌝ }
     ensures { λ _. ⌜ Kept (Out num (8 * np)) (now (w .entry)) (now (w .exit)) ⌝ }
 {
     let mut next = np;
@@ -127,7 +133,8 @@ fn centres_at(
     requires { ⌜ nq ≤ length (now labels) ⌝ }
     requires { ⌜ Below (4 * nq) from m (now w) ⌝ }
     requires { ⌜ m < 4294967296 ⌝ }
-    ensures { λ r. ⌜ r ≡ centresOf (now (points .entry)) (now (quads .entry)) (keep (ofLabel (now (labels .entry)) l) (part from m (now (w .entry)))) ⌝ }
+    ensures { λ r. ⌜ r ≡ centresOf (now (points .entry)) (now (quads .entry))
+        (keep (ofLabel (now (labels .entry)) l) (part from m (now (w .entry)))) ⌝ }
 {
     let mut c = Centres {
         sum: points::origin(),
@@ -226,8 +233,10 @@ fn put_copy(
     requires { ⌜ Gathered np nq (now points) (now quads) (now labels) (part (masksAt np nq) np (now w)) (now w) ⌝ }
     requires { ⌜ k < 8 * np ⌝ }
     requires { ⌜ 3 * pointsAfter np (part (masksAt np nq) np (now w)) ≤ length (now out) ⌝ }
-    ensures { λ r. ⌜ r ≡ foundAt b nq (now (points .entry)) (now (quads .entry)) (now (labels .entry)) (part (masksAt np nq) np (now (w .entry))) k ⌝ }
-    ensures { λ r. ⌜ (r ≡ true → now (out .exit) ≡ putCopy b np nq (now (points .entry)) (now (quads .entry)) (now (labels .entry)) (part (masksAt np nq) np (now (w .entry))) k (now (out .entry))) ⌝ }
+    ensures { λ r. ⌜ r ≡ foundAt b nq (now (points .entry)) (now (quads .entry)) (now (labels .entry))
+        (part (masksAt np nq) np (now (w .entry))) k ⌝ }
+    ensures { λ r. ⌜ (r ≡ true → now (out .exit) ≡ putCopy b np nq (now (points .entry)) (now (quads .entry))
+        (now (labels .entry)) (part (masksAt np nq) np (now (w .entry))) k (now (out .entry))) ⌝ }
 {
     let n = np + nq;
     if is_copied(np, MASKS * n, k, w) {
@@ -255,8 +264,11 @@ fn put_copies(
     requires { ⌜ Gathered np nq (now points) (now quads) (now labels) (part (masksAt np nq) np (now w)) (now w) ⌝ }
     requires { ⌜ 3 * pointsAfter np (part (masksAt np nq) np (now w)) ≤ length (now out) ⌝ }
     requires { ⌜ Front (flatPoints (pointsOf np (now points))) (now out) ⌝ }
-    ensures { λ r. ⌜ r ≡ every (foundAt b nq (now (points .entry)) (now (quads .entry)) (now (labels .entry)) (part (masksAt np nq) np (now (w .entry)))) (8 * np) ⌝ }
-    ensures { λ r. ⌜ (r ≡ true → Front (flatPoints (pointsOf np (now (points .entry)) ++ copiesTo b nq (now (points .entry)) (now (quads .entry)) (now (labels .entry)) (part (masksAt np nq) np (now (w .entry))) (8 * np))) (now (out .exit))) ⌝ }
+    ensures { λ r. ⌜ r ≡ every (foundAt b nq (now (points .entry)) (now (quads .entry)) (now (labels .entry))
+        (part (masksAt np nq) np (now (w .entry)))) (8 * np) ⌝ }
+    ensures { λ r. ⌜ (r ≡ true → Front (flatPoints (pointsOf np (now (points .entry))
+        ++ copiesTo b nq (now (points .entry)) (now (quads .entry)) (now (labels .entry))
+        (part (masksAt np nq) np (now (w .entry))) (8 * np))) (now (out .exit))) ⌝ }
 {
     let len = band::length(b);
     let mut k = 0;
@@ -282,7 +294,8 @@ fn corner_for(
 ) -> u32
     requires { ⌜ Gathered np nq (now points) (now quads) (now labels) (part (masksAt np nq) np (now w)) (now w) ⌝ }
     requires { ⌜ c < 4 * nq ⌝ }
-    ensures { λ r. ⌜ r ≡ cornerIn np (now (quads .entry)) (now (labels .entry)) (part (masksAt np nq) np (now (w .entry))) c ⌝ }
+    ensures { λ r. ⌜ r ≡ cornerIn np (now (quads .entry)) (now (labels .entry))
+        (part (masksAt np nq) np (now (w .entry))) c ⌝ }
 {
     let n = np + nq;
     let k = 8 * lists::at(quads, c) + lists::byte_at(labels, c / 4) as usize;
@@ -304,7 +317,8 @@ fn put_copied(
 )
     requires { ⌜ Gathered np nq (now points) (now quads) (now labels) (part (masksAt np nq) np (now w)) (now w) ⌝ }
     requires { ⌜ 4 * nq ≤ length (now out) ⌝ }
-    ensures { λ _. ⌜ Front (tabulate (cornerIn np (now (quads .entry)) (now (labels .entry)) (part (masksAt np nq) np (now (w .entry)))) (4 * nq)) (now (out .exit)) ⌝ }
+    ensures { λ _. ⌜ Front (tabulate (cornerIn np (now (quads .entry)) (now (labels .entry))
+        (part (masksAt np nq) np (now (w .entry)))) (4 * nq)) (now (out .exit)) ⌝ }
 {
     let mut c = 0;
     while c < 4 * nq {
@@ -332,7 +346,8 @@ fn is_seam(quads: &[u32], labels: &[u8], np: usize, nq: usize, i: usize, w: &[u3
     requires { ⌜ nq ≤ length (now labels) ⌝ }
     requires { ⌜ Part (orderAt np nq) (4 * nq) (edgeOrder np nq (now quads)) (now w) ⌝ }
     requires { ⌜ i < 4 * nq ⌝ }
-    ensures { λ r. ⌜ r ≡ seamAt (now (quads .entry)) (now (labels .entry)) (4 * nq) (edgeOrder np nq (now (quads .entry))) i ⌝ }
+    ensures { λ r. ⌜ r ≡ seamAt (now (quads .entry)) (now (labels .entry)) (4 * nq)
+        (edgeOrder np nq (now (quads .entry))) i ⌝ }
 {
     let order = refine::ORDER * (np + nq);
     if edges::is_pair(quads, order, 4 * nq, i, w) {
@@ -343,7 +358,8 @@ fn is_seam(quads: &[u32], labels: &[u8], np: usize, nq: usize, i: usize, w: &[u3
     false
 }
 
-// Puts the two corners of the edge that begins at place i behind those found so far, if strips run there; how many there are then.
+// Puts the two corners of the edge that begins at place i behind those found so far, if strips run there; how many
+// there are then.
 fn put_seam(
     quads: &[u32],
     labels: &[u8],
@@ -373,7 +389,8 @@ fn put_seam(
 fn list_seams(quads: &[u32], labels: &[u8], np: usize, nq: usize, w: &mut [u32]) -> usize
     requires { ⌜ Seaming np nq (now quads) (now labels) 0 0 (now w) ⌝ }
     ensures { λ r. ⌜ r ≡ length (seamsOf np nq (now (quads .entry)) (now (labels .entry))) ⌝ }
-    ensures { λ _. ⌜ Part (seamsAt np nq) (length (seamsOf np nq (now (quads .entry)) (now (labels .entry)))) (seamsOf np nq (now (quads .entry)) (now (labels .entry))) (now (w .exit)) ⌝ }
+    ensures { λ _. ⌜ Part (seamsAt np nq) (length (seamsOf np nq (now (quads .entry)) (now (labels .entry))))
+        (seamsOf np nq (now (quads .entry)) (now (labels .entry))) (now (w .exit)) ⌝ }
     ensures { λ _. ⌜ Kept (Out (seamsAt np nq) (8 * nq)) (now (w .entry)) (now (w .exit)) ⌝ }
 {
     let mut next = 0;
@@ -400,7 +417,8 @@ fn put_strip(
     requires { ⌜ Gathered np nq (now points) (now quads) (now labels) (part (masksAt np nq) np (now w)) (now w) ⌝ }
     requires { ⌜ c < 4 * nq ⌝ }
     requires { ⌜ 4 * i + 4 ≤ length (now out) ⌝ }
-    ensures { λ _. ⌜ now (out .exit) ≡ withQuad (now (out .entry)) i (stripIn np (now (quads .entry)) (now (labels .entry)) (part (masksAt np nq) np (now (w .entry))) c) ⌝ }
+    ensures { λ _. ⌜ now (out .exit) ≡ withQuad (now (out .entry)) i
+        (stripIn np (now (quads .entry)) (now (labels .entry)) (part (masksAt np nq) np (now (w .entry))) c) ⌝ }
 {
     let num = NUMBERS * (np + nq);
     let l = lists::byte_at(labels, c / 4) as usize;
@@ -425,7 +443,9 @@ fn put_strips(
     requires { ⌜ Gathered np nq (now points) (now quads) (now labels) (part (masksAt np nq) np (now w)) (now w) ⌝ }
     requires { ⌜ m ≡ length (seamsOf np nq (now quads) (now labels)) ⌝ }
     requires { ⌜ 4 * m ≤ length (now out) ⌝ }
-    ensures { λ _. ⌜ Front (flatQuads (map (stripIn np (now (quads .entry)) (now (labels .entry)) (part (masksAt np nq) np (now (w .entry)))) (seamsOf np nq (now (quads .entry)) (now (labels .entry))))) (now (out .exit)) ⌝ }
+    ensures { λ _. ⌜ Front (flatQuads (map (stripIn np (now (quads .entry)) (now (labels .entry))
+        (part (masksAt np nq) np (now (w .entry)))) (seamsOf np nq (now (quads .entry)) (now (labels .entry)))))
+        (now (out .exit)) ⌝ }
 {
     let at = SEAMS * (np + nq);
     let mut t = 0;
@@ -450,7 +470,8 @@ fn put_strip_labels(
     requires { ⌜ Gathered np nq (now points) (now quads) (now labels) (part (masksAt np nq) np (now w)) (now w) ⌝ }
     requires { ⌜ m ≡ length (seamsOf np nq (now quads) (now labels)) ⌝ }
     requires { ⌜ m ≤ length (now out) ⌝ }
-    ensures { λ _. ⌜ Front (map (cornerLabel (now (labels .entry))) (seamsOf np nq (now (quads .entry)) (now (labels .entry)))) (now (out .exit)) ⌝ }
+    ensures { λ _. ⌜ Front (map (cornerLabel (now (labels .entry)))
+        (seamsOf np nq (now (quads .entry)) (now (labels .entry)))) (now (out .exit)) ⌝ }
 {
     let at = SEAMS * (np + nq);
     let mut t = 0;
@@ -463,8 +484,10 @@ fn put_strip_labels(
 // Gathers what the rows need of the sheet, in regions of the work slice; the counts of the sheet with rows.
 fn gather(quads: &[u32], labels: &[u8], np: usize, nq: usize, w: &mut [u32]) -> Counts
     requires { ⌜ Gathering np nq (now quads) (now labels) (part (masksAt np nq) np (now w)) (now w) ⌝ }
-    ensures { λ r. ⌜ r ≡ countsAfter np nq (now (quads .entry)) (now (labels .entry)) (part (masksAt np nq) np (now (w .entry))) ⌝ }
-    ensures { λ _. ⌜ Worked np nq (now (quads .entry)) (now (labels .entry)) (part (masksAt np nq) np (now (w .entry))) (now (w .exit)) ⌝ }
+    ensures { λ r. ⌜ r ≡ countsAfter np nq (now (quads .entry)) (now (labels .entry))
+        (part (masksAt np nq) np (now (w .entry))) ⌝ }
+    ensures { λ _. ⌜ Worked np nq (now (quads .entry)) (now (labels .entry)) (part (masksAt np nq) np (now (w .entry)))
+        (now (w .exit)) ⌝ }
 {
     let n = np + nq;
     incidence::edge_order(np, nq, quads, n, 0, refine::ORDER * n, w);
@@ -494,8 +517,14 @@ fn put_quads(
     requires { ⌜ m ≡ length (seamsOf np nq (now quads) (now labels)) ⌝ }
     requires { ⌜ 4 * (nq + m) ≤ length (now «new_quads») ⌝ }
     requires { ⌜ nq + m ≤ length (now «new_labels») ⌝ }
-    ensures { λ _. ⌜ Front (tabulate (cornerIn np (now (quads .entry)) (now (labels .entry)) (part (masksAt np nq) np (now (w .entry)))) (4 * nq) ++ flatQuads (map (stripIn np (now (quads .entry)) (now (labels .entry)) (part (masksAt np nq) np (now (w .entry)))) (seamsOf np nq (now (quads .entry)) (now (labels .entry))))) (now («new_quads» .exit)) ⌝ }
-    ensures { λ _. ⌜ Front (take nq (now (labels .entry)) ++ map (cornerLabel (now (labels .entry))) (seamsOf np nq (now (quads .entry)) (now (labels .entry)))) (now («new_labels» .exit)) ⌝ }
+    ensures { λ _. ⌜ Front (tabulate (cornerIn np (now (quads .entry)) (now (labels .entry))
+        (part (masksAt np nq) np (now (w .entry)))) (4 * nq)
+        ++ flatQuads (map (stripIn np (now (quads .entry)) (now (labels .entry))
+        (part (masksAt np nq) np (now (w .entry)))) (seamsOf np nq (now (quads .entry)) (now (labels .entry)))))
+        (now («new_quads» .exit)) ⌝ }
+    ensures { λ _. ⌜ Front (take nq (now (labels .entry))
+        ++ map (cornerLabel (now (labels .entry))) (seamsOf np nq (now (quads .entry)) (now (labels .entry))))
+        (now («new_labels» .exit)) ⌝ }
 {
     put_copied(points, quads, labels, np, nq, w, new_quads);
     put_strips(
@@ -516,7 +545,8 @@ fn put_quads(
 fn tested(b: Band, c: Counts, points: &[f64], quads: &[u32], labels: &[u8], w: &mut [u32]) -> Made
     requires { ⌜ LentSheet c (length (now points)) (length (now quads)) (length (now labels)) ⌝ }
     requires { ⌜ c .points ≤ length (now w) ⌝ }
-    ensures { λ r. ⌜ r ≡ madeBy c (sheetVerdict b (sheetOf c (now (points .entry)) (now (quads .entry)) (now (labels .entry)))) ⌝ }
+    ensures { λ r. ⌜ r ≡ madeBy c (sheetVerdict b (sheetOf c (now (points .entry)) (now (quads .entry))
+        (now (labels .entry)))) ⌝ }
 {
     let n = c.points;
     let v = sheet::constraints(b, c, points, quads, labels, &mut w[..n]);
@@ -540,8 +570,10 @@ fn put_sheet(
     new_labels: &mut [u8],
     w: &mut [u32],
 ) -> Made
-    requires { ⌜ Finished m np nq (now points) (now quads) (now labels) (now w) (length (now «new_points»)) (length (now «new_quads»)) (length (now «new_labels»)) ⌝ }
-    ensures { λ r. ⌜ Fills (rowsMade b (flatSheet np nq (now (points .entry)) (now (quads .entry)) (now (labels .entry)))) r (now («new_points» .exit)) (now («new_quads» .exit)) (now («new_labels» .exit)) ⌝ }
+    requires { ⌜ Finished m np nq (now points) (now quads) (now labels) (now w) (length (now «new_points»))
+        (length (now «new_quads»)) (length (now «new_labels»)) ⌝ }
+    ensures { λ r. ⌜ Fills (rowsMade b (flatSheet np nq (now (points .entry)) (now (quads .entry))
+        (now (labels .entry)))) r (now («new_points» .exit)) (now («new_quads» .exit)) (now («new_labels» .exit)) ⌝ }
 {
     refine::copy_points(np, points, new_points);
     if !put_copies(b, points, quads, labels, np, nq, w, new_points) {
@@ -577,7 +609,9 @@ fn rows_tested(
     w: &mut [u32],
 ) -> Made
     requires { ⌜ Tested c (now points) (now quads) (now labels) (now w) ⌝ }
-    ensures { λ r. ⌜ Fills (rowed b (sheetOf c (now (points .entry)) (now (quads .entry)) (now (labels .entry))) (length (now («new_points» .entry))) (length (now («new_quads» .entry))) (length (now («new_labels» .entry)))) r (now («new_points» .exit)) (now («new_quads» .exit)) (now («new_labels» .exit)) ⌝ }
+    ensures { λ r. ⌜ Fills (rowed b (sheetOf c (now (points .entry)) (now (quads .entry)) (now (labels .entry)))
+        (length (now («new_points» .entry))) (length (now («new_quads» .entry))) (length (now («new_labels» .entry)))) r
+        (now («new_points» .exit)) (now («new_quads» .exit)) (now («new_labels» .exit)) ⌝ }
 {
     let m = gather(quads, labels, c.points, c.quads, w);
     if sheet::is_over(m, new_points.len(), new_quads.len(), new_labels.len()) {
@@ -611,7 +645,10 @@ fn rows_or_refusal(
     w: &mut [u32],
     floats: usize,
 ) -> Made
-    ensures { λ r. ⌜ Fills (rowsRule b c (now (points .entry)) (now (quads .entry)) (now (labels .entry)) (length (now (w .entry))) floats (length (now («new_points» .entry))) (length (now («new_quads» .entry))) (length (now («new_labels» .entry)))) r (now («new_points» .exit)) (now («new_quads» .exit)) (now («new_labels» .exit)) ⌝ }
+    ensures { λ r. ⌜ Fills (rowsRule b c (now (points .entry)) (now (quads .entry)) (now (labels .entry))
+        (length (now (w .entry))) floats (length (now («new_points» .entry))) (length (now («new_quads» .entry)))
+        (length (now («new_labels» .entry)))) r (now («new_points» .exit)) (now («new_quads» .exit))
+        (now («new_labels» .exit)) ⌝ }
 {
     let v = sheet::lent(c, points.len(), quads.len(), labels.len(), w.len(), floats);
     if let Verdict::Refused(n) = v {
@@ -635,7 +672,8 @@ fn rows_or_refusal(
     )
 }
 
-// Inserts a row of quads along each edge between two labels. The sheet goes to the result slices, the answer has its counts.
+// Inserts a row of quads along each edge between two labels. The sheet goes to the result slices, the answer has
+// its counts.
 pub fn boundary_rows(
     b: Band,
     c: Counts,
@@ -648,7 +686,11 @@ pub fn boundary_rows(
     work: &mut [u32],
     floats: &mut [f64],
 ) -> Made
-    ensures { λ r. ⌜ Leaves (rowsRule b c (now (points .entry)) (now (quads .entry)) (now (labels .entry)) (length (now (work .entry))) (length (now (floats .entry))) (length (now («new_points» .entry))) (length (now («new_quads» .entry))) (length (now («new_labels» .entry)))) (length (now («new_points» .entry))) (length (now («new_quads» .entry))) (length (now («new_labels» .entry))) r (now («new_points» .exit)) (now («new_quads» .exit)) (now («new_labels» .exit)) ⌝ }
+    ensures { λ r. ⌜ Leaves (rowsRule b c (now (points .entry)) (now (quads .entry)) (now (labels .entry))
+        (length (now (work .entry))) (length (now (floats .entry))) (length (now («new_points» .entry)))
+        (length (now («new_quads» .entry))) (length (now («new_labels» .entry)))) (length (now («new_points» .entry)))
+        (length (now («new_quads» .entry))) (length (now («new_labels» .entry))) r (now («new_points» .exit))
+        (now («new_quads» .exit)) (now («new_labels» .exit)) ⌝ }
     ensures { λ _. ⌜ now (work .exit) ≡ replicate (length (now (work .entry))) 0 ⌝ }
     ensures { λ _. ⌜ now (floats .exit) ≡ replicate (length (now (floats .entry))) zeroF ⌝ }
 {

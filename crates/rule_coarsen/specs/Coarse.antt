@@ -1,4 +1,5 @@
--- The passes of `coarsen` as functions of a sheet. Document 01, "The merged sheet". What the rule reads of the points, and the position of a merged point, are parameters.
+-- The passes of `coarsen` as functions of a sheet. Document 01, "The merged sheet". What the rule reads of the
+-- points, and the position of a merged point, are parameters.
 use Prim.Native.Nat.{ℕ, zero, suc, _+_, _*_, _-_}
 use mathlib.Core.Option.{Option, none}
 use mathlib.Core.Bool.{Bool, true, false, cond, _&&_, _||_, not}
@@ -34,7 +35,9 @@ mark (b ∷ bs) f i = (b || f i) ∷ mark bs f (suc i)
 abbrev pub near : List Quad → ℕ → ℕ → ℕ → Bool
 near S a c v = ltb 0 (sum (λ q. cond (hasCorner q a || hasCorner q c) (uses v q) 0) S)
 
--- The part of the rule that reads the points: the points and the quads now, the quad f, its corners a and c. The projection of the halfway point is not refused, and "No other quad at either, measured with the new position, falls below the smaller of its old shape and 0.25."
+-- The part of the rule that reads the points: the points and the quads now, the quad f, its corners a and c. The
+-- projection of the halfway point is not refused, and "No other quad at either, measured with the new position,
+-- falls below the smaller of its old shape and 0.25."
 abbrev pub MergeFits : Type 0
 MergeFits = List Point → List Slot → ℕ → ℕ → ℕ → Bool
 
@@ -47,8 +50,10 @@ module _ (n : ℕ) (S0 : List Quad) (labels : List ℕ) where
   -- "The joined mask has no opposite pair and equals one of the two."
   abbrev pub masksJoin : ℕ → ℕ → Bool
   masksJoin a c =
-      every (λ j. not ((hasLabel S0 labels a (2 * j) || hasLabel S0 labels c (2 * j)) && (hasLabel S0 labels a (2 * j + 1) || hasLabel S0 labels c (2 * j + 1)))) 4
-      && (every (λ l. not (hasLabel S0 labels c l) || hasLabel S0 labels a l) 8 || every (λ l. not (hasLabel S0 labels a l) || hasLabel S0 labels c l) 8)
+      every (λ j. not ((hasLabel S0 labels a (2 * j) || hasLabel S0 labels c (2 * j))
+      && (hasLabel S0 labels a (2 * j + 1) || hasLabel S0 labels c (2 * j + 1)))) 4
+      && (every (λ l. not (hasLabel S0 labels c l) || hasLabel S0 labels a l) 8
+      || every (λ l. not (hasLabel S0 labels a l) || hasLabel S0 labels c l) 8)
 
   -- "(quads minus 4) squared added over the quad's four corners before"
   abbrev pub sumBefore : ℕ → ℕ → ℕ → ℕ → ℕ
@@ -64,7 +69,8 @@ module _ (n : ℕ) (S0 : List Quad) (labels : List ℕ) where
 
   -- "and no further quad"
   abbrev pub noFurther : ℕ → ℕ → ℕ → Bool
-  noFurther f a c = every (λ j. eqb j f || not (hasCorner (getD S0 j noneQuad) a && hasCorner (getD S0 j noneQuad) c)) (length S0)
+  noFurther f a c = every (λ j. eqb j f || not (hasCorner (getD S0 j noneQuad) a && hasCorner (getD S0 j noneQuad) c))
+      (length S0)
 
   -- not "a diagonal where a quad at either end has one", a barred corner
   abbrev pub nearFree : List Bool → ℕ → ℕ → Bool
@@ -72,10 +78,12 @@ module _ (n : ℕ) (S0 : List Quad) (labels : List ℕ) where
 
 -- A pass over them.
 module _ (n : ℕ) (S0 : List Quad) (labels : List ℕ) (fits : MergeFits) (position : Position) where
-  -- May the corners a and c of quad f = (a, b, c, d) be merged? "Both other corners need at least 4 quads each"; "a gain of 0 is enough".
+  -- May the corners a and c of quad f = (a, b, c, d) be merged? "Both other corners need at least 4 quads each"; "a
+  -- gain of 0 is enough".
   abbrev pub mayMerge : MergeState → ℕ → ℕ → ℕ → ℕ → ℕ → Bool
   mayMerge st f a b c d =
-      masksJoin n S0 labels a c && leb 4 (valence S0 b) && leb 4 (valence S0 d) && shareOnly n S0 labels a b c d && noFurther n S0 labels f a c && nearFree n S0 labels (st .used) a c
+      masksJoin n S0 labels a c && leb 4 (valence S0 b) && leb 4 (valence S0 d) && shareOnly n S0 labels a b c d
+      && noFurther n S0 labels f a c && nearFree n S0 labels (st .used) a c
       && leb (sumAfter n S0 labels a b c d) (sumBefore n S0 labels a b c d) && fits (st .points) (st .slots) f a c
 
   -- the state after the merge of the corners a and c of quad f
@@ -87,12 +95,16 @@ module _ (n : ℕ) (S0 : List Quad) (labels : List ℕ) (fits : MergeFits) (posi
     count = suc (st .count);
   }
 
-  -- the merge in quad f, if the rule takes one: "a quad with a barred corner is not tried"; "diagonal k = 0 then 1; the higher gain wins, the first on a tie"
+  -- the merge in quad f, if the rule takes one: "a quad with a barred corner is not tried"; "diagonal k = 0 then 1;
+  -- the higher gain wins, the first on a tie"
   abbrev pub tryFace : MergeState → ℕ → Slot → Option MergeState
   tryFace st f out = none
   tryFace st f (slot (quad q0 q1 q2 q3)) =
-      cond (not (getD (st .used) q0 true) && not (getD (st .used) q1 true) && not (getD (st .used) q2 true) && not (getD (st .used) q3 true))
-      (choose (mayMerge st f q0 q1 q2 q3) (mayMerge st f q1 q2 q3 q0) (ltb (sumBefore n S0 labels q0 q1 q2 q3 - sumAfter n S0 labels q0 q1 q2 q3) (sumBefore n S0 labels q1 q2 q3 q0 - sumAfter n S0 labels q1 q2 q3 q0))
+      cond (not (getD (st .used) q0 true) && not (getD (st .used) q1 true) && not (getD (st .used) q2 true)
+      && not (getD (st .used) q3 true))
+      (choose (mayMerge st f q0 q1 q2 q3) (mayMerge st f q1 q2 q3 q0)
+      (ltb (sumBefore n S0 labels q0 q1 q2 q3 - sumAfter n S0 labels q0 q1 q2 q3)
+      (sumBefore n S0 labels q1 q2 q3 q0 - sumAfter n S0 labels q1 q2 q3 q0))
       (mergedState st f q0 q2) (mergedState st f q1 q3))
       none
 
@@ -105,15 +117,19 @@ module _ (n : ℕ) (S0 : List Quad) (labels : List ℕ) (fits : MergeFits) (posi
 
 -- the state at the start of a pass
 abbrev pub freshMerge : Sheet → MergeState
-freshMerge s = record { slots = map slot (s .quads); used = replicate (length (s .points)) false; points = s .points; count = 0 }
+freshMerge s =
+    record { slots = map slot (s .quads); used = replicate (length (s .points)) false; points = s .points; count = 0 }
 
 -- one pass; the parameters may read the sheet at its start
 unfoldable pub mergePass : (Sheet → MergeFits) → (Sheet → Position) → Sheet → MergeState
-mergePass fits position s = visit (length (s .points)) (s .quads) (s .labels) (fits s) (position s) (length (s .quads)) 0 (freshMerge s)
+mergePass fits position s =
+    visit (length (s .points)) (s .quads) (s .labels) (fits s) (position s) (length (s .quads)) 0 (freshMerge s)
 
--- the sheet of the slots S and the points ps: the quads that are still here, their labels, and the points in the order of their first use
+-- the sheet of the slots S and the points ps: the quads that are still here, their labels, and the points in the
+-- order of their first use
 abbrev pub compact : List Slot → List ℕ → List Point → Sheet
-compact S labels ps = record { points = gathered ps (order (live S)); quads = renumber (live S); labels = liveLabels S labels }
+compact S labels ps =
+    record { points = gathered ps (order (live S)); quads = renumber (live S); labels = liveLabels S labels }
 
 -- the sheet after a pass that merged
 abbrev pub nextSheet : (Sheet → MergeState) → Sheet → Sheet

@@ -24,7 +24,8 @@ Used us v = getD us v true ≡ true
 -- the pass's invariant: a quad that has, or had, an unbarred corner stands as it stood at the start
 pub record MInv (S0 : List Quad) (S : List Slot) (U : ℕ → Type 0) : Type 0 where
   pub len : length S ≡ length S0
-  pub same : (v : ℕ) → ¬ U v → (j : ℕ) → j < length S0 → (0 < weigh (corners (at v (λ p n. 1))) (getD S j out)) ⊎ (0 < uses v (getD S0 j noneQuad)) → getD S j out ≡ slot (getD S0 j noneQuad)
+  pub same : (v : ℕ) → ¬ U v → (j : ℕ) → j < length S0 → (0 < weigh (corners (at v (λ p n. 1))) (getD S j out))
+      ⊎ (0 < uses v (getD S0 j noneQuad)) → getD S j out ≡ slot (getD S0 j noneQuad)
 
 -- quad q: out where its mark in R is not 0, else as it reads now
 abbrev pub slotAt : List ℕ → List ℕ → ℕ → Slot

@@ -34,7 +34,8 @@ movedTo b s ps a c = projectOf b (halfwayP (pointIn ps a) (pointIn ps c)) (joine
 unfoldable pub movedAt : (ℕ → Point) → Merge → ℕ → Point
 movedAt at m v = cond (eqb v (m .a) || eqb v (m .c)) (m .to) (at v)
 
--- a quad of the label l, measured with the normal "at the old quad's centre", does not fall "below the smaller of its old shape and 0.25"
+-- a quad of the label l, measured with the normal "at the old quad's centre", does not fall "below the smaller of
+-- its old shape and 0.25"
 unfoldable pub quadStays : Field → Float → (ℕ → Point) → ℕ → Quad → Merge → Bool
 quadStays f len at l q m =
     let n = normalWith f len (centreOf at q) l in
@@ -43,7 +44,8 @@ quadStays f len at l q m =
 -- "No other quad at either": quad j is the merge's own, or is at neither point, or stays
 abbrev pub otherStays : Band → Sheet → List Point → Merge → ℕ → Bool
 otherStays b s ps m j =
-    eqb j (m .face) || not (hasCorner (getD (s .quads) j noneQuad) (m .a) || hasCorner (getD (s .quads) j noneQuad) (m .c))
+    eqb j (m .face) || not (hasCorner (getD (s .quads) j noneQuad) (m .a)
+    || hasCorner (getD (s .quads) j noneQuad) (m .c))
     || quadStays (b .field) (lengthOf b) (pointIn ps) (getD (s .labels) j 0) (getD (s .quads) j noneQuad) m
 
 -- the merge of the corners a and c of quad f at p

@@ -1,4 +1,5 @@
--- The merged sheet: what one merge does to the quads, and the renumbering after a pass. Document 01, "The merged sheet".
+-- The merged sheet: what one merge does to the quads, and the renumbering after a pass. Document 01, "The merged
+-- sheet".
 use Prim.Native.Nat.{ℕ}
 use mathlib.Core.Bool.{cond}
 use mathlib.Core.List.{List, [], _∷_, map}
@@ -42,7 +43,8 @@ abbrev pub renameSlot : (ℕ → ℕ) → Slot → Slot
 renameSlot f out = out
 renameSlot f (slot q) = slot (renameQuad f q)
 
--- the merge of the corners a and c of quad k: the quad goes, and c becomes a. "The merged point keeps the number of corner k."
+-- the merge of the corners a and c of quad k: the quad goes, and c becomes a. "The merged point keeps the number of
+-- corner k."
 abbrev pub merged : List Slot → ℕ → ℕ → ℕ → List Slot
 merged S k a c = set (map (renameSlot (rename c a)) S) k out
 

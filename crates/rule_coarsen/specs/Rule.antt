@@ -29,8 +29,8 @@ coarseSheet b k s = coarseRun (mergeFits b) (mergePosition b) k s
 abbrev pub passesVerdict : Band → ℕ → Sheet → Verdict
 passesVerdict b k s = cond (eqb k 0) Accepted (sheetVerdict b s)
 
--- the rule over slices: points P, quads Q, labels, and work slices of w and f elements; it gives the sheet that is left and the merges made
--- "Order for a lent sheet: 12, 13 (counts or work), 1, 5, 6, 7"
+-- the rule over slices: points P, quads Q, labels, and work slices of w and f elements; it gives the sheet that is
+-- left and the merges made "Order for a lent sheet: 12, 13 (counts or work), 1, 5, 6, 7"
 unfoldable pub coarsenRule : Band → ℕ → Counts → List Float → List ℕ → List ℕ → ℕ → ℕ → Outcome (Answer Sheet)
 coarsenRule b k c P Q labels w f =
     afterTest (lentVerdict c (length P) (length Q) (length labels) w f)
@@ -41,7 +41,8 @@ abbrev pub answerOf : Outcome (Answer Sheet) → Coarsened
 answerOf (refuses n) = answers.the-variants.Refused n
 answerOf (gives a) = answers.the-variants.Done (record { count = a .count; sheet = countsOf (a .left) })
 
--- what an outcome leaves in slices that held P, Q and L: "A sheet altered in its own slices stays unchanged" on a refusal; "so are unused tails after success"
+-- what an outcome leaves in slices that held P, Q and L: "A sheet altered in its own slices stays unchanged" on a
+-- refusal; "so are unused tails after success"
 abbrev pub pointsLeft : Outcome (Answer Sheet) → List Float → List Float
 pointsLeft (refuses n) P = P
 pointsLeft (gives a) P = padded zeroF (length P) (flatPoints (a .left .points))
@@ -55,7 +56,8 @@ labelsLeft (refuses n) L = L
 labelsLeft (gives a) L = padded 0 (length L) (a .left .labels)
 
 -- the answer r of the operation, and the slices P′, Q′ and L′ at its end, P, Q and L being those that it was lent
-pub record Leaves (o : Outcome (Answer Sheet)) (P : List Float) (Q L : List ℕ) (r : Coarsened) (P′ : List Float) (Q′ L′ : List ℕ) : Type 0 where
+pub record Leaves (o : Outcome (Answer Sheet)) (P : List Float) (Q L : List ℕ) (r : Coarsened) (P′ : List Float)
+    (Q′ L′ : List ℕ) : Type 0 where
   pub answer : r ≡ answerOf o
   pub points : P′ ≡ pointsLeft o P
   pub quads : Q′ ≡ quadsLeft o Q

@@ -1,4 +1,5 @@
--- What `quads_quality` says in numbers: the number of a refusal, 0 if accepted, ten numbers in the answer slice and four in the slice of measures.
+-- What `quads_quality` says in numbers: the number of a refusal, 0 if accepted, ten numbers in the answer slice and
+-- four in the slice of measures.
 use Prim.Native.Nat.{ℕ}
 use mathlib.Core.Bool.{Bool, cond, _||_}
 use mathlib.Core.List.{List, [], _∷_, _++_}
@@ -53,9 +54,11 @@ unfoldable pub fronted : {A : Type 0} → List A → List A → List A
 fronted l s = l ++ drop (length l) s
 
 -- `quality` with a band as an export is given it: 13 and 1 of the band come first
-unfoldable pub qualityBy : List Float → List ℕ → List ℕ → Counts → ℕ → List Float → List Float → Float → Float → ℕ → ℕ → Assessed
+unfoldable pub qualityBy : List Float → List ℕ → List ℕ → Counts → ℕ → List Float → List Float → Float → Float → ℕ → ℕ
+    → Assessed
 qualityBy P Q labels c kind numbers bounds lower upper w f =
-    afterTests (bandVerdict kind (length numbers) (length bounds)) (qualityRule (bandOf kind numbers bounds lower upper) c P Q labels w f)
+    afterTests (bandVerdict kind (length numbers) (length bounds))
+    (qualityRule (bandOf kind numbers bounds lower upper) c P Q labels w f)
 
 -- slices of n numbers for the answer and m for the measures: fewer than 10 and 4 are too short, 13
 abbrev pub tooShort : ℕ → ℕ → Bool

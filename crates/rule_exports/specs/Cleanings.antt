@@ -1,4 +1,5 @@
--- What the exports of the clean-up say in numbers: the number of a refusal, 0 if accepted, the count and the counts of the sheet in the answer slice.
+-- What the exports of the clean-up say in numbers: the number of a refusal, 0 if accepted, the count and the counts
+-- of the sheet in the answer slice.
 use Prim.Native.Nat.{ℕ}
 use mathlib.Core.Bool.{Bool, cond}
 use mathlib.Core.List.{List}
@@ -30,10 +31,13 @@ unfoldable pub cleanedCounts : Cleaned → Counts → Counts
 cleanedCounts (Done k) c = c
 cleanedCounts (Refused n) c = record { points = 0; quads = 0; labels = 0 }
 
--- `regularize`, or `improve_layout` where neutral, with a band as an export is given it: 13 and 1 of the band come first
-unfoldable pub cleanBy : Bool → List Float → List ℕ → List ℕ → Counts → ℕ → List Float → List Float → Float → Float → ℕ → ℕ → ℕ → Outcome (Answer (List Quad))
+-- `regularize`, or `improve_layout` where neutral, with a band as an export is given it: 13 and 1 of the band come
+-- first
+unfoldable pub cleanBy : Bool → List Float → List ℕ → List ℕ → Counts → ℕ → List Float → List Float → Float → Float → ℕ
+    → ℕ → ℕ → Outcome (Answer (List Quad))
 cleanBy neutral P Q labels c kind numbers bounds lower upper k w f =
-    afterTest (bandVerdict kind (length numbers) (length bounds)) (cleanRule (cond neutral 0 1) (bandOf kind numbers bounds lower upper) k c P Q labels w f)
+    afterTest (bandVerdict kind (length numbers) (length bounds))
+    (cleanRule (cond neutral 0 1) (bandOf kind numbers bounds lower upper) k c P Q labels w f)
 
 -- the answer slice l after a clean-up of a sheet of these counts: untouched if it is too short
 unfoldable pub countLeft : Outcome (Answer (List Quad)) → Counts → List ℕ → List ℕ

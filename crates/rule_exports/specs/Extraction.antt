@@ -11,4 +11,5 @@ use Rattle.rule_extract.specs.Drawing.{extractRule}
 -- 13 and 1 of the band that is given come first
 unfoldable pub extractBy : ℕ → List Float → List Float → Float → Float → ℕ → ℕ → ℕ → ℕ → ℕ → ℕ → Outcome Sheet
 extractBy kind numbers bounds lower upper cells w f p q l =
-    afterTest (bandVerdict kind (length numbers) (length bounds)) (extractRule (bandOf kind numbers bounds lower upper) cells w f p q l)
+    afterTest (bandVerdict kind (length numbers) (length bounds))
+    (extractRule (bandOf kind numbers bounds lower upper) cells w f p q l)

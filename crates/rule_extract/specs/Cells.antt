@@ -1,5 +1,7 @@
--- What a cell of the grid draws, by the signs at its corners. Document 01, "The drawn sheet", and `extract_candidate` of 000.
--- A corner is x + 2y + 4z; a sign is true inside the band. The face 2 × axis + side is square to its axis. The centre of a face has a sign too.
+-- What a cell of the grid draws, by the signs at its corners. Document 01, "The drawn sheet", and
+-- `extract_candidate` of 000.
+-- A corner is x + 2y + 4z; a sign is true inside the band. The face 2 × axis + side is square to its axis. The
+-- centre of a face has a sign too.
 use Prim.Native.Nat.{ℕ, zero, suc, _+_, _*_, _/_, _%_, _^_}
 use mathlib.Core.Bool.{Bool, cond, not, _&&_, _||_, Bool·beq}
 use mathlib.Core.List.{List, [], _∷_, _++_, map, foldl}
@@ -13,7 +15,8 @@ bitOf n i = eqb (n / 2 ^ i % 2) 1
 
 -- ---- edges
 
--- "The twelve edges of a cell are numbered axis × 4 + b × 2 + d": b and d are the places of the edge along the next two axes
+-- "The twelve edges of a cell are numbered axis × 4 + b × 2 + d": b and d are the places of the edge along the next
+-- two axes
 unfoldable pub lowEnd : ℕ → ℕ
 lowEnd e = e / 2 % 2 * 2 ^ ((e / 4 + 1) % 3) + e % 2 * 2 ^ ((e / 4 + 2) % 3)
 
@@ -66,7 +69,8 @@ sharedBy a b = cond (isEnd (lowEnd a) b) (lowEnd a) (cond (isEnd (highEnd a) b) 
 
 -- two edges have a corner in common whose sign is not that of the centre
 unfoldable pub parted : (ℕ → Bool) → Bool → Pair → Bool
-parted sign centre p = ltb (sharedBy (p .first) (p .second)) 8 && not (Bool·beq (sign (sharedBy (p .first) (p .second))) centre)
+parted sign centre p =
+    ltb (sharedBy (p .first) (p .second)) 8 && not (Bool·beq (sign (sharedBy (p .first) (p .second))) centre)
 
 -- "a face with two crossings joins them, one with four joins by the sign at its centre": there all its edges cross
 unfoldable pub pairsOf : (ℕ → Bool) → Bool → ℕ → List Pair

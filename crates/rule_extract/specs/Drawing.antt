@@ -1,5 +1,5 @@
--- The sheet that extraction draws. Document 01, "The drawn sheet", and `extract_candidate` of 000. The grid has n cells a side, n being two more
--- than the cells asked for, and n + 1 places.
+-- The sheet that extraction draws. Document 01, "The drawn sheet", and `extract_candidate` of 000. The grid has n
+-- cells a side, n being two more than the cells asked for, and n + 1 places.
 use Prim.Native.Nat.{ℕ, _+_, _-_, _*_, _/_, _%_}
 use mathlib.Core.Bool.{Bool, cond, not, _&&_, _||_}
 use mathlib.Core.List.{List, [], _∷_, map, foldl}
@@ -75,9 +75,11 @@ numberOf g n c e = length (pointsTo g n (indexOf n c)) + length (joinTo (groupPo
 -- the place a along an axis, b along the next one and d along the one after
 unfoldable pub placeOn : ℕ → ℕ → ℕ → ℕ → Site
 placeOn axis a b d =
-    cond (eqb axis 0) (record { x = a; y = b; z = d }) (cond (eqb axis 1) (record { x = d; y = a; z = b }) (record { x = b; y = d; z = a }))
+    cond (eqb axis 0) (record { x = a; y = b; z = d }) (cond (eqb axis 1) (record { x = d; y = a; z = b })
+    (record { x = b; y = d; z = a }))
 
--- an edge of the grid with four cells round it: its axis, the place along it, and the places along the next two axes, which are not 0
+-- an edge of the grid with four cells round it: its axis, the place along it, and the places along the next two
+-- axes, which are not 0
 pub record Inner : Type 0 where
   pub axis : ℕ
   pub a : ℕ
@@ -108,7 +110,8 @@ cornerOf g n i u w = numberOf g n (placeOn (i .axis) (i .a) (i .b - u) (i .d - w
 -- "from its four cells, offsets (1,1), (0,1), (0,0), (1,0), reversed if the edge begins outside"
 unfoldable pub innerQuad : Grid → ℕ → Inner → Quad
 innerQuad g n i =
-    cond (insideAt g (innerSite i)) (quad (cornerOf g n i 1 1) (cornerOf g n i 0 1) (cornerOf g n i 0 0) (cornerOf g n i 1 0))
+    cond (insideAt g (innerSite i)) (quad (cornerOf g n i 1 1) (cornerOf g n i 0 1) (cornerOf g n i 0 0)
+    (cornerOf g n i 1 0))
     (quad (cornerOf g n i 1 0) (cornerOf g n i 0 0) (cornerOf g n i 0 1) (cornerOf g n i 1 1))
 
 -- an inner edge crosses
@@ -148,7 +151,8 @@ goodCells cells = leb 4 cells && leb cells 128
 
 -- "for extraction (cells + 3)³ f64 and 12 × (cells + 2)³ u32"
 abbrev pub shortWork : ℕ → ℕ → ℕ → Bool
-shortWork cells w f = ltb f ((cells + 3) * (cells + 3) * (cells + 3)) || ltb w (12 * ((cells + 2) * (cells + 2) * (cells + 2)))
+shortWork cells w f =
+    ltb f ((cells + 3) * (cells + 3) * (cells + 3)) || ltb w (12 * ((cells + 2) * (cells + 2) * (cells + 2)))
 
 -- "a grid sample not finite"
 abbrev pub finiteSample : Grid → ℕ → ℕ → Bool
@@ -160,13 +164,16 @@ finiteSamples g m = every (finiteSample g m) (m * m * m)
 -- 13 (result), 5, 7
 abbrev pub drawnOr : Sheet → ℕ → ℕ → ℕ → Outcome Sheet
 drawnOr s p q l =
-    withRoom (countsOf s) p q l (cond (isBare s) (refuses bare) (cond (goodMasks (length (s .points)) (s .quads) (s .labels)) (gives s) (refuses clash)))
+    withRoom (countsOf s) p q l (cond (isBare s) (refuses bare)
+    (cond (goodMasks (length (s .points)) (s .quads) (s .labels)) (gives s) (refuses clash)))
 
--- `extract_candidate` with work of w and f elements into result slices of p, q and l elements: "1, 2, 3, 13 (work), 4, 13 (result), 5, 7"
+-- `extract_candidate` with work of w and f elements into result slices of p, q and l elements: "1, 2, 3, 13 (work),
+-- 4, 13 (result), 5, 7"
 unfoldable pub extractRule : Band → ℕ → ℕ → ℕ → ℕ → ℕ → ℕ → Outcome Sheet
 extractRule b cells w f p q l =
     cond (not (validOf b)) (refuses box)
     (cond (not (finiteOf (b .lower))) (refuses bottomless)
     (cond (not (goodCells cells)) (refuses cellsNumber)
     (cond (shortWork cells w f) (refuses short)
-    (cond (not (finiteSamples (gridOf b cells) (cells + 3))) (refuses samplesNumber) (drawnOr (drawnSheet (gridOf b cells) (cells + 2)) p q l)))))
+    (cond (not (finiteSamples (gridOf b cells) (cells + 3))) (refuses samplesNumber)
+    (drawnOr (drawnSheet (gridOf b cells) (cells + 2)) p q l)))))

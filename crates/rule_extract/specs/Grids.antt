@@ -29,7 +29,13 @@ scaleOf b = div binary64 (b .upper ⊖ b .lower) (lengthOf b)
 
 -- the steps along the three axes
 unfoldable pub stepsOf : Point → Point → ℕ → Point
-stepsOf low high cells = record { x = stepOf (low .x) (high .x) cells; y = stepOf (low .y) (high .y) cells; z = stepOf (low .z) (high .z) cells }
+stepsOf low high cells =
+    record {
+      x = stepOf (low .x) (high .x) cells;
+      y = stepOf (low .y) (high .y) cells;
+      z = stepOf (low .z) (high .z)
+          cells;
+    }
 
 -- where the grid starts, by its steps
 unfoldable pub startsOf : Point → Point → Point

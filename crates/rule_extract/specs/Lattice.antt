@@ -1,4 +1,5 @@
--- The grid of extraction as numbered places, and the signs that decide what a cell draws. Document 01, "The drawn sheet".
+-- The grid of extraction as numbered places, and the signs that decide what a cell draws. Document 01, "The drawn
+-- sheet".
 use Prim.Native.Nat.{ℕ, _+_, _*_, _/_, _%_}
 use mathlib.Core.Bool.{Bool, cond}
 use mathlib.Core.List.{List}

@@ -15,16 +15,19 @@ fartherOf best d l = cond (lt (best .distance) d) (record { distance = d; label 
 
 -- "the scaled upper distance, the scaled lower one"
 unfoldable pub levelsOf : Float → Float → Float → Float → Sampled
-levelsOf v lower upper scale = fartherOf (record { distance = div binary64 (v ⊖ upper) scale; label = 0 }) (div binary64 (lower ⊖ v) scale) 1
+levelsOf v lower upper scale =
+    fartherOf (record { distance = div binary64 (v ⊖ upper) scale; label = 0 }) (div binary64 (lower ⊖ v) scale) 1
 
 -- the two box distances of an axis, whose low face has the label l
 unfoldable pub axisOf : Sampled → Float → Float → Float → ℕ → Sampled
 axisOf best lo hi x l = fartherOf (fartherOf best (lo ⊖ x) l) (x ⊖ hi) (l + 1)
 
--- "`sample` takes the largest of the scaled upper distance, the scaled lower one and the six box distances, a later one only if greater."
+-- "`sample` takes the largest of the scaled upper distance, the scaled lower one and the six box distances, a later
+-- one only if greater."
 unfoldable pub sampleOf : Grid → Point → Sampled
 sampleOf g p =
-    axisOf (axisOf (axisOf (levelsOf (valueOf (g .field) p) (g .lower) (g .upper) (g .scale)) (g .low .x) (g .high .x) (p .x) 2) (g .low .y) (g .high .y) (p .y) 4)
+    axisOf (axisOf (axisOf (levelsOf (valueOf (g .field) p) (g .lower) (g .upper) (g .scale)) (g .low .x) (g .high .x)
+    (p .x) 2) (g .low .y) (g .high .y) (p .y) 4)
     (g .low .z) (g .high .z) (p .z) 6
 
 -- the sample at a point is negative

@@ -1,4 +1,5 @@
--- The finer sheet of `refine`: each quad becomes four round its centre. Document 01, "The finer sheet and the rows", and `refine` of 000.
+-- The finer sheet of `refine`: each quad becomes four round its centre. Document 01, "The finer sheet and the
+-- rows", and `refine` of 000.
 use Prim.Native.Nat.{ℕ, suc, _+_, _*_, min, max}
 use mathlib.Core.Bool.{cond}
 use mathlib.Core.List.{List, [], _∷_, _++_, map}
@@ -22,7 +23,8 @@ use Rattle.rule_sheet.specs.Results.{countsOf}
 abbrev pub split : (ℕ → ℕ → ℕ) → (ℕ → ℕ) → ℕ → List Quad → List Quad
 split mid cen i [] = []
 split mid cen i (quad a b c d ∷ S) =
-    quad a (mid a b) (cen i) (mid d a) ∷ quad b (mid b c) (cen i) (mid a b) ∷ quad c (mid c d) (cen i) (mid b c) ∷ quad d (mid d a) (cen i) (mid c d) ∷ split mid cen (suc i) S
+    quad a (mid a b) (cen i) (mid d a) ∷ quad b (mid b c) (cen i) (mid a b) ∷ quad c (mid c d) (cen i) (mid b c)
+    ∷ quad d (mid d a) (cen i) (mid c d) ∷ split mid cen (suc i) S
 
 -- the four inherit the label
 abbrev pub fourLabels : List ℕ → List ℕ
@@ -40,7 +42,8 @@ centreKey n i = n * n + i
 -- what asks for a new point, in order: the four edges of a quad, then its centre
 abbrev pub keys : ℕ → ℕ → List Quad → List ℕ
 keys n i [] = []
-keys n i (quad a b c d ∷ S) = edgeKey n a b ∷ edgeKey n b c ∷ edgeKey n c d ∷ edgeKey n d a ∷ centreKey n i ∷ keys n (suc i) S
+keys n i (quad a b c d ∷ S) =
+    edgeKey n a b ∷ edgeKey n b c ∷ edgeKey n c d ∷ edgeKey n d a ∷ centreKey n i ∷ keys n (suc i) S
 
 -- the keys of the new points, which stand behind the n old ones in the order in which they are first asked for
 unfoldable pub asked : ℕ → List Quad → List ℕ
@@ -73,11 +76,13 @@ request k p = record { key = k; position = p }
 abbrev pub positionOf : Request → Point
 positionOf r = r .position
 
--- the requests of the quads from quad i on, `at` placing the points: an edge's halfway point from the corner that asks, and the centre
+-- the requests of the quads from quad i on, `at` placing the points: an edge's halfway point from the corner that
+-- asks, and the centre
 abbrev pub requests : (ℕ → Point) → ℕ → ℕ → List Quad → List Request
 requests at n i [] = []
 requests at n i (quad a b c d ∷ S) =
-    request (edgeKey n a b) (halfwayP (at a) (at b)) ∷ request (edgeKey n b c) (halfwayP (at b) (at c)) ∷ request (edgeKey n c d) (halfwayP (at c) (at d)) ∷ request (edgeKey n d a) (halfwayP (at d) (at a))
+    request (edgeKey n a b) (halfwayP (at a) (at b)) ∷ request (edgeKey n b c) (halfwayP (at b) (at c))
+    ∷ request (edgeKey n c d) (halfwayP (at c) (at d)) ∷ request (edgeKey n d a) (halfwayP (at d) (at a))
     ∷ request (centreKey n i) (centreP (at a) (at b) (at c) (at d)) ∷ requests at n (suc i) S
 
 -- the first request of each key, behind the keys seen
@@ -110,6 +115,8 @@ refined s p q l =
     (cond (all (inRange (length (s .points))) (s .quads)) (madeOrShort (finerSheet s) p q l) (refuses corner))
     (refuses bare)
 
--- `refine` of the sheet in lent slices, with work of w and f elements, into result slices of p, q and l elements: 12, 13, 5, 6, 13
+-- `refine` of the sheet in lent slices, with work of w and f elements, into result slices of p, q and l elements:
+-- 12, 13, 5, 6, 13
 unfoldable pub refineRule : Counts → List Float → List ℕ → List ℕ → ℕ → ℕ → ℕ → ℕ → ℕ → Outcome Sheet
-refineRule c P Q labels w f p q l = afterTest (lentVerdict c (length P) (length Q) (length labels) w f) (refined (sheetOf c P Q labels) p q l)
+refineRule c P Q labels w f p q l =
+    afterTest (lentVerdict c (length P) (length Q) (length labels) w f) (refined (sheetOf c P Q labels) p q l)

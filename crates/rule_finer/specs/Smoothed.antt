@@ -1,5 +1,5 @@
--- The smoothed sheet of `subdivide`: the quads and labels of the finer sheet, its points smoothed. Document 01, "The finer sheet and the rows", and
--- `subdivide` of 000.
+-- The smoothed sheet of `subdivide`: the quads and labels of the finer sheet, its points smoothed. Document 01,
+-- "The finer sheet and the rows", and `subdivide` of 000.
 use Prim.Native.Nat.{ℕ, suc, _+_, _-_, _*_, _/_, _%_}
 use mathlib.Core.Bool.{Bool, cond, not, _&&_}
 use mathlib.Core.List.{List, [], _∷_, _++_, map}
@@ -78,27 +78,31 @@ pointOf s v = pointIn (s .points) v
 unfoldable pub centreAt : Sheet → ℕ → Point
 centreAt s i = centreOf (pointOf s) (getD (s .quads) i (quad 0 0 0 0))
 
--- where the old point v comes to. "Interior points follow Catmull and Clark"; "A point of more than two labels or crease edges, or of one crease
--- edge, stays; one with two takes 6:1:1 over 8. Neighbours are summed in ascending number, quad centres in quad order."
+-- where the old point v comes to. "Interior points follow Catmull and Clark"; "A point of more than two labels or
+-- crease edges, or of one crease edge, stays; one with two takes 6:1:1 over 8. Neighbours are summed in ascending
+-- number, quad centres in quad order."
 unfoldable pub oldPoint : Sheet → ℕ → Point
 oldPoint s v =
-    smooth pointwise (labelCount s v) (map (pointOf s) (creases s v)) (pointOf s v) (map (centreAt s) (pointQuads (s .quads) v)) (map (pointOf s) (neighbours s v))
+    smooth pointwise (labelCount s v) (map (pointOf s) (creases s v)) (pointOf s v)
+    (map (centreAt s) (pointQuads (s .quads) v)) (map (pointOf s) (neighbours s v))
 
--- where the new point of the edge of u and v comes to. "An edge inside one label gets the mean of its two ends and two quad centres; a crease
--- edge, between two labels, keeps its halfway point."
+-- where the new point of the edge of u and v comes to. "An edge inside one label gets the mean of its two ends and
+-- two quad centres; a crease edge, between two labels, keeps its halfway point."
 unfoldable pub edgePlace : Sheet → ℕ → ℕ → Point
 edgePlace s u v =
     let l = edgeQuads (s .quads) u v in
     cond (isCrease s u v) (halfway pointwise (pointOf s u) (pointOf s v))
     (edgePoint pointwise (pointOf s u) (pointOf s v) (centreAt s (getD l 0 0)) (centreAt s (getD l 1 0)))
 
--- where the new point of a key comes to: below n * n it is that of an edge, smaller * n + larger, and from there on that of a quad's centre
+-- where the new point of a key comes to: below n * n it is that of an edge, smaller * n + larger, and from there on
+-- that of a quad's centre
 unfoldable pub newPlace : Sheet → ℕ → Point
 newPlace s k =
     let n = length (s .points) in
     cond (ltb k (n * n)) (edgePlace s (k / n) (k % n)) (centreAt s (k - n * n))
 
--- the finer sheet with its points smoothed: the old ones, and behind them the new ones in the order in which they are first asked for
+-- the finer sheet with its points smoothed: the old ones, and behind them the new ones in the order in which they
+-- are first asked for
 unfoldable pub smoothSheet : Sheet → Sheet
 smoothSheet s =
     let n = length (s .points) in

@@ -1,4 +1,5 @@
--- The sheet of `subdivide`: the smoothed sheet with its points projected. Document 01, "The finer sheet and the rows", and `subdivide` of 000.
+-- The sheet of `subdivide`: the smoothed sheet with its points projected. Document 01, "The finer sheet and the
+-- rows", and `subdivide` of 000.
 use Prim.Native.Nat.{ℕ}
 use mathlib.Core.Bool.{Bool, cond}
 use mathlib.Core.List.{List}
@@ -45,14 +46,18 @@ projectedSheet b t = record {
 unfoldable pub projected : Band → Sheet → Outcome Sheet
 projected b t = cond (every (landsAt b t) (length (t .points))) (gives (projectedSheet b t)) (refuses astray)
 
--- 13 (result); "Then subdivide 8, 5, 9": the smoothed sheet is tested as the lent one was, as in 000; of these tests only 5 can fail
+-- 13 (result); "Then subdivide 8, 5, 9": the smoothed sheet is tested as the lent one was, as in 000; of these
+-- tests only 5 can fail
 unfoldable pub subdivided : Band → Sheet → ℕ → ℕ → ℕ → Outcome Sheet
 subdivided b s p q l =
     withRoom (countsOf (finerSheet s)) p q l
-    (cond (paired (length (s .points)) (s .quads)) (afterTest (sheetVerdict b (smoothSheet s)) (projected b (smoothSheet s))) (refuses edge))
+    (cond (paired (length (s .points)) (s .quads)) (afterTest (sheetVerdict b (smoothSheet s))
+    (projected b (smoothSheet s))) (refuses edge))
 
--- `subdivide` of the sheet in lent slices, with work of w and f elements, into result slices of p, q and l elements: 12, 13, 1, 5, 6, 7, 13, 8, 5, 9
+-- `subdivide` of the sheet in lent slices, with work of w and f elements, into result slices of p, q and l
+-- elements: 12, 13, 1, 5, 6, 7, 13, 8, 5, 9
 unfoldable pub subdivideRule : Band → Counts → List Float → List ℕ → List ℕ → ℕ → ℕ → ℕ → ℕ → ℕ → Outcome Sheet
 subdivideRule b c P Q labels w f p q l =
     let s = sheetOf c P Q labels in
-    afterTest (lentVerdict c (length P) (length Q) (length labels) w f) (afterTest (sheetVerdict b s) (subdivided b s p q l))
+    afterTest (lentVerdict c (length P) (length Q) (length labels) w f)
+    (afterTest (sheetVerdict b s) (subdivided b s p q l))

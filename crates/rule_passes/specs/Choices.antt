@@ -7,7 +7,8 @@ use Rattle.rule_sheet.specs.Quads.{Quad, quad}
 abbrev pub noneQuad : Quad
 noneQuad = quad 0 0 0 0
 
--- of two candidates the first, unless the second alone may be taken or gains more: "the higher gain wins, the first on a tie"
+-- of two candidates the first, unless the second alone may be taken or gains more: "the higher gain wins, the first
+-- on a tie"
 abbrev pub choose : {A : Type 0} → Bool → Bool → Bool → A → A → Option A
 choose true true true x y = some y
 choose true true false x y = some x

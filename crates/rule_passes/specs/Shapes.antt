@@ -1,4 +1,5 @@
--- The shapes of quads by the places of their corners, and the figures that swaps and merges hold them against. `at` places the points.
+-- The shapes of quads by the places of their corners, and the figures that swaps and merges hold them against. `at`
+-- places the points.
 use Prim.Native.Nat.{ℕ}
 use mathlib.Core.Bool.{Bool, not}
 use lib.Ieee.{Float, binary64, lt, ofBits}

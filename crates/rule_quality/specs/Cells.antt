@@ -1,4 +1,5 @@
--- What `quality` measures of one quad with the normal n: its shape, its least Jacobian over 5 by 5 places, and its area.
+-- What `quality` measures of one quad with the normal n: its shape, its least Jacobian over 5 by 5 places, and its
+-- area.
 use mathlib.Core.Bool.{cond}
 use mathlib.Core.List.{List, [], _∷_, foldl}
 use lib.Ieee.{Float, binary64, div, lt, ofBits}

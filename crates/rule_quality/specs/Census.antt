@@ -1,4 +1,5 @@
--- The counts of `quality` that need no coordinates, as 000 takes them, over the quads S of a sheet with n points; and tight.
+-- The counts of `quality` that need no coordinates, as 000 takes them, over the quads S of a sheet with n points;
+-- and tight.
 use Prim.Native.Nat.{ℕ, zero, suc, _+_}
 use mathlib.Core.Bool.{Bool, cond, not, _&&_, _||_}
 use mathlib.Core.List.{List}
@@ -29,7 +30,8 @@ isTight S e = eqb (up S e) 1 && eqb (down S e) 1
 unfoldable pub tight : ℕ → List Quad → Bool
 tight n S = all (isTight S) (edgesOf n S)
 
--- ---- the link of a point: the graph whose nodes are the neighbours of v; each corner at v joins the point before it to the point after it
+-- ---- the link of a point: the graph whose nodes are the neighbours of v; each corner at v joins the point before
+-- it to the point after it
 
 -- how often a corner at v joins x to a point; a neighbour is a point with one join or more
 abbrev pub degree : List Quad → ℕ → ℕ → ℕ
@@ -73,7 +75,8 @@ smallerThan x (quad a b c d) = num (ltb a x) + num (ltb b x) + num (ltb c x) + n
 -- w, x, y or z, for the first, second, third or last corner of a quad, whichever has r smaller corners
 unfoldable pub byRank : {A : Type 0} → ℕ → Quad → A → A → A → A → A
 byRank r (quad a b c d) w x y z =
-    cond (eqb (smallerThan a (quad a b c d)) r) w (cond (eqb (smallerThan b (quad a b c d)) r) x (cond (eqb (smallerThan c (quad a b c d)) r) y z))
+    cond (eqb (smallerThan a (quad a b c d)) r) w (cond (eqb (smallerThan b (quad a b c d)) r) x
+    (cond (eqb (smallerThan c (quad a b c d)) r) y z))
 
 -- the corner with r smaller corners
 abbrev pub ranked : ℕ → Quad → ℕ
@@ -81,7 +84,9 @@ ranked r (quad a b c d) = byRank r (quad a b c d) a b c d
 
 -- two quads of four different corners have the same corners: in ascending order, they agree at each place
 abbrev pub sameCorners : Quad → Quad → Bool
-sameCorners p q = eqb (ranked 0 p) (ranked 0 q) && eqb (ranked 1 p) (ranked 1 q) && eqb (ranked 2 p) (ranked 2 q) && eqb (ranked 3 p) (ranked 3 q)
+sameCorners p q =
+    eqb (ranked 0 p) (ranked 0 q) && eqb (ranked 1 p) (ranked 1 q) && eqb (ranked 2 p) (ranked 2 q)
+    && eqb (ranked 3 p) (ranked 3 q)
 
 -- the quads i and j of a list have the same corners
 abbrev pub alike : List Quad → ℕ → ℕ → Bool

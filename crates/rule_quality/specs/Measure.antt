@@ -26,7 +26,8 @@ nowhere = record { x = nan; y = nan; z = nan }
 
 -- the points at the four corners of a quad
 unfoldable pub cornersOf : List Point → Quad → Corners
-cornersOf P (quad a b c d) = record { p0 = getD P a nowhere; p1 = getD P b nowhere; p2 = getD P c nowhere; p3 = getD P d nowhere }
+cornersOf P (quad a b c d) =
+    record { p0 = getD P a nowhere; p1 = getD P b nowhere; p2 = getD P c nowhere; p3 = getD P d nowhere }
 
 -- the centre
 abbrev pub centreOf : Corners → Point
@@ -91,7 +92,8 @@ invalidOf l = sum (λ j. num (le j flat)) l
 
 -- shape × min(area ÷ mean, mean ÷ area) where mean and area are above 0.0, else shape × 0.0
 unfoldable pub scoreOf : Float → Float → Float → Float
-scoreOf mean shape area = shape ⊗ cond (lt zeroF mean && lt zeroF area) (minOf (div binary64 area mean) (div binary64 mean area)) zeroF
+scoreOf mean shape area =
+    shape ⊗ cond (lt zeroF mean && lt zeroF area) (minOf (div binary64 area mean) (div binary64 mean area)) zeroF
 
 -- the scores of the quads, by the mean of the areas
 unfoldable pub scoresOf : List Float → List Float → List Float
@@ -125,9 +127,12 @@ summaryOf shapes jacobians sorted = record {
   «invalid_cells» = invalidOf jacobians;
 }
 
--- the five values of a sheet's cells: "A NaN score in `quality` sorts last", and the mean of the scores is taken after the sort
+-- the five values of a sheet's cells: "A NaN score in `quality` sorts last", and the mean of the scores is taken
+-- after the sort
 unfoldable pub measuresOf : List Cell → Measures
-measuresOf cells = summaryOf (map cellShape cells) (map cellJacobian cells) (sortFloats (scoresOf (map cellShape cells) (map cellArea cells)))
+measuresOf cells =
+    summaryOf (map cellShape cells) (map cellJacobian cells)
+    (sortFloats (scoresOf (map cellShape cells) (map cellArea cells)))
 
 -- 11, normal: "quality: normal not finite or shorter than 0.5"
 abbrev pub normal : ℕ

@@ -22,7 +22,8 @@ use Rattle.rule_quality.specs.declared.report.Quality.{Quality}
 use Rattle.rule_quality.specs.declared.report.Assessed.{Assessed}
 use Rattle.rule_quality.specs.declared.report.Assessed.the-variants.{Done, Refused}
 
--- "`is_valid` as in 000": "boundary_edges == 0 && nonmanifold_edges == 0 && orientation_errors == 0 && bad_vertex_links == 0 && duplicate_faces == 0 && invalid_cells == 0 && minimum_sampled_jacobian.is_finite()"
+-- "`is_valid` as in 000": "boundary_edges == 0 && nonmanifold_edges == 0 && orientation_errors == 0 &&
+-- bad_vertex_links == 0 && duplicate_faces == 0 && invalid_cells == 0 && minimum_sampled_jacobian.is_finite()"
 unfoldable pub isValid : Quality → Bool
 isValid q =
     eqb (q .«boundary_edges») 0
@@ -50,7 +51,8 @@ qualityOf n S m = record {
   «invalid_cells» = m .«invalid_cells»;
 }
 
--- the record with "tight is a yes if every edge has exactly two quads that run opposite ways" beside it, or the refusal of a normal
+-- the record with "tight is a yes if every edge has exactly two quads that run opposite ways" beside it, or the
+-- refusal of a normal
 abbrev pub withCounts : ℕ → List Quad → Measured → Assessed
 withCounts n S (measured.Done m) = Done (qualityOf n S m) (tight n S)
 withCounts n S (measured.Refused k) = Refused k
@@ -66,4 +68,5 @@ assessed b s = afterTests (sheetVerdict b s) (withCounts (length (s .points)) (s
 
 -- `quality` of the sheet in lent slices, with work of w and f elements: 12, 13, 1, 5, 6, 7, 11
 unfoldable pub qualityRule : Band → Counts → List Float → List ℕ → List ℕ → ℕ → ℕ → Assessed
-qualityRule b c P Q labels w f = afterTests (lentVerdict c (length P) (length Q) (length labels) w f) (assessed b (sheetOf c P Q labels))
+qualityRule b c P Q labels w f =
+    afterTests (lentVerdict c (length P) (length Q) (length labels) w f) (assessed b (sheetOf c P Q labels))

@@ -1,4 +1,5 @@
--- The rules of `regularize` and `improve_layout`, from lent slices to what is left in them. Document 01, "The swapped sheet".
+-- The rules of `regularize` and `improve_layout`, from lent slices to what is left in them. Document 01, "The
+-- swapped sheet".
 use Prim.Native.Nat.{ℕ}
 use mathlib.Core.Path.{_≡_}
 use mathlib.Core.List.{List}
@@ -21,8 +22,9 @@ use Rattle.rule_regularize.specs.declared.Cleaned.{Cleaned}
 abbrev pub swapSheet : ℕ → Band → ℕ → Sheet → Answer (List Quad)
 swapSheet m b k s = swapRun (length (s .points)) (s .labels) m (swapFits b (s .points) (s .labels)) k (s .quads)
 
--- the rule over slices: points P, quads Q, labels, and work slices of w and f elements; it gives the quads that are left and the swaps made
--- "Order for a lent sheet: 12, 13 (counts or work), 1, 5, 6, 7"; "Zero passes still validate."
+-- the rule over slices: points P, quads Q, labels, and work slices of w and f elements; it gives the quads that are
+-- left and the swaps made "Order for a lent sheet: 12, 13 (counts or work), 1, 5, 6, 7"; "Zero passes still
+-- validate."
 unfoldable pub cleanRule : ℕ → Band → ℕ → Counts → List Float → List ℕ → List ℕ → ℕ → ℕ → Outcome (Answer (List Quad))
 cleanRule m b k c P Q labels w f =
     afterTest (lentVerdict c (length P) (length Q) (length labels) w f)
@@ -41,7 +43,8 @@ abbrev pub answerOf : Outcome (Answer (List Quad)) → Cleaned
 answerOf (refuses n) = answers.the-variants.Refused n
 answerOf (gives a) = answers.the-variants.Done (capped (a .count))
 
--- the quads that an outcome leaves in a slice that held Q: "A sheet altered in its own slices stays unchanged" on a refusal; "so are unused tails after success"
+-- the quads that an outcome leaves in a slice that held Q: "A sheet altered in its own slices stays unchanged" on a
+-- refusal; "so are unused tails after success"
 abbrev pub quadsLeft : Outcome (Answer (List Quad)) → List ℕ → List ℕ
 quadsLeft (refuses n) Q = Q
 quadsLeft (gives a) Q = padded 0 (length Q) (flatQuads (a .left))

@@ -1,4 +1,5 @@
--- The swapped sheet: the passes of `regularize` and `improve_layout` as functions of the quads. Document 01, "The swapped sheet". What the rule reads of the points is the test `fits`.
+-- The swapped sheet: the passes of `regularize` and `improve_layout` as functions of the quads. Document 01, "The
+-- swapped sheet". What the rule reads of the points is the test `fits`.
 use Prim.Native.Nat.{ℕ, zero, suc, _+_, _<_}
 use mathlib.Core.Path.{_≡_}
 use mathlib.Core.Option.{Option, none}
@@ -32,8 +33,10 @@ samePair p q = eqb (p .low) (q .low) && eqb (p .high) (q .high)
 abbrev pub places : Pair → ℕ → List Quad → List Place
 places p i [] = []
 places p i (quad a b c d ∷ S) =
-    consIf (samePair p (pair a b)) (record { quadNo = i; sideNo = 0 }) (consIf (samePair p (pair b c)) (record { quadNo = i; sideNo = 1 })
-    (consIf (samePair p (pair c d)) (record { quadNo = i; sideNo = 2 }) (consIf (samePair p (pair d a)) (record { quadNo = i; sideNo = 3 }) (places p (suc i) S))))
+    consIf (samePair p (pair a b)) (record { quadNo = i; sideNo = 0 })
+    (consIf (samePair p (pair b c)) (record { quadNo = i; sideNo = 1 })
+    (consIf (samePair p (pair c d)) (record { quadNo = i; sideNo = 2 })
+    (consIf (samePair p (pair d a)) (record { quadNo = i; sideNo = 3 }) (places p (suc i) S))))
 
 -- ---- one swap
 
@@ -60,7 +63,9 @@ swapTwo S i j h0 h1 h2 h3 h4 h5 = set (set S i (quad h2 h3 h4 h5)) j (quad h2 h5
 
 -- "The six corners must differ"
 abbrev pub sixDiffer : ℕ → ℕ → ℕ → ℕ → ℕ → ℕ → Bool
-sixDiffer a b c d e f = eqb (is a b + (is a c + (is a d + (is a e + (is a f + (is b c + (is b d + (is b e + (is b f + (is c d + (is c e + (is c f + (is d e + (is d f + (is e f))))))))))))))) 0
+sixDiffer a b c d e f =
+    eqb (is a b + (is a c + (is a d + (is a e + (is a f +
+    (is b c + (is b d + (is b e + (is b f + (is c d + (is c e + (is c f + (is d e + (is d f + (is e f))))))))))))))) 0
 
 -- a quad has one of six corners
 abbrev pub meets : Quad → ℕ → ℕ → ℕ → ℕ → ℕ → ℕ → Bool
@@ -78,23 +83,29 @@ pub record State : Type 0 where
   pub barred : List Bool
   pub count : ℕ
 
--- The part of the rule that reads the points: quads i and j of the quads now, their six corners, the diagonal k, and whether the gain is more than 0. "The new shape is no less than the smaller of the old and 0.25", and where the gain is 0 "the least shape rises by 0.02 or more".
+-- The part of the rule that reads the points: quads i and j of the quads now, their six corners, the diagonal k,
+-- and whether the gain is more than 0. "The new shape is no less than the smaller of the old and 0.25", and where
+-- the gain is 0 "the least shape rises by 0.02 or more".
 abbrev pub Fits : Type 0
 Fits = List Quad → ℕ → ℕ → Hex → ℕ → Bool → Bool
 
 -- A pass over the quads S0. Half the gain is at least m: 1 for `regularize`, 0 for `improve_layout`.
 module _ (S0 : List Quad) (labels : List ℕ) (m : ℕ) (fits : Fits) where
-  -- May the diagonal from c to d take the place of the edge from a to b? "The new diagonal may not be an edge of the map"; "Gain is 2 × (va + vb − vc − vd) − 4": half of it is va + vb − (vc + vd + 2).
+  -- May the diagonal from c to d take the place of the edge from a to b? "The new diagonal may not be an edge of
+  -- the map"; "Gain is 2 × (va + vb − vc − vd) − 4": half of it is va + vb − (vc + vd + 2).
   abbrev pub may : List Quad → ℕ → ℕ → Hex → ℕ → ℕ → ℕ → ℕ → ℕ → Bool
   may S i j h k a b c d =
       not (isEdge S0 c d) && leb (valence S c + valence S d + 2 + m) (valence S a + valence S b)
       && fits S i j h k (ltb (valence S c + valence S d + 2) (valence S a + valence S b))
 
-  -- the swap of quads i and j, read from their shared edge on: both unbarred, "running opposite ways", "The six corners must differ and the labels agree". "A swap bars every quad at its six corners for that pass."
+  -- the swap of quads i and j, read from their shared edge on: both unbarred, "running opposite ways", "The six
+  -- corners must differ and the labels agree". "A swap bars every quad at its six corners for that pass."
   abbrev pub swapQuads : State → ℕ → ℕ → Quad → Quad → Option State
   swapQuads st i j (quad q0 q1 q2 q3) (quad r0 r1 r2 r3) =
-      cond (not (getD (st .barred) i true) && not (getD (st .barred) j true) && eqb (getD labels i 8) (getD labels j 8) && eqb r1 q0 && eqb r0 q1 && sixDiffer q0 r2 r3 q1 q2 q3)
-      (choose (may S i j h 1 q0 q1 r2 q2) (may S i j h 2 q0 q1 r3 q3) (ltb (valence S r3 + valence S q3) (valence S r2 + valence S q2))
+      cond (not (getD (st .barred) i true) && not (getD (st .barred) j true) && eqb (getD labels i 8) (getD labels j 8)
+      && eqb r1 q0 && eqb r0 q1 && sixDiffer q0 r2 r3 q1 q2 q3)
+      (choose (may S i j h 1 q0 q1 r2 q2) (may S i j h 2 q0 q1 r3 q3)
+      (ltb (valence S r3 + valence S q3) (valence S r2 + valence S q2))
       (record { quads = swapOne S i j q0 r2 r3 q1 q2 q3; barred = bars; count = suc (st .count) })
       (record { quads = swapTwo S i j q0 r2 r3 q1 q2 q3; barred = bars; count = suc (st .count) }))
       none
@@ -113,10 +124,12 @@ module _ (S0 : List Quad) (labels : List ℕ) (m : ℕ) (fits : Fits) where
   tryPlaces st [] = none
   tryPlaces st (x ∷ []) = none
   tryPlaces st (x ∷ y ∷ []) =
-      swapQuads st (x .quadNo) (y .quadNo) (turn (x .sideNo) (getD (st .quads) (x .quadNo) noneQuad)) (turn (y .sideNo) (getD (st .quads) (y .quadNo) noneQuad))
+      swapQuads st (x .quadNo) (y .quadNo) (turn (x .sideNo) (getD (st .quads) (x .quadNo) noneQuad))
+      (turn (y .sideNo) (getD (st .quads) (y .quadNo) noneQuad))
   tryPlaces st (x ∷ y ∷ z ∷ l) = none
 
-  -- the swap at an edge, if the rule takes one: "The edge map is that of the pass's start; valences are kept up to date."
+  -- the swap at an edge, if the rule takes one: "The edge map is that of the pass's start; valences are kept up to
+  -- date."
   abbrev pub tryEdge : State → Pair → Option State
   tryEdge st p = tryPlaces st (places p 0 S0)
 
@@ -137,8 +150,11 @@ swapPass n labels m fits S = sweep S labels m fits (fresh S) (edgesOf n S)
 
 -- at most k passes: the quads that are left, and "the swaps made in all its passes"
 abbrev pub swapRun : ℕ → List ℕ → ℕ → Fits → ℕ → List Quad → Answer (List Quad)
-swapRun n labels m fits k S = run (λ T. (swapPass n labels m fits T) .count) (λ T. (swapPass n labels m fits T) .quads) k S 0
+swapRun n labels m fits k S =
+    run (λ T. (swapPass n labels m fits T) .count) (λ T. (swapPass n labels m fits T) .quads) k S 0
 
--- "No swap is left if, on the sheet left with nothing barred, no edge meets regularize's rule with what that call brought"
+-- "No swap is left if, on the sheet left with nothing barred, no edge meets regularize's rule with what that call
+-- brought"
 unfoldable pub NoSwap : ℕ → List ℕ → ℕ → Fits → List Quad → Type 0
-NoSwap n labels m fits S = (a b : ℕ) → a < b → b < n → 0 < side S a b + side S b a → tryEdge S labels m fits (fresh S) (pair a b) ≡ none
+NoSwap n labels m fits S =
+    (a b : ℕ) → a < b → b < n → 0 < side S a b + side S b a → tryEdge S labels m fits (fresh S) (pair a b) ≡ none

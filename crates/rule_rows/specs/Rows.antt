@@ -1,4 +1,5 @@
--- The sheet of `boundary_rows`: a row of quads along the edges between two labels. Document 01, "The finer sheet and the rows", and `boundary_rows` of 000.
+-- The sheet of `boundary_rows`: a row of quads along the edges between two labels. Document 01, "The finer sheet
+-- and the rows", and `boundary_rows` of 000.
 use Prim.Native.Nat.{ℕ, zero, suc, _+_, _*_, _/_, _%_, _^_, min, max}
 use mathlib.Core.Bool.{Bool, cond, _&&_}
 use mathlib.Core.List.{List, [], _∷_, _++_, map}
@@ -29,7 +30,8 @@ use Rattle.rule_finer.specs.Smoothed.{those, pointQuads, paired, labelCount, po
 abbrev pub row : ℕ
 row = 10
 
--- ---- the copies: (v, l), a point and a label, has the key 8 v + l, so that "in ascending order" is the order of the keys
+-- ---- the copies: (v, l), a point and a label, has the key 8 v + l, so that "in ascending order" is the order of
+-- the keys
 
 abbrev pub keyOf : ℕ → ℕ → ℕ
 keyOf v l = 8 * v + l
@@ -149,7 +151,8 @@ rowSides s = joinOf (λ e. twoLabels (edgeSides s e)) (edgesOf (length (s .point
 
 -- the quad between a side and its copy
 unfoldable pub stripAt : Sheet → Side → Quad
-stripAt s x = quad (x .start) (x .end) (numberOf s (keyOf (x .end) (x .label))) (numberOf s (keyOf (x .start) (x .label)))
+stripAt s x =
+    quad (x .start) (x .end) (numberOf s (keyOf (x .end) (x .label))) (numberOf s (keyOf (x .start) (x .label)))
 
 -- ---- the sheet with rows and the rule
 
@@ -161,7 +164,8 @@ rowsSheet b s = record {
   labels = s .labels ++ map labelOf (rowSides s);
 }
 
--- "boundary_rows 10, 8, 7": the sheet with rows is tested as the lent one was, as in 000; of these tests only 7 can fail
+-- "boundary_rows 10, 8, 7": the sheet with rows is tested as the lent one was, as in 000; of these tests only 7 can
+-- fail
 unfoldable pub rowsMade : Band → Sheet → Outcome Sheet
 rowsMade b s =
     let t = rowsSheet b s in
@@ -173,7 +177,8 @@ rowsMade b s =
 unfoldable pub rowed : Band → Sheet → ℕ → ℕ → ℕ → Outcome Sheet
 rowed b s p q l = withRoom (countsOf (rowsSheet b s)) p q l (rowsMade b s)
 
--- `boundary_rows` of the sheet in lent slices, with work of w and f elements, into result slices of p, q and l elements: 12, 13, 1, 5, 6, 7, 13, 10, 8, 7
+-- `boundary_rows` of the sheet in lent slices, with work of w and f elements, into result slices of p, q and l
+-- elements: 12, 13, 1, 5, 6, 7, 13, 10, 8, 7
 unfoldable pub rowsRule : Band → Counts → List Float → List ℕ → List ℕ → ℕ → ℕ → ℕ → ℕ → ℕ → Outcome Sheet
 rowsRule b c P Q labels w f p q l =
     let s = sheetOf c P Q labels in

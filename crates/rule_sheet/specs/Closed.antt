@@ -7,7 +7,8 @@ use lib.Dec.{eqb}
 use lib.ListN.{length}
 use Rattle.rule_sheet.specs.Quads.{Quad, num, is, sum, total, at, valence, side}
 
--- Every edge has exactly two quads that run opposite ways: "an edge is a pair of points next to each other in a quad, and two quads run opposite ways there if each goes along it from a different end".
+-- Every edge has exactly two quads that run opposite ways: "an edge is a pair of points next to each other in a
+-- quad, and two quads run opposite ways there if each goes along it from a different end".
 unfoldable pub Closed : List Quad → Type 0
 Closed S = (u v : ℕ) → 0 < side S u v + side S v u → (side S u v ≡ 1) × (side S v u ≡ 1)
 
@@ -25,7 +26,10 @@ abbrev pub cyc : (ℕ → ℕ → ℕ) → List ℕ → ℕ
 cyc g [] = 0
 cyc g (u ∷ us) = arc g u us u
 
--- Pairs (before, after), given by the sums R of all weights over them, are one ring: "its quads are one ring if stepping from quad to quad over the edges at it comes round once through them all, and two quads that share both their edges there are a ring". The edges at the point lead to its neighbours: `round` names them in the order in which they are met, each once, and each quad is one step from a neighbour to the next.
+-- Pairs (before, after), given by the sums R of all weights over them, are one ring: "its quads are one ring if
+-- stepping from quad to quad over the edges at it comes round once through them all, and two quads that share both
+-- their edges there are a ring". The edges at the point lead to its neighbours: `round` names them in the order in
+-- which they are met, each once, and each quad is one step from a neighbour to the next.
 pub record Ring (R : (ℕ → ℕ → ℕ) → ℕ) : Type 0 where
   pub round : List ℕ
   pub two : 2 ≤ length round

@@ -18,7 +18,8 @@ abbrev pub afterTest : {A : Type 0} → Verdict → Outcome A → Outcome A
 afterTest Accepted o = o
 afterTest (Refused n) o = refuses n
 
--- "Result 13 comes next, for more points or quads than the result slices or the limit hold": a result of these counts, slices of p, q and l elements
+-- "Result 13 comes next, for more points or quads than the result slices or the limit hold": a result of these
+-- counts, slices of p, q and l elements
 abbrev pub withRoom : {A : Type 0} → Counts → ℕ → ℕ → ℕ → Outcome A → Outcome A
 withRoom c p q l o = cond (isLarge c || isShort c p q l) (refuses short) o
 

@@ -35,7 +35,8 @@ shown (gives s) = s
 unfoldable pub padded : {A : Type 0} → A → ℕ → List A → List A
 padded zero n l = l ++ replicate (n - length l) zero
 
--- the answer of an operation, and its result slices of p, q and l elements at its end: "result slices become zero" on a refusal, "so are unused tails after success"
+-- the answer of an operation, and its result slices of p, q and l elements at its end: "result slices become zero"
+-- on a refusal, "so are unused tails after success"
 pub record Leaves (o : Outcome Sheet) (p q l : ℕ) (r : Made) (P : List Float) (Q labels : List ℕ) : Type 0 where
   pub answer : r ≡ answerOf o
   pub points : P ≡ padded zeroF p (flatPoints (shown o .points))

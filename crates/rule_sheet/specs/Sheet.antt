@@ -35,7 +35,8 @@ flatPoints (p ∷ ps) = p .x ∷ p .y ∷ p .z ∷ flatPoints ps
 
 -- the sheet that lent slices hold, by its counts
 abbrev pub sheetOf : Counts → List Float → List ℕ → List ℕ → Sheet
-sheetOf c P Q labels = record { points = pointsOf (c .points) P; quads = quadsOf (c .quads) Q; labels = take (c .labels) labels }
+sheetOf c P Q labels =
+    record { points = pointsOf (c .points) P; quads = quadsOf (c .quads) Q; labels = take (c .labels) labels }
 
 -- "A sheet has at most 1,048,576 points, as many quads and as many labels."
 abbrev pub limit : ℕ
@@ -56,18 +57,22 @@ isShortWork c w f = ltb w (64 * (c .points + c .quads)) || ltb f (16 * (c .point
 -- the tests of lent slices by their lengths: 12, 13
 unfoldable pub lentVerdict : Counts → ℕ → ℕ → ℕ → ℕ → ℕ → Verdict
 lentVerdict c p q l w f =
-    cond (isLarge c) (Refused large) (cond (isShort c p q l) (Refused short) (cond (isShortWork c w f) (Refused short) Accepted))
+    cond (isLarge c) (Refused large) (cond (isShort c p q l) (Refused short)
+    (cond (isShortWork c w f) (Refused short) Accepted))
 
 -- 5, bare: "no point, no quad, label count not quad count, or a point not finite"
 unfoldable pub isBare : Sheet → Bool
 isBare s =
-    eqb (length (s .points)) 0 || eqb (length (s .quads)) 0 || not (eqb (length (s .labels)) (length (s .quads))) || not (all finiteP (s .points))
+    eqb (length (s .points)) 0 || eqb (length (s .quads)) 0 || not (eqb (length (s .labels)) (length (s .quads)))
+    || not (all finiteP (s .points))
 
 -- 6, 7
 unfoldable pub quadsVerdict : ℕ → List Quad → List ℕ → Verdict
-quadsVerdict n S labels = cond (goodCorners n S labels) (cond (goodMasks n S labels) Accepted (Refused clash)) (Refused corner)
+quadsVerdict n S labels =
+    cond (goodCorners n S labels) (cond (goodMasks n S labels) Accepted (Refused clash)) (Refused corner)
 
 -- the tests of a sheet and its band: 1, 5, 6, 7
 unfoldable pub sheetVerdict : Band → Sheet → Verdict
 sheetVerdict b s =
-    cond (validOf b) (cond (isBare s) (Refused bare) (quadsVerdict (length (s .points)) (s .quads) (s .labels))) (Refused box)
+    cond (validOf b) (cond (isBare s) (Refused bare) (quadsVerdict (length (s .points)) (s .quads) (s .labels)))
+    (Refused box)

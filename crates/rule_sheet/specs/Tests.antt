@@ -12,7 +12,8 @@ inRange n (quad a b c d) = ltb a n && ltb b n && ltb c n && ltb d n
 
 -- no corner twice
 unfoldable pub distinct : Quad → Bool
-distinct (quad a b c d) = not (eqb a b) && not (eqb a c) && not (eqb a d) && not (eqb b c) && not (eqb b d) && not (eqb c d)
+distinct (quad a b c d) =
+    not (eqb a b) && not (eqb a c) && not (eqb a d) && not (eqb b c) && not (eqb b d) && not (eqb c d)
 
 abbrev pub proper : ℕ → Quad → Bool
 proper n q = inRange n q && distinct q
@@ -27,7 +28,9 @@ goodCorners n S labels = all lowLabel labels && all (proper n) S
 
 -- a mask that is not 0 and has no opposite pair: bits 0 and 1, 2 and 3, 4 and 5, 6 and 7
 unfoldable pub goodMask : ℕ → Bool
-goodMask m = not (eqb m 0) && not (eqb (m % 4) 3) && not (eqb (m / 4 % 4) 3) && not (eqb (m / 16 % 4) 3) && not (eqb (m / 64 % 4) 3)
+goodMask m =
+    not (eqb m 0) && not (eqb (m % 4) 3) && not (eqb (m / 4 % 4) 3) && not (eqb (m / 16 % 4) 3)
+    && not (eqb (m / 64 % 4) 3)
 
 -- the mask of point v is good
 abbrev pub goodPoint : List Quad → List ℕ → ℕ → Bool

@@ -1,4 +1,5 @@
-// The words of all rules: sheets, their counts and tests, outcomes; and the laws of these words. See specs/ and proofs/.
+// The words of all rules: sheets, their counts and tests, outcomes; and the laws of these words. See specs/ and
+// proofs/.
 
 // How many points, quads and labels a sheet has.
 pub struct Counts {

@@ -1,4 +1,5 @@
--- Demand 3 as one claim about a list of calls of `regularize`, `improve_layout`, `coarsen` and `subdivide`: a call is what it was lent, what it answered and what it left, by its contract.
+-- Demand 3 as one claim about a list of calls of `regularize`, `improve_layout`, `coarsen` and `subdivide`: a call
+-- is what it was lent, what it answered and what it left, by its contract.
 -- Document 01, "The finer sheet and the rows".
 use Prim.Native.Nat.{ℕ, _+_, _*_, _/_, _%_, _^_, _≤_, _<_}
 use mathlib.Core.Bool.{Bool, true, false, cond, not}
@@ -41,20 +42,27 @@ held x = sheetOf (x .counts) (x .points) (x .quads) (x .labels)
 abbrev pub holds : Lent → Bool
 holds x = not (isShort (x .counts) (length (x .points)) (length (x .quads)) (length (x .labels)))
 
--- A call that was made: its band b ("each call may bring its own field and band") and passes, the sheet x that it was lent, work slices of w and f elements,
--- its answer r, and at its end the slices that it may write; those of `subdivide` are result slices of p, q and l elements.
+-- A call that was made: its band b ("each call may bring its own field and band") and passes, the sheet x that it
+-- was lent, work slices of w and f elements, its answer r, and at its end the slices that it may write; those of
+-- `subdivide` are result slices of p, q and l elements.
 pub data Call : Type 0 where
   regularizeCall : (b : Band) (passes : ℕ) (x : Lent) (w f : ℕ) (r : Cleaned) (quads : List ℕ) → Call
   improveCall : (b : Band) (passes : ℕ) (x : Lent) (w f : ℕ) (r : Cleaned) (quads : List ℕ) → Call
-  coarsenCall : (b : Band) (passes : ℕ) (x : Lent) (w f : ℕ) (r : Coarsened) (points : List Float) (quads labels : List ℕ) → Call
+  coarsenCall : (b : Band) (passes : ℕ) (x : Lent) (w f : ℕ) (r : Coarsened) (points : List Float)
+      (quads labels : List ℕ) → Call
   subdivideCall : (b : Band) (x : Lent) (w f p q l : ℕ) (r : Made) (points : List Float) (quads labels : List ℕ) → Call
 
 -- all that is known of a call: the contract of its operation, as the function states it
 abbrev pub Contract : Call → Type 0
-Contract (regularizeCall b k x w f r Q) = regularize.Leaves (regularize.regularizeRule b k (x .counts) (x .points) (x .quads) (x .labels) w f) (x .quads) r Q
-Contract (improveCall b k x w f r Q) = regularize.Leaves (regularize.improveRule b k (x .counts) (x .points) (x .quads) (x .labels) w f) (x .quads) r Q
-Contract (coarsenCall b k x w f r P Q L) = coarsen.Leaves (coarsen.coarsenRule b k (x .counts) (x .points) (x .quads) (x .labels) w f) (x .points) (x .quads) (x .labels) r P Q L
-Contract (subdivideCall b x w f p q l r P Q L) = results.Leaves (subdivideRule b (x .counts) (x .points) (x .quads) (x .labels) w f p q l) p q l r P Q L
+Contract (regularizeCall b k x w f r Q) =
+    regularize.Leaves (regularize.regularizeRule b k (x .counts) (x .points) (x .quads) (x .labels) w f) (x .quads) r Q
+Contract (improveCall b k x w f r Q) =
+    regularize.Leaves (regularize.improveRule b k (x .counts) (x .points) (x .quads) (x .labels) w f) (x .quads) r Q
+Contract (coarsenCall b k x w f r P Q L) =
+    coarsen.Leaves (coarsen.coarsenRule b k (x .counts) (x .points) (x .quads) (x .labels) w f) (x .points) (x .quads)
+    (x .labels) r P Q L
+Contract (subdivideCall b x w f p q l r P Q L) =
+    results.Leaves (subdivideRule b (x .counts) (x .points) (x .quads) (x .labels) w f p q l) p q l r P Q L
 
 -- the sheet that a call was lent
 abbrev pub lent : Call → Lent
@@ -97,15 +105,18 @@ swapsIn (subdivideCall b x w f p q l r P Q L) = 0
 
 -- ---- a list of calls
 
--- A call is lent the sheet s in slices of any length that hold it, with anything behind it, or slices too short for their counts, of which nothing else is asked.
+-- A call is lent the sheet s in slices of any length that hold it, with anything behind it, or slices too short for
+-- their counts, of which nothing else is asked.
 abbrev pub Lends : Sheet → Lent → Type 0
 Lends s x = holds x ≡ true → held x ≡ s
 
--- the sheet after a call: the one that it left, or the one before it where its slices were too short, which it left as they came (`short` below)
+-- the sheet after a call: the one that it left, or the one before it where its slices were too short, which it left
+-- as they came (`short` below)
 abbrev pub next : Sheet → Call → Sheet
 next s c = cond (holds (lent c)) (held (left c)) s
 
--- calls one after the other from the sheet s on, each lent the sheet after the one before: "nobody else writes the sheet between calls"
+-- calls one after the other from the sheet s on, each lent the sheet after the one before: "nobody else writes the
+-- sheet between calls"
 abbrev pub Run : Sheet → List Call → Type 0
 Run s [] = Unit {0}
 Run s (c ∷ cs) = Lends s (lent c) × Contract c × Run (next s c) cs
@@ -130,16 +141,20 @@ Touches s v l = maskOf (s .quads) (s .labels) v / 2 ^ l % 2 ≡ 1
 unfoldable pub Apart : Sheet → Type 0
 Apart s = (v j : ℕ) → j < 4 → Touches s v (2 * j) → Touches s v (2 * j + 1) → ⊥
 
--- each call that was lent slices too short for their counts left them as they came, and made no swap: "A sheet altered in its own slices stays unchanged", "a refused call adds 0"
+-- each call that was lent slices too short for their counts left them as they came, and made no swap: "A sheet
+-- altered in its own slices stays unchanged", "a refused call adds 0"
 abbrev pub Untouched : List Call → Type 0
 Untouched [] = Unit {0}
 Untouched (c ∷ cs) = (holds (lent c) ≡ false → (left c ≡ lent c) × (swapsIn c ≡ 0)) × Untouched cs
 
--- "No swap is left if, on the sheet left with nothing barred, no edge meets regularize's rule with what that call brought: the same call once more counts 0 and changes nothing."
+-- "No swap is left if, on the sheet left with nothing barred, no edge meets regularize's rule with what that call
+-- brought: the same call once more counts 0 and changes nothing."
 -- x is what the call left.
 pub record NoneLeft (b : Band) (k : ℕ) (x : Lent) (w f : ℕ) : Type 0 where
-  pub no-swap : NoSwap (length (held x .points)) (held x .labels) 1 (swapFits b (held x .points) (held x .labels)) (held x .quads)
-  pub again : (r : Cleaned) (Q : List ℕ) → Contract (regularizeCall b k x w f r Q) → (r ≡ cleaned.Done 0) × (Q ≡ x .quads)
+  pub no-swap : NoSwap (length (held x .points)) (held x .labels) 1 (swapFits b (held x .points) (held x .labels))
+      (held x .quads)
+  pub again : (r : Cleaned) (Q : List ℕ) → Contract (regularizeCall b k x w f r Q) → (r ≡ cleaned.Done 0)
+      × (Q ≡ x .quads)
 
 -- demand 3 of a list of calls from the sheet s on
 pub record Demand3 (s : Sheet) (cs : List Call) : Type 0 where

@@ -1,4 +1,5 @@
--- Sheets that demand 3 may start from, and what it claims of each list of calls. Document 01, "The finer sheet and the rows".
+-- Sheets that demand 3 may start from, and what it claims of each list of calls. Document 01, "The finer sheet and
+-- the rows".
 use Prim.Native.Nat.{ℕ, _+_, _*_, _≤_}
 use mathlib.Core.Path.{_≡_}
 use mathlib.Core.Bool.{true, false}
@@ -35,7 +36,8 @@ edgeCount s = length (edgesOf (length (s .points)) (s .quads))
 
 -- points minus edges plus quads is the same for both
 unfoldable pub SameEuler : Sheet → Sheet → Type 0
-SameEuler s t = length (t .points) + length (t .quads) + edgeCount s ≡ length (s .points) + length (s .quads) + edgeCount t
+SameEuler s t =
+    length (t .points) + length (t .quads) + edgeCount s ≡ length (s .points) + length (s .quads) + edgeCount t
 
 -- demand 3's sum of a sheet
 abbrev pub squaredOf : Sheet → ℕ

@@ -1,4 +1,5 @@
--- Demand 3 as one claim about a list of calls. A call brings its passes and, in place of its field and band, the tests that its rule makes on points and the points that it gives.
+-- Demand 3 as one claim about a list of calls. A call brings its passes and, in place of its field and band, the
+-- tests that its rule makes on points and the points that it gives.
 use Prim.Native.Nat.{ℕ, _+_, _*_, _<_}
 use mathlib.Core.Path.{_≡_}
 use mathlib.Core.Bool.{Bool, true, false, cond, _&&_}
@@ -16,25 +17,31 @@ use Rattle.rule_coarsen.specs.Merges.{Slot}
 use Rattle.rule_coarsen.specs.Coarse.{MergeFits, Position, coarseRun}
 use Rattle.safety_rules.specs.Clean.{withQuads, refined, squaredOf, Kept}
 
--- among finite points a position that the rule takes is finite: "If projecting the halfway point is refused, that diagonal is passed over"
+-- among finite points a position that the rule takes is finite: "If projecting the halfway point is refused, that
+-- diagonal is passed over"
 abbrev pub FinitePosition : (Sheet → MergeFits) → (Sheet → Position) → Type 0
-FinitePosition fits position = (s : Sheet) (ps : List Point) (S : List Slot) (f a c : ℕ) → all finiteP ps ≡ true → fits s ps S f a c ≡ true → finiteP (position s ps a c) ≡ true
+FinitePosition fits position =
+    (s : Sheet) (ps : List Point) (S : List Slot) (f a c : ℕ) → all finiteP ps ≡ true → fits s ps S f a c ≡ true
+    → finiteP (position s ps a c) ≡ true
 
 -- a call; `accepted` is false where it is refused
 pub data Command : Type 0 where
   regularizeCall : (accepted : Bool) (passes : ℕ) (fits : List Point → Fits) → Command
   improveCall : (accepted : Bool) (passes : ℕ) (fits : List Point → Fits) → Command
-  coarsenCall : (accepted : Bool) (passes : ℕ) (fits : Sheet → MergeFits) (position : Sheet → Position) → FinitePosition fits position → Command
+  coarsenCall : (accepted : Bool) (passes : ℕ) (fits : Sheet → MergeFits) (position : Sheet → Position)
+      → FinitePosition fits position → Command
   subdivideCall : (accepted : Bool) (placed : Sheet → ℕ → Point) → Command
 
 -- the quads that passes of swaps leave, and their count; m is 1 for `regularize` and 0 for `improve_layout`
 abbrev pub swapsOf : ℕ → ℕ → (List Point → Fits) → Sheet → Answer (List Quad)
 swapsOf m k fits s = swapRun (length (s .points)) (s .labels) m (fits (s .points)) k (s .quads)
 
--- the finer sheet, unless it is too large (13) or a point of it is not finite (5): "after a refusal the sheet before it"
+-- the finer sheet, unless it is too large (13) or a point of it is not finite (5): "after a refusal the sheet
+-- before it"
 abbrev pub subdivided : (Sheet → ℕ → Point) → Sheet → Sheet
 subdivided placed s =
-    cond (leb (finerCount (length (s .points)) (s .quads)) limit && leb (4 * length (s .quads)) limit && all finiteP (refined s (placed s) .points)) (refined s (placed s)) s
+    cond (leb (finerCount (length (s .points)) (s .quads)) limit && leb (4 * length (s .quads)) limit
+    && all finiteP (refined s (placed s) .points)) (refined s (placed s)) s
 
 -- the sheet that a call leaves
 abbrev pub leaves : Command → Sheet → Sheet
@@ -65,12 +72,15 @@ abbrev pub countsAll : List Command → Sheet → ℕ
 countsAll [] s = 0
 countsAll (c ∷ cs) s = counts c s + countsAll cs (leaves c s)
 
--- an accepted call of `regularize` with k passes on the sheet t leaves no swap, and "the same call once more counts 0 and changes nothing"
+-- an accepted call of `regularize` with k passes on the sheet t leaves no swap, and "the same call once more counts
+-- 0 and changes nothing"
 pub record NoneLeft (t : Sheet) (k : ℕ) (fits : List Point → Fits) : Type 0 where
   pub none-left : NoSwap (length (t .points)) (t .labels) 1 (fits (t .points)) ((swapsOf 1 k fits t) .left)
-  pub again : swapsOf 1 k fits (leaves (regularizeCall true k fits) t) ≡ record { left = (swapsOf 1 k fits t) .left; count = 0 }
+  pub again : swapsOf 1 k fits (leaves (regularizeCall true k fits) t)
+      ≡ record { left = (swapsOf 1 k fits t) .left; count = 0 }
 
--- demand 3: what every list keeps, and what `regularize` leaves after it, given more passes than half the sum that it finds
+-- demand 3: what every list keeps, and what `regularize` leaves after it, given more passes than half the sum that
+-- it finds
 pub record Demand3 (cs : List Command) (s : Sheet) : Type 0 where
   pub kept : Kept s (leavesAll cs s) (countsAll cs s)
   pub last : (k : ℕ) (fits : List Point → Fits) → squaredOf (leavesAll cs s) < 2 * k → NoneLeft (leavesAll cs s) k fits

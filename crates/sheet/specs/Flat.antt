@@ -1,4 +1,5 @@
--- Quads in a list of point numbers, four to a quad, as the code reads and writes them. Corner c is corner c % 4 of quad c / 4.
+-- Quads in a list of point numbers, four to a quad, as the code reads and writes them. Corner c is corner c % 4 of
+-- quad c / 4.
 use Prim.Native.Nat.{ℕ, _+_, _*_, _/_, _%_, _≤_}
 use mathlib.Core.Bool.{Bool}
 use mathlib.Core.List.{List}

@@ -25,7 +25,8 @@ abbrev pub finiteAt : List Float → ℕ → Bool
 finiteAt P v = finiteP (pointAt P v)
 
 unfoldable pub bareBy : Counts → List Float → Bool
-bareBy c P = eqb (c .points) 0 || eqb (c .quads) 0 || not (eqb (c .labels) (c .quads)) || not (every (finiteAt P) (c .points))
+bareBy c P =
+    eqb (c .points) 0 || eqb (c .quads) 0 || not (eqb (c .labels) (c .quads)) || not (every (finiteAt P) (c .points))
 
 -- the masks of the points
 unfoldable pub masksOf : ℕ → List Quad → List ℕ → List ℕ

@@ -16,7 +16,8 @@ ghost use Rattle.rule_sheet.specs.Flat.{corner, quadsOf};
 ghost use Rattle.sheet.specs.Flat.{maskIn, Holds, withQuad};
 ghost use Rattle.rule_sheet.specs.Tests.{inRange, distinct, goodMask};
 ghost use Rattle.sheet.specs.Tests.{goodQuadAt, goodMaskAt, withBit, marked};
-ghost use Rattle.rule_sheet.specs.Sheet.{sheetOf, isLarge, isShort, isShortWork, lentVerdict, quadsVerdict, sheetVerdict};
+ghost use Rattle.rule_sheet.specs.Sheet.{sheetOf, isLarge, isShort, isShortWork, lentVerdict, quadsVerdict};
+ghost use Rattle.rule_sheet.specs.Sheet.{sheetVerdict};
 ghost use Rattle.sheet.specs.Sheet.{Few, masksOf, MasksIf, LentSheet, finiteAt, bareBy};
 ghost use Rattle.numeric.specs.Num.{zeroF};
 ghost use Rattle.sheet.specs.Results.{cleared, Room};
@@ -229,7 +230,8 @@ fn mark_corners(quads: &[u32], labels: &[u8], q: usize, masks: &mut [u32])
     requires { ⌜ q < length (now labels) ⌝ }
     requires { ⌜ goodQuadAt (length (now masks)) (now quads) (now labels) q ≡ true ⌝ }
     requires { ⌜ now masks ≡ tabulate (maskIn (now quads) (now labels) q) (length (now masks)) ⌝ }
-    ensures { λ _. ⌜ now (masks .exit) ≡ tabulate (maskIn (now (quads .entry)) (now (labels .entry)) (q + 1)) (length (now (masks .entry))) ⌝ }
+    ensures { λ _. ⌜ now (masks .exit) ≡ tabulate (maskIn (now (quads .entry)) (now (labels .entry)) (q + 1))
+        (length (now (masks .entry))) ⌝ }
 {
     let l = lists::byte_at(labels, q);
     let mut j = 0;
@@ -244,7 +246,8 @@ pub fn mark_quads(nq: usize, quads: &[u32], labels: &[u8], masks: &mut [u32])
     requires { ⌜ Holds nq (now quads) (now labels) ⌝ }
     requires { ⌜ every (goodQuadAt (length (now masks)) (now quads) (now labels)) nq ≡ true ⌝ }
     requires { ⌜ now masks ≡ replicate (length (now masks)) 0 ⌝ }
-    ensures { λ _. ⌜ now (masks .exit) ≡ tabulate (maskIn (now (quads .entry)) (now (labels .entry)) nq) (length (now (masks .entry))) ⌝ }
+    ensures { λ _. ⌜ now (masks .exit) ≡ tabulate (maskIn (now (quads .entry)) (now (labels .entry)) nq)
+        (length (now (masks .entry))) ⌝ }
 {
     let mut q = 0;
     while q < nq {
@@ -256,8 +259,10 @@ pub fn mark_quads(nq: usize, quads: &[u32], labels: &[u8], masks: &mut [u32])
 // 6 and 7, of nq quads and as many points as there are masks.
 fn quads_tested(nq: usize, quads: &[u32], labels: &[u8], masks: &mut [u32]) -> Verdict
     requires { ⌜ Holds nq (now quads) (now labels) ⌝ }
-    ensures { λ r. ⌜ r ≡ quadsVerdict (length (now (masks .entry))) (quadsOf nq (now (quads .entry))) (take nq (now (labels .entry))) ⌝ }
-    ensures { λ r. ⌜ MasksIf r (masksOf (length (now (masks .entry))) (quadsOf nq (now (quads .entry))) (take nq (now (labels .entry)))) (now (masks .exit)) ⌝ }
+    ensures { λ r. ⌜ r ≡ quadsVerdict (length (now (masks .entry))) (quadsOf nq (now (quads .entry)))
+        (take nq (now (labels .entry))) ⌝ }
+    ensures { λ r. ⌜ MasksIf r (masksOf (length (now (masks .entry))) (quadsOf nq (now (quads .entry)))
+        (take nq (now (labels .entry)))) (now (masks .exit)) ⌝ }
 {
     if good_quads(masks.len(), nq, quads, labels) {
         lists::clear(masks);
@@ -282,7 +287,8 @@ pub fn constraints(
     requires { ⌜ LentSheet c (length (now points)) (length (now quads)) (length (now labels)) ⌝ }
     requires { ⌜ length (now masks) ≡ c .points ⌝ }
     ensures { λ r. ⌜ r ≡ sheetVerdict b (sheetOf c (now (points .entry)) (now (quads .entry)) (now (labels .entry))) ⌝ }
-    ensures { λ r. ⌜ MasksIf r (masksOf (c .points) (quadsOf (c .quads) (now (quads .entry))) (take (c .labels) (now (labels .entry)))) (now (masks .exit)) ⌝ }
+    ensures { λ r. ⌜ MasksIf r (masksOf (c .points) (quadsOf (c .quads) (now (quads .entry)))
+        (take (c .labels) (now (labels .entry)))) (now (masks .exit)) ⌝ }
 {
     if band::validate(b) {
         if is_bare(c, points) {
@@ -293,7 +299,8 @@ pub fn constraints(
     Verdict::Refused(BOX)
 }
 
-// What an operation that makes a sheet leaves behind: its answer, result slices with zeros behind the sheet, work slices of zeros.
+// What an operation that makes a sheet leaves behind: its answer, result slices with zeros behind the sheet, work
+// slices of zeros.
 
 // The counts of a made sheet; a refusal shows none.
 pub fn shown_counts(r: Made) -> Counts

@@ -38,9 +38,11 @@ landedTo b P M n = tabulate (λ v. ontoOf (landAt b P M v)) n
 
 -- ---- the sheet that the tests accept
 
--- what 12, 13, 1, 5, 6 and 7 leave: a sheet in slices of p coordinates that can be refined, with good corners, and its masks in the work slice
+-- what 12, 13, 1, 5, 6 and 7 leave: a sheet in slices of p coordinates that can be refined, with good corners, and
+-- its masks in the work slice
 pub record Tested (c : Counts) (p : ℕ) (Q labels w : List ℕ) : Type 0 where
   pub refinable : Refinable c p Q (length labels) (length w)
   pub some : 0 < c .quads
   pub good : all (proper (c .points)) (quadsOf (c .quads) Q) ≡ true
-  pub masks : Part (masksAt (c .points) (c .quads)) (c .points) (masksOf (c .points) (quadsOf (c .quads) Q) (take (c .quads) labels)) w
+  pub masks : Part (masksAt (c .points) (c .quads)) (c .points)
+      (masksOf (c .points) (quadsOf (c .quads) Q) (take (c .quads) labels)) w

@@ -29,7 +29,8 @@ fn project_points(b: Band, n: usize, masks: &[u32], points: &mut [f64]) -> bool
     requires { ⌜ 3 * n ≤ length (now points) ⌝ }
     requires { ⌜ Masked n (now masks) ⌝ }
     ensures { λ r. ⌜ r ≡ every (landsOf b (now (points .entry)) (now (masks .entry))) n ⌝ }
-    ensures { λ r. ⌜ (r ≡ true → Front (flatPoints (landedTo b (now (points .entry)) (now (masks .entry)) n)) (now (points .exit))) ⌝ }
+    ensures { λ r. ⌜ (r ≡ true → Front (flatPoints (landedTo b (now (points .entry)) (now (masks .entry)) n))
+        (now (points .exit))) ⌝ }
 {
     let len = band::length(b);
     let mut v = 0;
@@ -56,7 +57,9 @@ fn project_points(b: Band, n: usize, masks: &[u32], points: &mut [f64]) -> bool
 fn land(b: Band, c: Counts, points: &mut [f64], quads: &[u32], labels: &[u8], w: &mut [u32]) -> Made
     requires { ⌜ LentSheet c (length (now points)) (length (now quads)) (length (now labels)) ⌝ }
     requires { ⌜ c .points ≤ length (now w) ⌝ }
-    ensures { λ r. ⌜ Fills (afterTest (sheetVerdict b (sheetOf c (now (points .entry)) (now (quads .entry)) (now (labels .entry)))) (projected b (sheetOf c (now (points .entry)) (now (quads .entry)) (now (labels .entry))))) r (now (points .exit)) (now (quads .entry)) (now (labels .entry)) ⌝ }
+    ensures { λ r. ⌜ Fills (afterTest (sheetVerdict b (sheetOf c (now (points .entry)) (now (quads .entry))
+        (now (labels .entry)))) (projected b (sheetOf c (now (points .entry)) (now (quads .entry))
+        (now (labels .entry))))) r (now (points .exit)) (now (quads .entry)) (now (labels .entry)) ⌝ }
 {
     let n = c.points;
     let v = sheet::constraints(b, c, points, quads, labels, &mut w[..n]);
@@ -82,7 +85,9 @@ fn subdivide_tested(
     w: &mut [u32],
 ) -> Made
     requires { ⌜ Tested c (length (now points)) (now quads) (now labels) (now w) ⌝ }
-    ensures { λ r. ⌜ Fills (subdivided b (sheetOf c (now (points .entry)) (now (quads .entry)) (now (labels .entry))) (length (now («new_points» .entry))) (length (now («new_quads» .entry))) (length (now («new_labels» .entry)))) r (now («new_points» .exit)) (now («new_quads» .exit)) (now («new_labels» .exit)) ⌝ }
+    ensures { λ r. ⌜ Fills (subdivided b (sheetOf c (now (points .entry)) (now (quads .entry)) (now (labels .entry)))
+        (length (now («new_points» .entry))) (length (now («new_quads» .entry))) (length (now («new_labels» .entry)))) r
+        (now («new_points» .exit)) (now («new_quads» .exit)) (now («new_labels» .exit)) ⌝ }
 {
     let np = c.points;
     let nq = c.quads;
@@ -124,7 +129,10 @@ fn subdivide_or_refusal(
     w: &mut [u32],
     floats: usize,
 ) -> Made
-    ensures { λ r. ⌜ Fills (subdivideRule b c (now (points .entry)) (now (quads .entry)) (now (labels .entry)) (length (now (w .entry))) floats (length (now («new_points» .entry))) (length (now («new_quads» .entry))) (length (now («new_labels» .entry)))) r (now («new_points» .exit)) (now («new_quads» .exit)) (now («new_labels» .exit)) ⌝ }
+    ensures { λ r. ⌜ Fills (subdivideRule b c (now (points .entry)) (now (quads .entry)) (now (labels .entry))
+        (length (now (w .entry))) floats (length (now («new_points» .entry))) (length (now («new_quads» .entry)))
+        (length (now («new_labels» .entry)))) r (now («new_points» .exit)) (now («new_quads» .exit))
+        (now («new_labels» .exit)) ⌝ }
 {
     let v = sheet::lent(c, points.len(), quads.len(), labels.len(), w.len(), floats);
     if let Verdict::Refused(n) = v {
@@ -148,7 +156,8 @@ fn subdivide_or_refusal(
     )
 }
 
-// Subdivides a sheet: the finer sheet with its points smoothed and projected onto the band. The sheet goes to the result slices, the answer has its counts.
+// Subdivides a sheet: the finer sheet with its points smoothed and projected onto the band. The sheet goes to the
+// result slices, the answer has its counts.
 pub fn subdivide(
     b: Band,
     c: Counts,
@@ -161,7 +170,11 @@ pub fn subdivide(
     work: &mut [u32],
     floats: &mut [f64],
 ) -> Made
-    ensures { λ r. ⌜ Leaves (subdivideRule b c (now (points .entry)) (now (quads .entry)) (now (labels .entry)) (length (now (work .entry))) (length (now (floats .entry))) (length (now («new_points» .entry))) (length (now («new_quads» .entry))) (length (now («new_labels» .entry)))) (length (now («new_points» .entry))) (length (now («new_quads» .entry))) (length (now («new_labels» .entry))) r (now («new_points» .exit)) (now («new_quads» .exit)) (now («new_labels» .exit)) ⌝ }
+    ensures { λ r. ⌜ Leaves (subdivideRule b c (now (points .entry)) (now (quads .entry)) (now (labels .entry))
+        (length (now (work .entry))) (length (now (floats .entry))) (length (now («new_points» .entry)))
+        (length (now («new_quads» .entry))) (length (now («new_labels» .entry)))) (length (now («new_points» .entry)))
+        (length (now («new_quads» .entry))) (length (now («new_labels» .entry))) r (now («new_points» .exit))
+        (now («new_quads» .exit)) (now («new_labels» .exit)) ⌝ }
     ensures { λ _. ⌜ now (work .exit) ≡ replicate (length (now (work .entry))) 0 ⌝ }
     ensures { λ _. ⌜ now (floats .exit) ≡ replicate (length (now (floats .entry))) zeroF ⌝ }
 {

@@ -1,4 +1,5 @@
--- What the loops over the points and edges of a sheet read and leave, over flat lists: coordinates P, corners Q, and the ends H of the edges, two to an edge.
+-- What the loops over the points and edges of a sheet read and leave, over flat lists: coordinates P, corners Q,
+-- and the ends H of the edges, two to an edge.
 use Prim.Native.Nat.{ℕ, _+_, _*_, _/_, _%_, _≤_, _<_}
 use mathlib.Core.Path.{_≡_}
 use mathlib.Core.Bool.{Bool, true, cond, not}
@@ -37,7 +38,8 @@ pub record Below (bound from n : ℕ) (w : List ℕ) : Type 0 where
   pub fits : from + n ≤ length w
   pub below : (j : ℕ) → j < n → getD w (from + j) 0 < bound
 
--- the end of an edge at place i: the corners E in the order of their edges, two to an edge, give its smaller and its larger point
+-- the end of an edge at place i: the corners E in the order of their edges, two to an edge, give its smaller and
+-- its larger point
 unfoldable pub endAt : List ℕ → List ℕ → ℕ → ℕ
 endAt Q E i = cond (eqb (i % 2) 0) (smaller Q (getD E i 0)) (larger Q (getD E i 0))
 
@@ -74,9 +76,11 @@ otherEnd H i = getD H (i / 2 * 2 + (i + 1) % 2) 0
 unfoldable pub halfwayTo : Point → List Float → List ℕ → ℕ → Point
 halfwayTo p P H i = halfway pointwise p (pointAt P (otherEnd H i))
 
--- the edge whose end stands at place i is a crease: its two corners, in the order E of the corners, are of quads with different labels
+-- the edge whose end stands at place i is a crease: its two corners, in the order E of the corners, are of quads
+-- with different labels
 unfoldable pub creaseAt : List ℕ → List ℕ → ℕ → Bool
-creaseAt labels E i = not (eqb (getD labels (getD E (i / 2 * 2) 0 / 4) 0) (getD labels (getD E (i / 2 * 2 + 1) 0 / 4) 0))
+creaseAt labels E i =
+    not (eqb (getD labels (getD E (i / 2 * 2) 0 / 4) 0) (getD labels (getD E (i / 2 * 2 + 1) 0 / 4) 0))
 
 -- ---- creases
 
@@ -100,12 +104,15 @@ creaseEnds labels E H l = map (otherEnd H) (keep (creaseAt labels E) l)
 
 -- where p comes to by its creases, q being the interior rule's answer
 unfoldable pub movedBy : List Float → Creases → Point → Point → Point
-movedBy P c p q = cond (eqb (c .count) 0) q (cond (eqb (c .count) 2) (creasePoint pointwise p (pointAt P (c .first)) (pointAt P (c .second))) p)
+movedBy P c p q =
+    cond (eqb (c .count) 0) q (cond (eqb (c .count) 2) (creasePoint pointwise p (pointAt P (c .first))
+    (pointAt P (c .second))) p)
 
 -- the interior rule's answer for point v, by the ends H of the edges
 unfoldable pub interiorAt : ℕ → List Float → List ℕ → List ℕ → ℕ → Point
 interiorAt nq P Q H v =
-    interior pointwise (pointAt P v) (map (cornerCentre P Q) (pointCorners Q nq v)) (map (pointAt P) (map (otherEnd H) (pointCorners H nq v)))
+    interior pointwise (pointAt P v) (map (cornerCentre P Q) (pointCorners Q nq v))
+    (map (pointAt P) (map (otherEnd H) (pointCorners H nq v)))
 
 -- where point v comes to, by its mask m, the corners E in the order of their edges, and the ends H of the edges
 unfoldable pub movedPoint : ℕ → List Float → List ℕ → List ℕ → List ℕ → List ℕ → ℕ → ℕ → Point
@@ -116,7 +123,8 @@ movedPoint nq P Q labels E H m v =
 -- the new point of the edge whose corners are c and d
 unfoldable pub edgeAt : List Float → List ℕ → List ℕ → ℕ → ℕ → Point
 edgeAt P Q labels c d =
-    cond (not (eqb (getD labels (c / 4) 0) (getD labels (d / 4) 0))) (halfway pointwise (pointAt P (smaller Q c)) (pointAt P (larger Q c)))
+    cond (not (eqb (getD labels (c / 4) 0) (getD labels (d / 4) 0)))
+    (halfway pointwise (pointAt P (smaller Q c)) (pointAt P (larger Q c)))
     (edgePoint pointwise (pointAt P (smaller Q c)) (pointAt P (larger Q c)) (cornerCentre P Q c) (cornerCentre P Q d))
 
 -- the corner of request t
@@ -126,9 +134,11 @@ cornerOf t = t / 5 * 4 + t % 5
 -- where the new point of request t comes to, D having the second corner of each edge by its first one
 unfoldable pub placeAt : List Float → List ℕ → List ℕ → List ℕ → ℕ → Point
 placeAt P Q labels D t =
-    cond (eqb (t % 5) 4) (centreOf (pointAt P) (quadAt Q (t / 5))) (edgeAt P Q labels (cornerOf t) (getD D (cornerOf t) 0))
+    cond (eqb (t % 5) 4) (centreOf (pointAt P) (quadAt Q (t / 5)))
+    (edgeAt P Q labels (cornerOf t) (getD D (cornerOf t) 0))
 
--- ---- the work slice: behind the regions of the finer sheet stand the masks, a region that sorts use, the corners of each point behind where they begin,
+-- ---- the work slice: behind the regions of the finer sheet stand the masks, a region that sorts use, the corners
+-- of each point behind where they begin,
 
 -- the same for the ends of edges, and the second corners
 abbrev pub masksAt : ℕ → ℕ → ℕ
@@ -162,7 +172,8 @@ pub record Spans (nq : ℕ) (Q : List ℕ) (v from size : ℕ) (w : List ℕ) : 
   pub below : Below (4 * nq) from size w
   pub few : size ≤ 4 * nq
 
--- the corners of the quads Q and the ends H of the edges by their points; no marks are kept, and the region of marks is at 0
+-- the corners of the quads Q and the ends H of the edges by their points; no marks are kept, and the region of
+-- marks is at 0
 pub record Listed (np nq : ℕ) (Q H w : List ℕ) : Type 0 where
   pub corners : Incident np nq Q (startsAt np nq) (listAt np nq) 0 w
   pub ends : Incident np nq H (endStartsAt np nq) (endListAt np nq) 0 w
@@ -176,16 +187,19 @@ pub record Gathered (np nq : ℕ) (P : List Float) (Q labels H w : List ℕ) : T
 
 -- where point v comes to, by the work slice
 abbrev pub movedIn : ℕ → ℕ → List Float → List ℕ → List ℕ → List ℕ → List ℕ → ℕ → Point
-movedIn np nq P Q labels H w v = movedPoint nq P Q labels (part (orderAt np nq) (4 * nq) w) H (getD w (masksAt np nq + v) 0) v
+movedIn np nq P Q labels H w v =
+    movedPoint nq P Q labels (part (orderAt np nq) (4 * nq) w) H (getD w (masksAt np nq + v) 0) v
 
 -- what the writing of the new points reads: for the first request of an edge, a second corner
-pub record Placing (np nq : ℕ) (P : List Float) (Q labels : List ℕ) (first num second : ℕ) (F N w : List ℕ) (room : ℕ) : Type 0 where
+pub record Placing (np nq : ℕ) (P : List Float) (Q labels : List ℕ) (first num second : ℕ) (F N w : List ℕ) (room : ℕ) :
+    Type 0 where
   pub writing : Writing np nq P Q first num F N w room
   pub labelled : nq ≤ length labels
   pub in-second : second + 4 * nq ≤ length w
   pub known : (t : ℕ) → t < 5 * nq → own F t ≡ true → (t % 5 ≡ 4 → ⊥) → getD w (second + cornerOf t) 0 < 4 * nq
 
--- what the writing of the smoothed sheet asks: the finer sheet is numbered and has room, the edges have two quads each, and the masks are known
+-- what the writing of the smoothed sheet asks: the finer sheet is numbered and has room, the edges have two quads
+-- each, and the masks are known
 pub record Smoothable (np nq : ℕ) (P : List Float) (Q labels w : List ℕ) (p q l : ℕ) : Type 0 where
   pub finished : Finished np nq P Q labels w p q l
   pub few : np ≤ 1048576

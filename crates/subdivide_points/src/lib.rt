@@ -22,10 +22,15 @@ ghost use Rattle.smoothing.specs.Rounded.{pointwise};
 ghost use Rattle.refine.specs.Loops.{orderAt, madeTo, putRequest, Numbered};
 ghost use Rattle.rule_finer.specs.Smoothed.{paired, smoothSheet};
 ghost use Rattle.rule_sheet.specs.Places.{centreOf};
-ghost use Rattle.subdivide_points.specs.Steps.{onesOf, Below, endAt, Ends, Pairing, Seconds, cornerCentre, otherEnd, halfwayTo, creaseAt, creasesOf, withCrease, creaseEnds, movedBy, interiorAt, edgeAt, cornerOf, placeAt, secondsAt, BeforeScratch, Spans, Listed, Gathered, movedIn, Placing, Gathering, Smoothable, flatSheet};
+ghost use Rattle.subdivide_points.specs.Steps.{onesOf, Below, endAt, Ends, Pairing, Seconds, cornerCentre};
+ghost use Rattle.subdivide_points.specs.Steps.{otherEnd, halfwayTo, creaseAt, creasesOf, withCrease, creaseEnds};
+ghost use Rattle.subdivide_points.specs.Steps.{movedBy, interiorAt, edgeAt, cornerOf, placeAt, secondsAt};
+ghost use Rattle.subdivide_points.specs.Steps.{BeforeScratch, Spans, Listed, Gathered, movedIn, Placing};
+ghost use Rattle.subdivide_points.specs.Steps.{Gathering, Smoothable, flatSheet};
 
-// Regions of the work slice behind those of the finer sheet, in units of points and quads together: the masks, a region that sorts use, the corners of
-// each point behind where they begin, the same for the ends of edges, and the second corner of each edge.
+// Regions of the work slice behind those of the finer sheet, in units of points and quads together: the masks, a
+// region that sorts use, the corners of each point behind where they begin, the same for the ends of edges, and the
+// second corner of each edge.
 pub const MASKS: usize = 19;
 
 const SCRATCH: usize = 20;
@@ -81,7 +86,8 @@ fn put_ends(quads: &[u32], nq: usize, order: usize, w: &[u32], ends: &mut [u32])
     requires { ⌜ 4 * nq ≤ length (now quads) ⌝ }
     requires { ⌜ Below (4 * nq) order (4 * nq) (now w) ⌝ }
     requires { ⌜ 4 * nq ≤ length (now ends) ⌝ }
-    ensures { λ _. ⌜ Front (tabulate (endAt (now (quads .entry)) (part order (4 * nq) (now (w .entry)))) (4 * nq)) (now (ends .exit)) ⌝ }
+    ensures { λ _. ⌜ Front (tabulate (endAt (now (quads .entry)) (part order (4 * nq) (now (w .entry)))) (4 * nq))
+        (now (ends .exit)) ⌝ }
 {
     let mut i = 0;
     while i < 4 * nq {
@@ -129,7 +135,8 @@ fn sum_centres(
 ) -> Point
     requires { ⌜ Positioned np nq (now points) (now quads) ⌝ }
     requires { ⌜ Below (4 * nq) from m (now w) ⌝ }
-    ensures { λ r. ⌜ r ≡ sumOf pointwise (map (cornerCentre (now (points .entry)) (now (quads .entry))) (part from m (now (w .entry)))) ⌝ }
+    ensures { λ r. ⌜ r ≡ sumOf pointwise (map (cornerCentre (now (points .entry)) (now (quads .entry)))
+        (part from m (now (w .entry)))) ⌝ }
 {
     let mut sum = points::origin();
     let mut j = 0;
@@ -162,7 +169,8 @@ fn sum_halfways(
 ) -> Point
     requires { ⌜ Positioned np nq (now points) (now ends) ⌝ }
     requires { ⌜ Below (4 * nq) from m (now w) ⌝ }
-    ensures { λ r. ⌜ r ≡ sumOf pointwise (map (halfwayTo p (now (points .entry)) (now (ends .entry))) (part from m (now (w .entry)))) ⌝ }
+    ensures { λ r. ⌜ r ≡ sumOf pointwise (map (halfwayTo p (now (points .entry)) (now (ends .entry)))
+        (part from m (now (w .entry)))) ⌝ }
 {
     let mut sum = points::origin();
     let mut j = 0;
@@ -227,7 +235,8 @@ fn creases_at(
     requires { ⌜ Below (4 * nq) order (4 * nq) (now w) ⌝ }
     requires { ⌜ Below (4 * nq) from m (now w) ⌝ }
     requires { ⌜ m < 4294967296 ⌝ }
-    ensures { λ r. ⌜ r ≡ creasesOf (creaseEnds (now (labels .entry)) (part order (4 * nq) (now (w .entry))) (now (ends .entry)) (part from m (now (w .entry)))) ⌝ }
+    ensures { λ r. ⌜ r ≡ creasesOf (creaseEnds (now (labels .entry)) (part order (4 * nq) (now (w .entry)))
+        (now (ends .entry)) (part from m (now (w .entry)))) ⌝ }
 {
     let mut c = Creases {
         count: 0,
@@ -305,7 +314,8 @@ fn moved_by(
     requires { ⌜ 3 * np ≤ length (now points) ⌝ }
     requires { ⌜ Listed np nq (now quads) (now ends) (now w) ⌝ }
     requires { ⌜ v < np ⌝ }
-    ensures { λ r. ⌜ r ≡ movedBy (now (points .entry)) c (pointAt (now (points .entry)) v) (interiorAt nq (now (points .entry)) (now (quads .entry)) (now (ends .entry)) v) ⌝ }
+    ensures { λ r. ⌜ r ≡ movedBy (now (points .entry)) c (pointAt (now (points .entry)) v)
+        (interiorAt nq (now (points .entry)) (now (quads .entry)) (now (ends .entry)) v) ⌝ }
 {
     if c.count == 0 {
         return interior_at(points, quads, ends, np, nq, v, w);
@@ -332,7 +342,8 @@ fn old_point(
 ) -> Point
     requires { ⌜ Gathered np nq (now points) (now quads) (now labels) (now ends) (now w) ⌝ }
     requires { ⌜ v < np ⌝ }
-    ensures { λ r. ⌜ r ≡ movedIn np nq (now (points .entry)) (now (quads .entry)) (now (labels .entry)) (now (ends .entry)) (now (w .entry)) v ⌝ }
+    ensures { λ r. ⌜ r ≡ movedIn np nq (now (points .entry)) (now (quads .entry)) (now (labels .entry))
+        (now (ends .entry)) (now (w .entry)) v ⌝ }
 {
     let n = np + nq;
     if ones(w[MASKS * n + v]) > 2 {
@@ -356,7 +367,8 @@ fn put_old_points(
 )
     requires { ⌜ Gathered np nq (now points) (now quads) (now labels) (now ends) (now w) ⌝ }
     requires { ⌜ 3 * np ≤ length (now out) ⌝ }
-    ensures { λ _. ⌜ Front (flatPoints (tabulate (movedIn np nq (now (points .entry)) (now (quads .entry)) (now (labels .entry)) (now (ends .entry)) (now (w .entry))) np)) (now (out .exit)) ⌝ }
+    ensures { λ _. ⌜ Front (flatPoints (tabulate (movedIn np nq (now (points .entry)) (now (quads .entry))
+        (now (labels .entry)) (now (ends .entry)) (now (w .entry))) np)) (now (out .exit)) ⌝ }
 {
     let mut v = 0;
     while v < np {
@@ -408,7 +420,8 @@ fn new_place(
     requires { ⌜ second + 4 * nq ≤ length (now w) ⌝ }
     requires { ⌜ t < 5 * nq ⌝ }
     requires { ⌜ ((t % 5 ≡ 4 → ⊥) → getD (now w) (second + cornerOf t) 0 < 4 * nq) ⌝ }
-    ensures { λ r. ⌜ r ≡ placeAt (now (points .entry)) (now (quads .entry)) (now (labels .entry)) (part second (4 * nq) (now (w .entry))) t ⌝ }
+    ensures { λ r. ⌜ r ≡ placeAt (now (points .entry)) (now (quads .entry)) (now (labels .entry))
+        (part second (4 * nq) (now (w .entry))) t ⌝ }
 {
     if t % 5 == 4 {
         return centre_at(points, quads, np, nq, t / 5);
@@ -432,9 +445,12 @@ fn put_place(
     w: &[u32],
     out: &mut [f64],
 )
-    requires { ⌜ Placing np nq (now points) (now quads) (now labels) first num second (part first (5 * nq) (now w)) (part num (5 * nq) (now w)) (now w) (length (now out)) ⌝ }
+    requires { ⌜ Placing np nq (now points) (now quads) (now labels) first num second (part first (5 * nq) (now w))
+        (part num (5 * nq) (now w)) (now w) (length (now out)) ⌝ }
     requires { ⌜ t < 5 * nq ⌝ }
-    ensures { λ _. ⌜ now (out .exit) ≡ putRequest (part first (5 * nq) (now (w .entry))) (part num (5 * nq) (now (w .entry))) (placeAt (now (points .entry)) (now (quads .entry)) (now (labels .entry)) (part second (4 * nq) (now (w .entry)))) t (now (out .entry)) ⌝ }
+    ensures { λ _. ⌜ now (out .exit) ≡ putRequest (part first (5 * nq) (now (w .entry)))
+        (part num (5 * nq) (now (w .entry))) (placeAt (now (points .entry)) (now (quads .entry)) (now (labels .entry))
+        (part second (4 * nq) (now (w .entry)))) t (now (out .entry)) ⌝ }
 {
     if lists::at(w, first + t) == t {
         let p = new_place(points, quads, labels, np, nq, second, t, w);
@@ -456,10 +472,13 @@ fn put_places(
     w: &[u32],
     out: &mut [f64],
 )
-    requires { ⌜ Placing np nq (now points) (now quads) (now labels) first num second (part first (5 * nq) (now w)) (part num (5 * nq) (now w)) (now w) (length (now out)) ⌝ }
+    requires { ⌜ Placing np nq (now points) (now quads) (now labels) first num second (part first (5 * nq) (now w))
+        (part num (5 * nq) (now w)) (now w) (length (now out)) ⌝ }
     requires { ⌜ Numbered np (5 * nq) (part first (5 * nq) (now w)) (part num (5 * nq) (now w)) ⌝ }
     requires { ⌜ 3 * np ≤ length (now out) ⌝ }
-    ensures { λ _. ⌜ Front (flatPoints (pointsOf np (now (out .entry)) ++ madeTo (part first (5 * nq) (now (w .entry))) (placeAt (now (points .entry)) (now (quads .entry)) (now (labels .entry)) (part second (4 * nq) (now (w .entry)))) (5 * nq))) (now (out .exit)) ⌝ }
+    ensures { λ _. ⌜ Front (flatPoints (pointsOf np (now (out .entry))
+        ++ madeTo (part first (5 * nq) (now (w .entry))) (placeAt (now (points .entry)) (now (quads .entry))
+        (now (labels .entry)) (part second (4 * nq) (now (w .entry)))) (5 * nq))) (now (out .exit)) ⌝ }
 {
     let mut t = 0;
     while t < 5 * nq {
@@ -468,7 +487,8 @@ fn put_places(
     }
 }
 
-// Gathers what the smoothing reads: the ends of the edges in a slice of their own, the second corners and the lists by point in the work slice.
+// Gathers what the smoothing reads: the ends of the edges in a slice of their own, the second corners and the lists
+// by point in the work slice.
 fn gather(np: usize, nq: usize, quads: &[u32], ends: &mut [u32], w: &mut [u32])
     requires { ⌜ Gathering np nq (now quads) (length (now ends)) (now w) ⌝ }
     ensures { λ _. ⌜ Ends nq (now (quads .entry)) (edgeOrder np nq (now (quads .entry))) (now (ends .exit)) ⌝ }
@@ -496,10 +516,14 @@ pub fn put_smoothed(
     new_quads: &mut [u32],
     new_labels: &mut [u8],
 )
-    requires { ⌜ Smoothable np nq (now points) (now quads) (now labels) (now w) (length (now «new_points»)) (length (now «new_quads»)) (length (now «new_labels»)) ⌝ }
-    ensures { λ _. ⌜ Front (flatPoints (smoothSheet (flatSheet np nq (now (points .entry)) (now (quads .entry)) (now (labels .entry))) .points)) (now («new_points» .exit)) ⌝ }
-    ensures { λ _. ⌜ Front (flatQuads (smoothSheet (flatSheet np nq (now (points .entry)) (now (quads .entry)) (now (labels .entry))) .quads)) (now («new_quads» .exit)) ⌝ }
-    ensures { λ _. ⌜ Front (smoothSheet (flatSheet np nq (now (points .entry)) (now (quads .entry)) (now (labels .entry))) .labels) (now («new_labels» .exit)) ⌝ }
+    requires { ⌜ Smoothable np nq (now points) (now quads) (now labels) (now w) (length (now «new_points»))
+        (length (now «new_quads»)) (length (now «new_labels»)) ⌝ }
+    ensures { λ _. ⌜ Front (flatPoints (smoothSheet (flatSheet np nq (now (points .entry)) (now (quads .entry))
+        (now (labels .entry))) .points)) (now («new_points» .exit)) ⌝ }
+    ensures { λ _. ⌜ Front (flatQuads (smoothSheet (flatSheet np nq (now (points .entry)) (now (quads .entry))
+        (now (labels .entry))) .quads)) (now («new_quads» .exit)) ⌝ }
+    ensures { λ _. ⌜ Front (smoothSheet (flatSheet np nq (now (points .entry)) (now (quads .entry))
+        (now (labels .entry))) .labels) (now («new_labels» .exit)) ⌝ }
 {
     let n = np + nq;
     let first = refine::FIRST * n;
