@@ -1,62 +1,27 @@
 -- Passes one after the other are the rule's run: what is left after each is accepted and no larger, so the slices hold it. Assumes nothing.
-use Prim.Native.Nat.{ℕ, _+_, _-_, _≤_, _<_}
+use Prim.Native.Nat.{ℕ, suc, _+_, _-_, _≤_, _<_}
 use mathlib.Core.Path.{_≡_, refl, sym, ap, ap₂, _∙_}
-use mathlib.Core.Bool.{Bool, true, false}
 use mathlib.Core.List.{List}
 use native.Mathlib.Omega.{arith}
-use lib.Dec.{eqb}
 use lib.ListN.{length}
 use lib.Ieee.{Float}
-use borrow.Author.Tests.{eqb-false}
-use Rattle.band.specs.declared.Band.{Band}
+use Rattle.setting.specs.Settings.{Setting}
 use Rattle.rule_sheet.specs.declared.Counts.{Counts}
-use Rattle.rule_sheet.specs.Sheet.{Sheet, sheetOf, limit}
+use Rattle.rule_sheet.specs.declared.Tally.{Tally}
+use Rattle.rule_sheet.specs.Sheet.{Sheet, sheetOf, countsOf}
+use Rattle.rule_sheet.specs.Lent.{limit}
+use Rattle.rule_sheet.specs.Outcomes.{RunEnd}
+use Rattle.rule_coarsen.specs.Rule.{coarseSheet}
 use Rattle.sheet.proofs.Flat.{length-quads}
 use Rattle.sheet.proofs.Tests.{length-points}
-use Rattle.rule_sheet.specs.Results.{countsOf}
-use Rattle.rule_passes.specs.Runs.{Answer, run}
-use Rattle.rule_regularize.proofs.Runs.{idle, run-split, run-from}
-use Rattle.rule_coarsen.specs.MergeFits.{mergeFits, mergePosition}
-use Rattle.pass_shapes.proofs.MergeFits.{merge-finite}
 use Rattle.safety_rules.proofs.Fine.{Fine}
-use Rattle.safety_rules.proofs.Demand.{coarse-fine, coarse-fewer}
-use Rattle.coarsen_pass.specs.Steps.{bandPass}
-use Rattle.rule_coarsen.specs.declared.Merged.{Merged}
-use Rattle.rule_coarsen.specs.Rule.{coarseSheet}
 use Rattle.coarsen.specs.Passes.{Coarsenable, Remains}
-use Rattle.coarsen.specs.Tested.{passCount, passLeaves}
-use Rattle.coarsen.proofs.Accepted.{counts-of, passes-accepted}
+use Rattle.coarsen.proofs.Accepted.{counts-of, passes-fine, passes-accepted, passes-fewer, runFrom, run-next, run-last}
 use Rattle.coarsen.proofs.Once.{fine}
 
-module _ (b : Band) where
-  -- at most k passes over s, after m merges
-  abbrev runFrom : ℕ → Sheet → ℕ → Answer Sheet
-  runFrom k s m = run (passCount b) (passLeaves b) k s m
-
-  -- one pass, and then l
-  run-next : (l : ℕ) (s : Sheet) (m : ℕ) → runFrom (1 + l) s m ≡ runFrom l (coarseSheet b 1 s .left) (m + coarseSheet b 1 s .count)
-  unfolding bandPass
-  run-next l s m =
-      let e : runFrom 1 s m ≡ record { left = coarseSheet b 1 s .left; count = m + coarseSheet b 1 s .count } = ap (runFrom 1 s) (plus m) ∙ run-from (passCount b) (passLeaves b) 1 s m 0 in
-      run-split (passCount b) (passLeaves b) 1 l s m ∙ ap (λ (a : Answer Sheet). runFrom l (a .left) (a .count)) e
-    where
-      plus : (m : ℕ) → m ≡ m + 0
-      plus m = omega arith
-
-  -- a pass that merges nothing is the last, and leaves the sheet
-  run-last : (s : Sheet) → coarseSheet b 1 s .count ≡ 0 → (eqb (passCount b s) 0 ≡ true) × (coarseSheet b 1 s .left ≡ s)
-  unfolding bandPass
-  run-last s = go (eqb (passCount b s) 0) refl
-    where
-      go : (x : Bool) → eqb (passCount b s) 0 ≡ x
-          → (elim x as (λ y. Answer Sheet) [ true ↦ record { left = s; count = 0 } | false ↦ record { left = passLeaves b s; count = 0 + passCount b s } ]) .count ≡ 0
-          → (x ≡ true) × ((elim x as (λ y. Answer Sheet) [ true ↦ record { left = s; count = 0 } | false ↦ record { left = passLeaves b s; count = 0 + passCount b s } ]) .left ≡ s)
-      go true e h = (refl, refl)
-      go false e h = absurd (eqb-false (passCount b s) 0 e (omega arith))
-
 -- after some passes, of which there may be k over the sheet in P₀, Q₀ and L₀: the slices hold a sheet of d, and `left` passes over it end as all do
-pub record Running (b : Band) (k : ℕ) (c : Counts) (P₀ : List Float) (Q₀ L₀ w₀ : List ℕ) (z₀ : List Float) (d : Counts) (P : List Float) (Q L w : List ℕ) (z : List Float) (total left : ℕ) : Type 0 where
-  pub ready : Coarsenable b d P Q L w (length z)
+pub record Running (s : Setting) (k : ℕ) (c : Counts) (P₀ : List Float) (Q₀ L₀ w₀ : List ℕ) (z₀ : List Float) (d : Counts) (P : List Float) (Q L w : List ℕ) (z : List Float) (total left : ℕ) : Type 0 where
+  pub ready : Coarsenable left d P Q L w (length z)
   pub points : length P ≡ length P₀
   pub quads : length Q ≡ length Q₀
   pub labelled : length L ≡ length L₀
@@ -64,64 +29,67 @@ pub record Running (b : Band) (k : ℕ) (c : Counts) (P₀ : List Float) (Q₀ L
   pub floats : length z ≡ length z₀
   pub few : c .quads ≤ limit
   pub gone : total + d .quads ≡ c .quads
-  pub same : runFrom b left (sheetOf d P Q L) total ≡ coarseSheet b k (sheetOf c P₀ Q₀ L₀)
+  pub same : runFrom s left (sheetOf d P Q L) total ≡ coarseSheet s k (sheetOf c P₀ Q₀ L₀)
 
-pub running-start : {b : Band} {k : ℕ} {c : Counts} {P : List Float} {Q L w : List ℕ} (z : List Float) → Coarsenable b c P Q L w (length z) → Running b k c P Q L w z c P Q L w z 0 k
-unfolding bandPass
+pub running-start : {s : Setting} {k : ℕ} {c : Counts} {P : List Float} {Q L w : List ℕ} (z : List Float) → Coarsenable k c P Q L w (length z) → Running s k c P Q L w z c P Q L w z 0 k
 running-start z A = record { ready = A; points = refl; quads = refl; labelled = refl; work = refl; floats = refl; few = A .sheet .few .quads≤; gone = omega arith; same = refl }
 
-module _ {b : Band} {k : ℕ} {c : Counts} {P₀ : List Float} {Q₀ L₀ w₀ : List ℕ} {z₀ : List Float} {d : Counts} {P : List Float} {Q L w : List ℕ} {z : List Float} {total left : ℕ}
-    (G : Running b k c P₀ Q₀ L₀ w₀ z₀ d P Q L w z total left) where
+module _ {s : Setting} {k : ℕ} {c : Counts} {P₀ : List Float} {Q₀ L₀ w₀ : List ℕ} {z₀ : List Float} {d : Counts} {P : List Float} {Q L w : List ℕ} {z : List Float} {total left : ℕ}
+    (G : Running s k c P₀ Q₀ L₀ w₀ z₀ d P Q L w z total left) where
   -- the sheet now
   abbrev now-held : Sheet
   now-held = sheetOf d P Q L
 
   -- no pass is left
-  pub running-end : left ≤ 0 → Remains (coarseSheet b k (sheetOf c P₀ Q₀ L₀)) (record { count = total; sheet = d }) P Q L
+  pub running-end : left ≤ 0 → Remains (coarseSheet s k (sheetOf c P₀ Q₀ L₀)) (record { count = total; sheet = d }) P Q L
   running-end h =
       let n : left ≡ 0 = omega arith in
-      let e : record { left = now-held; count = total } ≡ coarseSheet b k (sheetOf c P₀ Q₀ L₀) = ap (λ (l : ℕ). runFrom b l now-held total) (sym n) ∙ G .same in
+      let e : record { left = now-held; count = total } ≡ coarseSheet s k (sheetOf c P₀ Q₀ L₀) = ap (λ (l : ℕ). runFrom s l now-held total) (sym n) ∙ G .same in
       record {
-        count = ap (λ (a : Answer Sheet). a .count) e;
-        sheet = ap (λ (a : Answer Sheet). a .left) e;
+        count = ap (λ (a : RunEnd Sheet). a .count) e;
+        sheet = ap (λ (a : RunEnd Sheet). a .left) e;
         room = record { points = G .ready .sheet .points; quads = G .ready .sheet .quads; labels = G .ready .sheet .labels };
       }
 
-  -- one pass more
-  module _ {m : Merged} {P′ : List Float} {Q′ L′ : List ℕ} (D : Remains (coarseSheet b 1 now-held) m P′ Q′ L′) where
-    next-fine : Fine (coarseSheet b 1 now-held .left)
-    next-fine = coarse-fine (mergeFits b) (mergePosition b) (merge-finite b) 1 now-held (fine (G .ready))
+  -- the next pass may be made
+  pub running-next : 0 < left → Coarsenable 1 d P Q L w (length z)
+  running-next h = record { sheet = G .ready .sheet; work = G .ready .work; accepted = λ o. G .ready .accepted h }
 
-    next-counts : countsOf (coarseSheet b 1 now-held .left) ≡ m .sheet
+  -- one pass more
+  module _ {m : Tally} {P′ : List Float} {Q′ L′ : List ℕ} (h : 0 < left) (D : Remains (coarseSheet s 1 now-held) m P′ Q′ L′) where
+    now-fine : Fine now-held
+    now-fine = fine (running-next h)
+
+    next-counts : countsOf (coarseSheet s 1 now-held .left) ≡ m .sheet
     next-counts = ap countsOf (sym (D .sheet)) ∙ counts-of (m .sheet) P′ Q′ L′ (D .room .labels)
 
     few-points : m .sheet .points ≤ d .points
-    few-points = omega (arith, coarse-fewer (mergeFits b) (mergePosition b) (merge-finite b) 1 now-held (fine (G .ready)) .0, ap (λ (x : Counts). x .points) next-counts, length-points (d .points) P)
+    few-points = omega (arith, passes-fewer s 1 now-held now-fine .0, ap (λ (x : Counts). x .points) next-counts, length-points (d .points) P)
 
     less-quads : m .sheet .quads + m .count ≡ d .quads
-    less-quads = omega (arith, coarse-fewer (mergeFits b) (mergePosition b) (merge-finite b) 1 now-held (fine (G .ready)) .1, ap (λ (x : Counts). x .quads) next-counts, D .count, length-quads (d .quads) Q)
+    less-quads = omega (arith, passes-fewer s 1 now-held now-fine .1, ap (λ (x : Counts). x .quads) next-counts, D .count, length-quads (d .quads) Q)
 
     same-labels : m .sheet .labels ≡ m .sheet .quads
-    same-labels = omega (arith, ap (λ (x : Counts). x .labels) next-counts, ap (λ (x : Counts). x .quads) next-counts, next-fine .labelled)
+    same-labels = omega (arith, ap (λ (x : Counts). x .labels) next-counts, ap (λ (x : Counts). x .quads) next-counts, passes-fine s 1 now-held now-fine .labelled)
 
     -- no more merges than quads
     pub total-fits : total + m .count ≤ limit
     total-fits = omega (arith, less-quads, G .gone, G .few)
 
     -- it merges nothing
-    pub running-none : m .count ≡ 0 → Remains (coarseSheet b k (sheetOf c P₀ Q₀ L₀)) (record { count = total; sheet = m .sheet }) P′ Q′ L′
+    pub running-none : m .count ≡ 0 → Remains (coarseSheet s k (sheetOf c P₀ Q₀ L₀)) (record { count = total; sheet = m .sheet }) P′ Q′ L′
     running-none e =
-        let l = run-last b now-held (sym (D .count) ∙ e) in
-        let a : record { left = now-held; count = total } ≡ coarseSheet b k (sheetOf c P₀ Q₀ L₀) = sym (idle (passCount b) (passLeaves b) left now-held total (l .0)) ∙ G .same in
+        let l = run-last s left now-held total (sym (D .count) ∙ e) in
+        let a : record { left = now-held; count = total } ≡ coarseSheet s k (sheetOf c P₀ Q₀ L₀) = sym (l .0) ∙ G .same in
         record {
-          count = ap (λ (x : Answer Sheet). x .count) a;
-          sheet = D .sheet ∙ l .1 ∙ ap (λ (x : Answer Sheet). x .left) a;
+          count = ap (λ (x : RunEnd Sheet). x .count) a;
+          sheet = D .sheet ∙ l .1 ∙ ap (λ (x : RunEnd Sheet). x .left) a;
           room = D .room;
         }
 
-    pub running-more : {w′ : List ℕ} {z′ : List Float} → 0 < left → length P′ ≡ length P → length Q′ ≡ length Q → length L′ ≡ length L → length w′ ≡ length w → length z′ ≡ length z
-        → Running b k c P₀ Q₀ L₀ w₀ z₀ (m .sheet) P′ Q′ L′ w′ z′ (total + m .count) (left - 1)
-    running-more {w′} {z′} h lp lq ll lw lz = record {
+    pub running-more : {w′ : List ℕ} {z′ : List Float} → length P′ ≡ length P → length Q′ ≡ length Q → length L′ ≡ length L → length w′ ≡ length w → length z′ ≡ length z
+        → Running s k c P₀ Q₀ L₀ w₀ z₀ (m .sheet) P′ Q′ L′ w′ z′ (total + m .count) (left - 1)
+    running-more {w′} {z′} lp lq ll lw lz = record {
       ready = record {
         sheet = record {
           few = record {
@@ -134,7 +102,7 @@ module _ {b : Band} {k : ℕ} {c : Counts} {P₀ : List Float} {Q₀ L₀ w₀ :
           labels = D .room .labels;
         };
         work = record { work = omega (arith, few-points, less-quads, G .ready .work .work); floats = omega (arith, few-points, less-quads, G .ready .work .floats) };
-        accepted = rw (D .sheet) (passes-accepted b 1 now-held (fine (G .ready)) (G .ready .accepted));
+        accepted = λ o. rw (D .sheet) (passes-accepted s 1 now-held now-fine);
       };
       points = lp ∙ G .points;
       quads = lq ∙ G .quads;
@@ -144,6 +112,6 @@ module _ {b : Band} {k : ℕ} {c : Counts} {P₀ : List Float} {Q₀ L₀ w₀ :
       few = G .few;
       gone = omega (arith, less-quads, G .gone);
       same =
-          let n : left ≡ 1 + (left - 1) = omega arith in
-          ap₂ (λ (s : Sheet) (x : ℕ). runFrom b (left - 1) s (total + x)) (D .sheet) (D .count) ∙ sym (run-next b (left - 1) now-held total) ∙ ap (λ (l : ℕ). runFrom b l now-held total) (sym n) ∙ G .same;
+          let n : left ≡ suc (left - 1) = omega arith in
+          ap₂ (λ (t : Sheet) (x : ℕ). runFrom s (left - 1) t (total + x)) (D .sheet) (D .count) ∙ sym (run-next s (left - 1) now-held total) ∙ ap (λ (l : ℕ). runFrom s l now-held total) (sym n) ∙ G .same;
     }

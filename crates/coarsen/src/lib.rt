@@ -1,17 +1,19 @@
 // The merged sheet: `coarsen`, passes of merges until one merges nothing.
 
 use band::Band;
-use rule_coarsen::Coarsened;
-use rule_coarsen::Merged;
+use rule_sheet::Answer;
 use rule_sheet::Counts;
+use rule_sheet::Tally;
 use rule_sheet::Verdict;
 ghost use mathlib.Core.Path.{_≡_};
-ghost use lib.ListN.{length, replicate};
-ghost use Rattle.numeric.specs.Num.{zeroF};
+ghost use lib.ListN.{length};
 ghost use Rattle.band.specs.Bands.{lengthOf};
+ghost use Rattle.setting.specs.Settings.{settingOf};
 ghost use Rattle.rule_sheet.specs.Sheet.{sheetOf};
-ghost use Rattle.rule_coarsen.specs.Rule.{coarseSheet, coarsenRule, Leaves};
-ghost use Rattle.coarsen.specs.Passes.{Coarsenable, Remains, Finds};
+ghost use Rattle.rule_sheet.specs.Lent.{lentOf, workOf, workWith};
+ghost use Rattle.rule_sheet.specs.Results.{Alters, Cleared};
+ghost use Rattle.rule_coarsen.specs.Rule.{coarseSheet, coarsenVerdict, coarsenRule};
+ghost use Rattle.coarsen.specs.Passes.{Coarsenable, Remains};
 
 // Where the numbers of the renumbering stand in the work slice, in units of points and quads together.
 const NUMBERS: usize = 24;
@@ -26,17 +28,17 @@ fn merge_once(
     labels: &mut [u8],
     w: &mut [u32],
     floats: &mut [f64],
-) -> Merged
-    requires { ⌜ Coarsenable b c (now points) (now quads) (now labels) (now w) (length (now floats)) ⌝ }
+) -> Tally
+    requires { ⌜ Coarsenable 1 c (now points) (now quads) (now labels) (now w) (length (now floats)) ⌝ }
     requires { ⌜ len ≡ lengthOf b ⌝ }
-    ensures { λ r. ⌜ Remains (coarseSheet b 1 (sheetOf c (now (points .entry)) (now (quads .entry))
+    ensures { λ r. ⌜ Remains (coarseSheet (settingOf b) 1 (sheetOf c (now (points .entry)) (now (quads .entry))
         (now (labels .entry)))) r (now (points .exit)) (now (quads .exit)) (now (labels .exit)) ⌝ }
 {
     let np = c.points;
     let nq = c.quads;
     let count = coarsen_pass::merge_pass(np, nq, b, len, points, quads, labels, w);
     if count == 0 {
-        return Merged { count, sheet: c };
+        return Tally { count, sheet: c };
     }
     let n = np + nq;
     let sheet = coarsen_compact::compact(
@@ -50,10 +52,10 @@ fn merge_once(
         w,
         floats,
     );
-    Merged { count, sheet }
+    Tally { count, sheet }
 }
 
-// At most some passes over an accepted sheet, until one merges nothing.
+// At most some passes over a sheet that their tests accept, until one merges nothing.
 fn merge_passes(
     b: Band,
     passes: usize,
@@ -63,9 +65,9 @@ fn merge_passes(
     labels: &mut [u8],
     w: &mut [u32],
     floats: &mut [f64],
-) -> Merged
-    requires { ⌜ Coarsenable b c (now points) (now quads) (now labels) (now w) (length (now floats)) ⌝ }
-    ensures { λ r. ⌜ Remains (coarseSheet b passes (sheetOf c (now (points .entry)) (now (quads .entry))
+) -> Tally
+    requires { ⌜ Coarsenable passes c (now points) (now quads) (now labels) (now w) (length (now floats)) ⌝ }
+    ensures { λ r. ⌜ Remains (coarseSheet (settingOf b) passes (sheetOf c (now (points .entry)) (now (quads .entry))
         (now (labels .entry)))) r (now (points .exit)) (now (quads .exit)) (now (labels .exit)) ⌝ }
 {
     let len = band::length(b);
@@ -76,7 +78,7 @@ fn merge_passes(
         let m = merge_once(b, len, sheet, points, quads, labels, w, floats);
         sheet = m.sheet;
         if m.count == 0 {
-            return Merged {
+            return Tally {
                 count: total,
                 sheet,
             };
@@ -84,10 +86,30 @@ fn merge_passes(
         total += m.count;
         left -= 1;
     }
-    Merged {
+    Tally {
         count: total,
         sheet,
     }
+}
+
+// The tests before the passes: 12 and 13 alone if there is none, else all.
+fn coarsen_verdict(
+    b: Band,
+    passes: usize,
+    c: Counts,
+    points: &[f64],
+    quads: &[u32],
+    labels: &[u8],
+    w: &mut [u32],
+    floats: usize,
+) -> Verdict
+    ensures { λ r. ⌜ r ≡ coarsenVerdict (settingOf b) passes (lentOf c (now (points .entry)) (now (quads .entry))
+        (now (labels .entry))) (workWith (length (now (w .entry))) floats) ⌝ }
+{
+    if passes == 0 {
+        return sheet::lent(c, points.len(), quads.len(), labels.len(), w.len(), floats);
+    }
+    admission::admit(b, c, points, quads, labels, 0, w, floats)
 }
 
 // The passes, or the first refusal; the work slices may hold anything.
@@ -100,31 +122,18 @@ fn coarsen_or_refusal(
     labels: &mut [u8],
     work: &mut [u32],
     floats: &mut [f64],
-) -> Coarsened
-    ensures { λ r. ⌜ Finds (now (points .entry)) (now (quads .entry)) (now (labels .entry))
-        (coarsenRule b passes c (now (points .entry)) (now (quads .entry)) (now (labels .entry))
-        (length (now (work .entry))) (length (now (floats .entry)))) r (now (points .exit)) (now (quads .exit))
-        (now (labels .exit)) ⌝ }
+) -> Answer
+    ensures { λ r. ⌜ (let x = lentOf c (now (points .entry)) (now (quads .entry)) (now (labels .entry)) in
+        Alters (coarsenRule (settingOf b) passes x (workOf (now (work .entry)) (now (floats .entry)))) x r
+        (now (points .exit)) (now (quads .exit)) (now (labels .exit))) ⌝ }
 {
-    let lent = sheet::lent(
-        c,
-        points.len(),
-        quads.len(),
-        labels.len(),
-        work.len(),
-        floats.len(),
-    );
-    if let Verdict::Refused(n) = lent {
-        return Coarsened::Refused(n);
+    let v = coarsen_verdict(b, passes, c, points, quads, labels, work, floats.len());
+    if let Verdict::Refused(n) = v {
+        return Answer::Refused(n);
     }
-    if passes == 0 {
-        return Coarsened::Done(Merged { count: 0, sheet: c });
-    }
-    let tested = sheet::constraints(b, c, points, quads, labels, &mut work[..c.points]);
-    if let Verdict::Refused(n) = tested {
-        return Coarsened::Refused(n);
-    }
-    Coarsened::Done(merge_passes(b, passes, c, points, quads, labels, work, floats))
+    let t = merge_passes(b, passes, c, points, quads, labels, work, floats);
+    sheet::clear_unused(t.sheet, points, quads, labels);
+    Answer::Done(t)
 }
 
 // Merges opposite corners of quads, at most so many passes. The sheet is altered in place; the answer has the
@@ -138,18 +147,14 @@ pub fn coarsen(
     labels: &mut [u8],
     work: &mut [u32],
     floats: &mut [f64],
-) -> Coarsened
-    ensures { λ r. ⌜ Leaves (coarsenRule b passes c (now (points .entry)) (now (quads .entry)) (now (labels .entry))
-        (length (now (work .entry))) (length (now (floats .entry)))) (now (points .entry)) (now (quads .entry))
-        (now (labels .entry)) r (now (points .exit)) (now (quads .exit)) (now (labels .exit)) ⌝ }
-    ensures { λ _. ⌜ now (work .exit) ≡ replicate (length (now (work .entry))) 0 ⌝ }
-    ensures { λ _. ⌜ now (floats .exit) ≡ replicate (length (now (floats .entry))) zeroF ⌝ }
+) -> Answer
+    ensures sheet { λ r. ⌜ (let x = lentOf c (now (points .entry)) (now (quads .entry)) (now (labels .entry)) in
+        Alters (coarsenRule (settingOf b) passes x (workOf (now (work .entry)) (now (floats .entry)))) x r
+        (now (points .exit)) (now (quads .exit)) (now (labels .exit))) ⌝ }
+    ensures cleared { λ _. ⌜ Cleared (now (work .entry)) (now (floats .entry)) (now (work .exit))
+        (now (floats .exit)) ⌝ }
 {
     let r = coarsen_or_refusal(b, passes, c, points, quads, labels, work, floats);
     sheet::clear_work(work, floats);
-    let Coarsened::Done(m) = r else {
-        return r;
-    };
-    sheet::clear_unused(m.sheet, points, quads, labels);
     r
 }

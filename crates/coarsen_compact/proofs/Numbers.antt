@@ -24,7 +24,7 @@ use Rattle.rule_sheet.proofs.FirstUse as first-use
 use Rattle.rule_sheet.proofs.Sums.{upto, sum-append}
 use Rattle.sheet.specs.Results.{Front}
 use Rattle.sheet.proofs.Fronts.{front-none, front-filled, front-point, length-with}
-use Rattle.rule_coarsen.proofs.Renumber.{Apart, firsts-apart, firsts-some, sum-by-point}
+use Rattle.rule_coarsen.proofs.Renumber.{OnceEach, firsts-apart, firsts-some, sum-by-point}
 use Rattle.coarsen_compact.specs.Compact.{usedIn, numberIn, pointsIn, Meeting, Numbering}
 use Rattle.lists.specs.Steps.{nth}
 
@@ -105,8 +105,8 @@ upto-ones : (n : ℕ) (f : ℕ → ℕ) → ((v : ℕ) → f v ≤ 1) → upto n
 upto-ones zero f h = zero-le
 upto-ones (suc n) f h = omega (arith, h n, upto-ones n f h)
 
-few-apart : (n : ℕ) (l : List ℕ) → Apart l → ((x : ℕ) → 0 < sum (is x) l → x < n) → length l ≤ n
-unfolding Apart
+few-apart : (n : ℕ) (l : List ℕ) → OnceEach l → ((x : ℕ) → 0 < sum (is x) l → x < n) → length l ≤ n
+unfolding OnceEach
 few-apart n l a b =
     let e = sum-by-point n (λ x. 1) l b in
     let u = upto-ones n (λ v. sum (λ x. cond (eqb v x) 1 0) l) (λ v. omega (arith, sum-is v l, a v)) in
@@ -118,7 +118,7 @@ unfolding usedIn
 used-below np n Q b x h = sum-below np (nth Q) n x b (omega (arith, firsts-some x (tabulate (nth Q) n) [] .0 h))
 
 pub used-few : (np n : ℕ) (Q : List ℕ) → ((i : ℕ) → i < n → getD Q i 0 < np) → length (usedIn Q n) ≤ np
-unfolding usedIn Apart
+unfolding usedIn OnceEach
 used-few np n Q b = few-apart np (usedIn Q n) (firsts-apart (tabulate (nth Q) n) [] (λ x. zero-le)) (used-below np n Q b)
 
 -- ---- the numbers in a region: one more than the number, 0 where none is given

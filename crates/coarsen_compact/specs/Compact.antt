@@ -15,8 +15,9 @@ use Rattle.points.specs.Points.{pointAt}
 use Rattle.rule_sheet.specs.declared.Counts.{Counts}
 use Rattle.rule_sheet.specs.Flat.{flatQuads}
 use Rattle.rule_sheet.specs.FirstUse.{firsts, place}
-use Rattle.rule_sheet.specs.Sheet.{Sheet, limit, pointsOf, flatPoints}
-use Rattle.rule_sheet.specs.Results.{countsOf}
+use Rattle.rule_sheet.specs.Sheet.{Sheet, pointsOf, flatPoints}
+use Rattle.rule_sheet.specs.Lent.{limit}
+use Rattle.rule_sheet.specs.Sheet.{countsOf}
 use Rattle.sheet.specs.Results.{Front}
 use Rattle.incidence.specs.Corners.{Cornered}
 use Rattle.rule_coarsen.specs.Coarse.{compact}

@@ -15,7 +15,7 @@ use Rattle.rule_sheet.specs.Quads.{Quad, quad}
 use Rattle.rule_sheet.specs.Flat.{quadAt, quadsOf}
 use Rattle.rule_sheet.specs.Sheet.{Sheet, pointsOf}
 use Rattle.rule_passes.specs.Choices.{noneQuad, choose, takeOr}
-use Rattle.rule_regularize.proofs.Sweep.{none-some, cond-some, choose-some}
+use Rattle.rule_passes.proofs.Choices.{none-some, cond-some, choose-some}
 use Rattle.rule_coarsen.specs.Merges.{Slot, out, slot}
 use Rattle.rule_coarsen.specs.Coarse.{MergeState, MergeFits, Position, sumBefore, sumAfter, mayMerge, mergedState, tryFace, visit, freshMerge, mergePass}
 use Rattle.rule_coarsen.proofs.MergePass.{slot-inj}

@@ -8,7 +8,8 @@ use lib.ListN.{length, take, replicate}
 use Rattle.lists.specs.Every.{every}
 use Rattle.lists.specs.Regions.{Part, Kept}
 use Rattle.band.specs.declared.Band.{Band}
-use Rattle.rule_sheet.specs.Sheet.{Sheet, limit, pointsOf}
+use Rattle.rule_sheet.specs.Sheet.{Sheet, pointsOf}
+use Rattle.rule_sheet.specs.Lent.{limit}
 use Rattle.sheet.specs.Flat.{Holds}
 use Rattle.sheet.specs.Tests.{goodQuadAt}
 use Rattle.incidence.specs.Corners.{Cornered}

@@ -30,7 +30,7 @@ use Rattle.incidence.specs.Corners.{Cornered}
 use Rattle.incidence.proofs.Marks.{uses-at}
 use Rattle.rule_sheet.specs.Claims.{Below, Differ}
 use Rattle.rule_passes.specs.Choices.{noneQuad, choose, takeOr}
-use Rattle.rule_regularize.proofs.Swap.{sum-at}
+use Rattle.rule_sheet.proofs.Sums.{sum-at}
 use Rattle.rule_coarsen.specs.Merges.{out, slot}
 use Rattle.rule_coarsen.specs.Coarse.{MergeState, mergedState, tryFace}
 use Rattle.rule_coarsen.specs.Invariants.{MInv, Used, slotAt, slotsOf}

@@ -1,2 +1,3 @@
--- `Given`: what the test of a given band leaves.
-pub mod Given
+-- `Told` has the band from what was read of it, `Exports` what an export shows and leaves.
+pub mod Told
+pub mod Exports

@@ -1,16 +1,26 @@
 // How the exports take a band: its field as a kind and ten numbers, its box as six bounds, and two levels; and how
-// they show counts.
+// they show an answer.
 
 use band::Band;
 use field::Coefficients;
 use field::Field;
+use points::Point;
+use rule_sheet::Answer;
 use rule_sheet::Counts;
 use rule_sheet::Verdict;
 ghost use mathlib.Core.Path.{_≡_};
-ghost use Prim.Native.Nat.{_≤_};
-ghost use lib.ListN.{length};
-ghost use Rattle.rule_exports.specs.Answers.{answered};
-ghost use Rattle.rule_exports.specs.Given.{coefficientsOf, fieldOf, bandOf, bandVerdict};
+ghost use mathlib.Core.Bool.{cond};
+ghost use lib.Dec.{ltb};
+ghost use lib.Ieee.{nan};
+ghost use lib.ListN.{getD};
+ghost use Rattle.rule_sheet.specs.declared.Verdict.the-variants.{Accepted, Refused};
+ghost use Rattle.rule_sheet.specs.Numbers.{short};
+ghost use Rattle.rule_sheet.specs.Lent.{roomOf};
+ghost use Rattle.rule_sheet.specs.Outcomes.{refuses};
+ghost use Rattle.rule_sheet.specs.Results.{Makes, Cleared};
+ghost use Rattle.rule_exports.specs.Told.{toldOf, coefficientsOf, fieldOf, bandOf, toldVerdict};
+ghost use Rattle.rule_exports.specs.Exports.{answerNumber, answerCount, Shows};
+ghost use Rattle.export_band.specs.Steps.{countsLeft};
 
 // The numbers of the kinds of field.
 const PLANE: u32 = 0;
@@ -19,22 +29,35 @@ const BALL: u32 = 1;
 
 const QUADRIC: u32 = 2;
 
+// How many numbers a field has, bounds a box, and elements an answer.
+const NUMBERS: usize = 10;
+
+const BOUNDS: usize = 6;
+
+pub const ANSWERS: usize = 4;
+
+// Element i, NaN where there is none.
+pub fn at_or_nan(s: &[f64], i: usize) -> f64
+    ensures { λ r. ⌜ r ≡ getD (now (s .entry)) i nan ⌝ }
+{
+    if i < s.len() { s[i] } else { 0.0 / 0.0 }
+}
+
 // The first ten numbers of a slice.
 pub fn coefficients(k: &[f64]) -> Coefficients
-    requires { ⌜ 10 ≤ length (now k) ⌝ }
     ensures { λ r. ⌜ r ≡ coefficientsOf (now (k .entry)) ⌝ }
 {
     Coefficients {
-        k0: k[0],
-        k1: k[1],
-        k2: k[2],
-        k3: k[3],
-        k4: k[4],
-        k5: k[5],
-        k6: k[6],
-        k7: k[7],
-        k8: k[8],
-        k9: k[9],
+        k0: at_or_nan(k, 0),
+        k1: at_or_nan(k, 1),
+        k2: at_or_nan(k, 2),
+        k3: at_or_nan(k, 3),
+        k4: at_or_nan(k, 4),
+        k5: at_or_nan(k, 5),
+        k6: at_or_nan(k, 6),
+        k7: at_or_nan(k, 7),
+        k8: at_or_nan(k, 8),
+        k9: at_or_nan(k, 9),
     }
 }
 
@@ -53,12 +76,18 @@ pub fn field_of(kind: u32, k: Coefficients) -> Field
 
 // The band of a field and the bounds low x, y, z and high x, y, z.
 pub fn band_of(kind: u32, numbers: &[f64], bounds: &[f64], lower: f64, upper: f64) -> Band
-    requires { ⌜ 10 ≤ length (now numbers) ⌝ }
-    requires { ⌜ 6 ≤ length (now bounds) ⌝ }
-    ensures { λ r. ⌜ r ≡ bandOf kind (now (numbers .entry)) (now (bounds .entry)) lower upper ⌝ }
+    ensures { λ r. ⌜ r ≡ bandOf (toldOf kind (now (numbers .entry)) (now (bounds .entry)) lower upper) ⌝ }
 {
-    let low = points::point_at(bounds, 0);
-    let high = points::point_at(bounds, 1);
+    let low = Point {
+        x: at_or_nan(bounds, 0),
+        y: at_or_nan(bounds, 1),
+        z: at_or_nan(bounds, 2),
+    };
+    let high = Point {
+        x: at_or_nan(bounds, 3),
+        y: at_or_nan(bounds, 4),
+        z: at_or_nan(bounds, 5),
+    };
     let field = field_of(kind, coefficients(numbers));
     Band {
         low,
@@ -69,26 +98,91 @@ pub fn band_of(kind: u32, numbers: &[f64], bounds: &[f64], lower: f64, upper: f6
     }
 }
 
-// 13 for slices of fewer numbers or bounds than a band has, then 1 for a kind that is none.
-pub fn band_verdict(kind: u32, numbers: usize, bounds: usize) -> Verdict
-    ensures { λ r. ⌜ r ≡ bandVerdict kind numbers bounds ⌝ }
+// What comes before an operation: 13 for slices that are too short, of the answer, the numbers or the bounds, then 1
+// for a kind that is none.
+pub fn told_verdict(short: bool, kind: u32, numbers: usize, bounds: usize) -> Verdict
+    ensures { λ r. ⌜ r ≡ toldVerdict short kind numbers bounds ⌝ }
 {
-    if (numbers < 10) | (bounds < 6) {
+    if short | (numbers < NUMBERS) | (bounds < BOUNDS) {
         return Verdict::Refused(sheet::SHORT);
     }
     if QUADRIC < kind {
-        return Verdict::Refused(sheet::BOX);
+        return Verdict::Refused(admission::BOX);
     }
     Verdict::Accepted
 }
 
-// Writes a count and the counts of a sheet.
-pub fn put_answer(answer: &mut [u64], count: u64, c: Counts)
-    requires { ⌜ 4 ≤ length (now answer) ⌝ }
-    ensures { λ _. ⌜ now (answer .exit) ≡ answered count c (now (answer .entry)) ⌝ }
+// 13 for an answer slice of too few elements, of an operation that is told no band.
+pub fn answer_verdict(answers: usize) -> Verdict
+    ensures { λ r. ⌜ r ≡ cond (ltb answers 4) (Refused short) Accepted ⌝ }
 {
+    if answers < ANSWERS {
+        return Verdict::Refused(sheet::SHORT);
+    }
+    Verdict::Accepted
+}
+
+// The number of an answer: 0 if accepted.
+fn answer_number(r: Answer) -> u32
+    ensures { λ n. ⌜ n ≡ answerNumber r ⌝ }
+{
+    match r {
+        Answer::Done(_) => 0,
+        Answer::Refused(n) => n,
+    }
+}
+
+// Its count: 0 if refused.
+fn answer_count(r: Answer) -> usize
+    ensures { λ n. ⌜ n ≡ answerCount r ⌝ }
+{
+    match r {
+        Answer::Done(t) => t.count,
+        Answer::Refused(_) => 0,
+    }
+}
+
+// Writes a count and the counts of a sheet; an answer slice that is too short stays as it came.
+fn put_counts(answer: &mut [u64], count: u64, c: Counts)
+    ensures { λ _. ⌜ now (answer .exit) ≡ countsLeft count c (now (answer .entry)) ⌝ }
+{
+    if answer.len() < ANSWERS {
+        return;
+    }
     answer[0] = count;
     answer[1] = c.points as u64;
     answer[2] = c.quads as u64;
     answer[3] = c.labels as u64;
+}
+
+// Shows an answer: its number, and its counts in the answer slice.
+pub fn put_answer(answer: &mut [u64], r: Answer) -> u32
+    ensures { λ n. ⌜ Shows r (now (answer .entry)) n (now (answer .exit)) ⌝ }
+{
+    put_counts(answer, answer_count(r) as u64, sheet::shown_counts(r));
+    answer_number(r)
+}
+
+// A refusal of an operation that makes a sheet: zeros in its result and work slices.
+pub fn refuse(
+    n: u32,
+    new_points: &mut [f64],
+    new_quads: &mut [u32],
+    new_labels: &mut [u8],
+    work: &mut [u32],
+    floats: &mut [f64],
+) -> Answer
+    ensures { λ r. ⌜ Makes (refuses n) (roomOf (now («new_points» .entry)) (now («new_quads» .entry))
+        (now («new_labels» .entry))) r (now («new_points» .exit)) (now («new_quads» .exit))
+        (now («new_labels» .exit)) ⌝ }
+    ensures { λ _. ⌜ Cleared (now (work .entry)) (now (floats .entry)) (now (work .exit)) (now (floats .exit)) ⌝ }
+{
+    let none = Counts {
+        points: 0,
+        quads: 0,
+        labels: 0,
+    };
+    sheet::clear_unused(none, new_points, new_quads, new_labels);
+    sheet::clear_work(work, floats);
+    Answer::Refused(n)
 }

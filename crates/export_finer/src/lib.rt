@@ -1,64 +1,42 @@
-// The operations that make a sheet, with a band as an export is given it, and what the exports show of their answers.
+// The operations that make a sheet of another, after a test: its refusal, or the operation.
 
+use band::Band;
+use rule_sheet::Answer;
 use rule_sheet::Counts;
-use rule_sheet::Made;
 use rule_sheet::Verdict;
-ghost use mathlib.Core.Path.{_≡_};
-ghost use lib.ListN.{length, replicate};
-ghost use Rattle.numeric.specs.Num.{zeroF};
-ghost use Rattle.rule_sheet.specs.Outcomes.{roomFor};
-ghost use Rattle.rule_sheet.specs.Results.{Leaves};
+ghost use Rattle.setting.specs.Settings.{settingOf};
+ghost use Rattle.rule_sheet.specs.Lent.{lentOf, roomOf, workOf};
+ghost use Rattle.rule_sheet.specs.Outcomes.{afterTest};
+ghost use Rattle.rule_sheet.specs.Results.{Makes, Cleared};
 ghost use Rattle.rule_finer.specs.Finer.{refineRule};
-ghost use Rattle.rule_exports.specs.Exports.{madeNumber, Exports, answerLeft};
-ghost use Rattle.rule_exports.specs.Making.{subdivideBy, rowsBy};
+ghost use Rattle.rule_finer.specs.Subdivide.{subdivideRule};
+ghost use Rattle.rule_rows.specs.Rows.{rowsRule};
 
-// The number of an answer: 0 if accepted.
-pub fn made_number(r: Made) -> u32
-    ensures { λ n. ⌜ n ≡ madeNumber r ⌝ }
-{
-    match r {
-        Made::Done(_) => 0,
-        Made::Refused(n) => n,
-    }
-}
-
-// `refine` with its number and its answer slice: the counts of the finer sheet go to answer[1..4], answer[0] is 0.
-pub fn refine_answered(
+// `refine` after a test.
+pub fn refine_after(
+    v: Verdict,
+    c: Counts,
     points: &[f64],
     quads: &[u32],
     labels: &[u8],
-    c: Counts,
     new_points: &mut [f64],
     new_quads: &mut [u32],
     new_labels: &mut [u8],
     work: &mut [u32],
     floats: &mut [f64],
-    answer: &mut [u64],
-) -> u32
-    ensures { λ r. ⌜ Exports (roomFor (length (now (answer .entry)))
-        (refineRule c (now (points .entry)) (now (quads .entry)) (now (labels .entry)) (length (now (work .entry)))
-        (length (now (floats .entry))) (length (now («new_points» .entry))) (length (now («new_quads» .entry)))
-        (length (now («new_labels» .entry))))) (length (now («new_points» .entry))) (length (now («new_quads» .entry)))
-        (length (now («new_labels» .entry))) r (now («new_points» .exit)) (now («new_quads» .exit))
-        (now («new_labels» .exit)) ⌝ }
-    ensures { λ _. ⌜ now (answer .exit) ≡ answerLeft (refineRule c (now (points .entry)) (now (quads .entry))
-        (now (labels .entry)) (length (now (work .entry))) (length (now (floats .entry)))
-        (length (now («new_points» .entry))) (length (now («new_quads» .entry))) (length (now («new_labels» .entry))))
-        (now (answer .entry)) ⌝ }
-    ensures { λ _. ⌜ now (work .exit) ≡ replicate (length (now (work .entry))) 0 ⌝ }
-    ensures { λ _. ⌜ now (floats .exit) ≡ replicate (length (now (floats .entry))) zeroF ⌝ }
+) -> Answer
+    ensures { λ r. ⌜ (
+        let x = lentOf c (now (points .entry)) (now (quads .entry)) (now (labels .entry)) in
+        let room = roomOf (now («new_points» .entry)) (now («new_quads» .entry)) (now («new_labels» .entry)) in
+        let w = workOf (now (work .entry)) (now (floats .entry)) in
+        Makes (afterTest v (refineRule x w room)) room r
+        (now («new_points» .exit)) (now («new_quads» .exit)) (now («new_labels» .exit))) ⌝ }
+    ensures { λ _. ⌜ Cleared (now (work .entry)) (now (floats .entry)) (now (work .exit)) (now (floats .exit)) ⌝ }
 {
-    if answer.len() < 4 {
-        let none = Counts {
-            points: 0,
-            quads: 0,
-            labels: 0,
-        };
-        sheet::clear_unused(none, new_points, new_quads, new_labels);
-        sheet::clear_work(work, floats);
-        return sheet::SHORT;
+    if let Verdict::Refused(n) = v {
+        return export_band::refuse(n, new_points, new_quads, new_labels, work, floats);
     }
-    let r = refine::refine(
+    refine::refine(
         c,
         points,
         quads,
@@ -68,49 +46,34 @@ pub fn refine_answered(
         new_labels,
         work,
         floats,
-    );
-    export_band::put_answer(answer, 0, sheet::shown_counts(r));
-    made_number(r)
+    )
 }
 
-// `subdivide` with a band as an export is given it.
-fn subdivide_by(
+// `subdivide` after a test.
+pub fn subdivide_after(
+    v: Verdict,
+    b: Band,
+    c: Counts,
     points: &[f64],
     quads: &[u32],
     labels: &[u8],
-    c: Counts,
-    kind: u32,
-    numbers: &[f64],
-    bounds: &[f64],
-    lower: f64,
-    upper: f64,
     new_points: &mut [f64],
     new_quads: &mut [u32],
     new_labels: &mut [u8],
     work: &mut [u32],
     floats: &mut [f64],
-) -> Made
-    ensures { λ r. ⌜ Leaves (subdivideBy (now (points .entry)) (now (quads .entry)) (now (labels .entry)) c kind
-        (now (numbers .entry)) (now (bounds .entry)) lower upper (length (now (work .entry)))
-        (length (now (floats .entry))) (length (now («new_points» .entry))) (length (now («new_quads» .entry)))
-        (length (now («new_labels» .entry)))) (length (now («new_points» .entry))) (length (now («new_quads» .entry)))
-        (length (now («new_labels» .entry))) r (now («new_points» .exit)) (now («new_quads» .exit))
-        (now («new_labels» .exit)) ⌝ }
-    ensures { λ _. ⌜ now (work .exit) ≡ replicate (length (now (work .entry))) 0 ⌝ }
-    ensures { λ _. ⌜ now (floats .exit) ≡ replicate (length (now (floats .entry))) zeroF ⌝ }
+) -> Answer
+    ensures { λ r. ⌜ (
+        let x = lentOf c (now (points .entry)) (now (quads .entry)) (now (labels .entry)) in
+        let room = roomOf (now («new_points» .entry)) (now («new_quads» .entry)) (now («new_labels» .entry)) in
+        let w = workOf (now (work .entry)) (now (floats .entry)) in
+        Makes (afterTest v (subdivideRule (settingOf b) x w room)) room r
+        (now («new_points» .exit)) (now («new_quads» .exit)) (now («new_labels» .exit))) ⌝ }
+    ensures { λ _. ⌜ Cleared (now (work .entry)) (now (floats .entry)) (now (work .exit)) (now (floats .exit)) ⌝ }
 {
-    let v = export_band::band_verdict(kind, numbers.len(), bounds.len());
     if let Verdict::Refused(n) = v {
-        let none = Counts {
-            points: 0,
-            quads: 0,
-            labels: 0,
-        };
-        sheet::clear_unused(none, new_points, new_quads, new_labels);
-        sheet::clear_work(work, floats);
-        return Made::Refused(n);
+        return export_band::refuse(n, new_points, new_quads, new_labels, work, floats);
     }
-    let b = export_band::band_of(kind, numbers, bounds, lower, upper);
     subdivide::subdivide(
         b,
         c,
@@ -125,105 +88,31 @@ fn subdivide_by(
     )
 }
 
-// The same with its number and its answer slice.
-pub fn subdivide_answered(
+// `boundary_rows` after a test.
+pub fn rows_after(
+    v: Verdict,
+    b: Band,
+    c: Counts,
     points: &[f64],
     quads: &[u32],
     labels: &[u8],
-    c: Counts,
-    kind: u32,
-    numbers: &[f64],
-    bounds: &[f64],
-    lower: f64,
-    upper: f64,
     new_points: &mut [f64],
     new_quads: &mut [u32],
     new_labels: &mut [u8],
     work: &mut [u32],
     floats: &mut [f64],
-    answer: &mut [u64],
-) -> u32
-    ensures { λ r. ⌜ Exports (roomFor (length (now (answer .entry)))
-        (subdivideBy (now (points .entry)) (now (quads .entry)) (now (labels .entry)) c kind (now (numbers .entry))
-        (now (bounds .entry)) lower upper (length (now (work .entry))) (length (now (floats .entry)))
-        (length (now («new_points» .entry))) (length (now («new_quads» .entry))) (length (now («new_labels» .entry)))))
-        (length (now («new_points» .entry))) (length (now («new_quads» .entry))) (length (now («new_labels» .entry))) r
-        (now («new_points» .exit)) (now («new_quads» .exit)) (now («new_labels» .exit)) ⌝ }
-    ensures { λ _. ⌜ now (answer .exit) ≡ answerLeft (subdivideBy (now (points .entry)) (now (quads .entry))
-        (now (labels .entry)) c kind (now (numbers .entry)) (now (bounds .entry)) lower upper
-        (length (now (work .entry))) (length (now (floats .entry))) (length (now («new_points» .entry)))
-        (length (now («new_quads» .entry))) (length (now («new_labels» .entry)))) (now (answer .entry)) ⌝ }
-    ensures { λ _. ⌜ now (work .exit) ≡ replicate (length (now (work .entry))) 0 ⌝ }
-    ensures { λ _. ⌜ now (floats .exit) ≡ replicate (length (now (floats .entry))) zeroF ⌝ }
+) -> Answer
+    ensures { λ r. ⌜ (
+        let x = lentOf c (now (points .entry)) (now (quads .entry)) (now (labels .entry)) in
+        let room = roomOf (now («new_points» .entry)) (now («new_quads» .entry)) (now («new_labels» .entry)) in
+        let w = workOf (now (work .entry)) (now (floats .entry)) in
+        Makes (afterTest v (rowsRule (settingOf b) x w room)) room r
+        (now («new_points» .exit)) (now («new_quads» .exit)) (now («new_labels» .exit))) ⌝ }
+    ensures { λ _. ⌜ Cleared (now (work .entry)) (now (floats .entry)) (now (work .exit)) (now (floats .exit)) ⌝ }
 {
-    if answer.len() < 4 {
-        let none = Counts {
-            points: 0,
-            quads: 0,
-            labels: 0,
-        };
-        sheet::clear_unused(none, new_points, new_quads, new_labels);
-        sheet::clear_work(work, floats);
-        return sheet::SHORT;
-    }
-    let r = subdivide_by(
-        points,
-        quads,
-        labels,
-        c,
-        kind,
-        numbers,
-        bounds,
-        lower,
-        upper,
-        new_points,
-        new_quads,
-        new_labels,
-        work,
-        floats,
-    );
-    export_band::put_answer(answer, 0, sheet::shown_counts(r));
-    made_number(r)
-}
-
-// `boundary_rows` with a band as an export is given it.
-fn rows_by(
-    points: &[f64],
-    quads: &[u32],
-    labels: &[u8],
-    c: Counts,
-    kind: u32,
-    numbers: &[f64],
-    bounds: &[f64],
-    lower: f64,
-    upper: f64,
-    new_points: &mut [f64],
-    new_quads: &mut [u32],
-    new_labels: &mut [u8],
-    work: &mut [u32],
-    floats: &mut [f64],
-) -> Made
-    ensures { λ r. ⌜ Leaves (rowsBy (now (points .entry)) (now (quads .entry)) (now (labels .entry)) c kind
-        (now (numbers .entry)) (now (bounds .entry)) lower upper (length (now (work .entry)))
-        (length (now (floats .entry))) (length (now («new_points» .entry))) (length (now («new_quads» .entry)))
-        (length (now («new_labels» .entry)))) (length (now («new_points» .entry))) (length (now («new_quads» .entry)))
-        (length (now («new_labels» .entry))) r (now («new_points» .exit)) (now («new_quads» .exit))
-        (now («new_labels» .exit)) ⌝ }
-    ensures { λ _. ⌜ now (work .exit) ≡ replicate (length (now (work .entry))) 0 ⌝ }
-    ensures { λ _. ⌜ now (floats .exit) ≡ replicate (length (now (floats .entry))) zeroF ⌝ }
-{
-    let v = export_band::band_verdict(kind, numbers.len(), bounds.len());
     if let Verdict::Refused(n) = v {
-        let none = Counts {
-            points: 0,
-            quads: 0,
-            labels: 0,
-        };
-        sheet::clear_unused(none, new_points, new_quads, new_labels);
-        sheet::clear_work(work, floats);
-        return Made::Refused(n);
+        return export_band::refuse(n, new_points, new_quads, new_labels, work, floats);
     }
-    let b = export_band::band_of(kind, numbers, bounds, lower, upper);
     rows::boundary_rows(
         b,
         c,
@@ -236,65 +125,4 @@ fn rows_by(
         work,
         floats,
     )
-}
-
-// The same with its number and its answer slice.
-pub fn rows_answered(
-    points: &[f64],
-    quads: &[u32],
-    labels: &[u8],
-    c: Counts,
-    kind: u32,
-    numbers: &[f64],
-    bounds: &[f64],
-    lower: f64,
-    upper: f64,
-    new_points: &mut [f64],
-    new_quads: &mut [u32],
-    new_labels: &mut [u8],
-    work: &mut [u32],
-    floats: &mut [f64],
-    answer: &mut [u64],
-) -> u32
-    ensures { λ r. ⌜ Exports (roomFor (length (now (answer .entry)))
-        (rowsBy (now (points .entry)) (now (quads .entry)) (now (labels .entry)) c kind (now (numbers .entry))
-        (now (bounds .entry)) lower upper (length (now (work .entry))) (length (now (floats .entry)))
-        (length (now («new_points» .entry))) (length (now («new_quads» .entry))) (length (now («new_labels» .entry)))))
-        (length (now («new_points» .entry))) (length (now («new_quads» .entry))) (length (now («new_labels» .entry))) r
-        (now («new_points» .exit)) (now («new_quads» .exit)) (now («new_labels» .exit)) ⌝ }
-    ensures { λ _. ⌜ now (answer .exit) ≡ answerLeft (rowsBy (now (points .entry)) (now (quads .entry))
-        (now (labels .entry)) c kind (now (numbers .entry)) (now (bounds .entry)) lower upper
-        (length (now (work .entry))) (length (now (floats .entry))) (length (now («new_points» .entry)))
-        (length (now («new_quads» .entry))) (length (now («new_labels» .entry)))) (now (answer .entry)) ⌝ }
-    ensures { λ _. ⌜ now (work .exit) ≡ replicate (length (now (work .entry))) 0 ⌝ }
-    ensures { λ _. ⌜ now (floats .exit) ≡ replicate (length (now (floats .entry))) zeroF ⌝ }
-{
-    if answer.len() < 4 {
-        let none = Counts {
-            points: 0,
-            quads: 0,
-            labels: 0,
-        };
-        sheet::clear_unused(none, new_points, new_quads, new_labels);
-        sheet::clear_work(work, floats);
-        return sheet::SHORT;
-    }
-    let r = rows_by(
-        points,
-        quads,
-        labels,
-        c,
-        kind,
-        numbers,
-        bounds,
-        lower,
-        upper,
-        new_points,
-        new_quads,
-        new_labels,
-        work,
-        floats,
-    );
-    export_band::put_answer(answer, 0, sheet::shown_counts(r));
-    made_number(r)
 }

@@ -6,7 +6,7 @@ use lib.Dec.{ltb}
 use lib.Ieee.{Float, div, ofBits, binary64}
 use lib.ListN.{length}
 use Rattle.field.specs.Fields.{valueOf}
-use Rattle.rule_exports.specs.Given.{coefficientsOf, fieldOf}
+use Rattle.rule_exports.specs.Told.{coefficientsOf, fieldOf}
 
 -- the value of a field at a point, NaN if it has fewer than ten numbers
 unfoldable pub valueAt : ℕ → List Float → Float → Float → Float → Float

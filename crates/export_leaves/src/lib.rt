@@ -135,7 +135,7 @@ pub extern "C" fn leaf_validate(
     if band::validate(export_band::band_of(kind, numbers, bounds, lower, upper)) {
         return ACCEPTED;
     }
-    sheet::BOX
+    admission::BOX
 }
 
 // Tests a sheet that fills its slices; masks has an element for each point.
@@ -151,7 +151,10 @@ fn tested(b: Band, points: &[f64], quads: &[u32], labels: &[u8], masks: &mut [u3
     if masks.len() != c.points {
         return sheet::SHORT;
     }
-    let v = sheet::constraints(b, c, points, quads, labels, masks);
+    if !band::validate(b) {
+        return admission::BOX;
+    }
+    let v = sheet::constraints(c, points, quads, labels, masks);
     match v {
         Verdict::Accepted => ACCEPTED,
         Verdict::Refused(number) => number,

@@ -1,2 +1,2 @@
--- `Assessments` has the laws of the definitions of the same name.
-pub mod Assessments
+-- `Shown` has what an answer shows in its two slices.
+pub mod Shown

@@ -1,22 +1,34 @@
-// `quality` with a band as an export is given it, and what the export shows of its answer.
+// `quality` after a test, and what its export shows of its answer.
 
+use band::Band;
 use rule_quality::report::Assessed;
 use rule_quality::report::Quality;
 use rule_sheet::Counts;
 use rule_sheet::Verdict;
 ghost use mathlib.Core.Path.{_≡_};
+ghost use mathlib.Core.Bool.{_||_};
 ghost use Prim.Native.Nat.{_≤_};
-ghost use lib.ListN.{length, replicate};
-ghost use Rattle.numeric.specs.Num.{zeroF};
+ghost use lib.Dec.{ltb};
+ghost use lib.ListN.{length};
+ghost use Rattle.setting.specs.Settings.{domainOf};
 ghost use Rattle.rule_sheet.specs.Quads.{num};
-ghost use Rattle.export_quality.specs.Assessments.{noQuality};
-ghost use Rattle.rule_exports.specs.Assessments.{countsOf, measuresOf, countsShown, measuresShown, fronted, qualityBy};
-ghost use Rattle.rule_exports.specs.Assessments.{assessedNumber, answersBy, countsLeft, measuresLeft};
+ghost use Rattle.rule_sheet.specs.Lent.{lentOf, workOf};
+ghost use Rattle.rule_sheet.specs.Outcomes.{afterTest};
+ghost use Rattle.rule_sheet.specs.Results.{Cleared};
+ghost use Rattle.rule_quality.specs.Quality.{qualityRule, assessedOf};
+ghost use Rattle.rule_exports.specs.Measured.{qualityCounts, qualityMeasures, countsShown, measuresShown, fronted};
+ghost use Rattle.rule_exports.specs.Measured.{assessedNumber, ShowsMeasures};
+ghost use Rattle.export_quality.specs.Steps.{noQuality};
+
+// How many elements the slices of counts and of measures have.
+const ANSWERS: usize = 10;
+
+const MEASURES: usize = 4;
 
 // Writes the counts of a record, tight and valid.
 fn put_counts(answer: &mut [u64], q: Quality, tight: bool, valid: bool)
     requires { ⌜ 10 ≤ length (now answer) ⌝ }
-    ensures { λ _. ⌜ now (answer .exit) ≡ fronted (countsOf q (num tight) (num valid)) (now (answer .entry)) ⌝ }
+    ensures { λ _. ⌜ now (answer .exit) ≡ fronted (qualityCounts q (num tight) (num valid)) (now (answer .entry)) ⌝ }
 {
     answer[0] = q.quads as u64;
     answer[1] = q.irregular_vertices as u64;
@@ -33,7 +45,7 @@ fn put_counts(answer: &mut [u64], q: Quality, tight: bool, valid: bool)
 // Writes the measures of a record.
 fn put_measures(measures: &mut [f64], q: Quality)
     requires { ⌜ 4 ≤ length (now measures) ⌝ }
-    ensures { λ _. ⌜ now (measures .exit) ≡ fronted (measuresOf q) (now (measures .entry)) ⌝ }
+    ensures { λ _. ⌜ now (measures .exit) ≡ fronted (qualityMeasures q) (now (measures .entry)) ⌝ }
 {
     measures[0] = q.minimum_shape;
     measures[1] = q.shape_size_p05;
@@ -61,11 +73,10 @@ fn no_quality() -> Quality
     }
 }
 
-// Writes what an answer of `quality` shows, and gives its number: 0 if accepted.
-fn put_assessed(answer: &mut [u64], measures: &mut [f64], r: Assessed) -> u32
+// Writes what an answer of `quality` shows into slices that hold it.
+fn put_shown(answer: &mut [u64], measures: &mut [f64], r: Assessed)
     requires { ⌜ 10 ≤ length (now answer) ⌝ }
     requires { ⌜ 4 ≤ length (now measures) ⌝ }
-    ensures { λ n. ⌜ n ≡ assessedNumber r ⌝ }
     ensures { λ _. ⌜ now (answer .exit) ≡ fronted (countsShown r) (now (answer .entry)) ⌝ }
     ensures { λ _. ⌜ now (measures .exit) ≡ fronted (measuresShown r) (now (measures .entry)) ⌝ }
 {
@@ -73,91 +84,63 @@ fn put_assessed(answer: &mut [u64], measures: &mut [f64], r: Assessed) -> u32
         Assessed::Done(q, tight) => {
             put_counts(answer, q, tight, q.is_valid());
             put_measures(measures, q);
-            0
         }
-        Assessed::Refused(n) => {
+        Assessed::Refused(_) => {
             put_counts(answer, no_quality(), false, false);
             put_measures(measures, no_quality());
-            n
         }
     }
 }
 
-// `quality` with a band as an export is given it.
-fn quality_by(
+// The number of an answer: 0 if accepted.
+fn assessed_number(r: Assessed) -> u32
+    ensures { λ n. ⌜ n ≡ assessedNumber r ⌝ }
+{
+    match r {
+        Assessed::Done(_, _) => 0,
+        Assessed::Refused(n) => n,
+    }
+}
+
+// The slices of counts and of measures are too short.
+pub fn is_short(answers: usize, measures: usize) -> bool
+    ensures { λ r. ⌜ r ≡ (ltb answers 10 || ltb measures 4) ⌝ }
+{
+    (answers < ANSWERS) | (measures < MEASURES)
+}
+
+// Shows an answer: its number, its counts and its measures; slices that are too short stay as they came.
+pub fn put_assessed(answer: &mut [u64], measures: &mut [f64], r: Assessed) -> u32
+    ensures { λ n. ⌜ ShowsMeasures r (now (answer .entry)) (now (measures .entry)) n (now (answer .exit))
+        (now (measures .exit)) ⌝ }
+{
+    if is_short(answer.len(), measures.len()) {
+        return assessed_number(r);
+    }
+    put_shown(answer, measures, r);
+    assessed_number(r)
+}
+
+// `quality` after a test: its refusal, or the operation.
+pub fn quality_after(
+    v: Verdict,
+    b: Band,
+    c: Counts,
     points: &[f64],
     quads: &[u32],
     labels: &[u8],
-    c: Counts,
-    kind: u32,
-    numbers: &[f64],
-    bounds: &[f64],
-    lower: f64,
-    upper: f64,
     work: &mut [u32],
     floats: &mut [f64],
 ) -> Assessed
-    ensures { λ r. ⌜ r ≡ qualityBy (now (points .entry)) (now (quads .entry)) (now (labels .entry)) c kind
-        (now (numbers .entry)) (now (bounds .entry)) lower upper (length (now (work .entry)))
-        (length (now (floats .entry))) ⌝ }
-    ensures { λ _. ⌜ now (work .exit) ≡ replicate (length (now (work .entry))) 0 ⌝ }
-    ensures { λ _. ⌜ now (floats .exit) ≡ replicate (length (now (floats .entry))) zeroF ⌝ }
+    ensures { λ r. ⌜ (
+        let x = lentOf c (now (points .entry)) (now (quads .entry)) (now (labels .entry)) in
+        r ≡ assessedOf (afterTest v (qualityRule (domainOf b) x (workOf (now (work .entry))
+        (now (floats .entry)))))) ⌝ }
+    ensures { λ _. ⌜ Cleared (now (work .entry)) (now (floats .entry)) (now (work .exit)) (now (floats .exit)) ⌝ }
 {
-    let v = export_band::band_verdict(kind, numbers.len(), bounds.len());
     if let Verdict::Refused(n) = v {
         sheet::clear_work(work, floats);
         return Assessed::Refused(n);
     }
-    let b = export_band::band_of(kind, numbers, bounds, lower, upper);
     quality::quality(b, c, points, quads, labels, work, floats)
-}
-
-// The same with its number and its two slices for the answer.
-pub fn quality_answered(
-    points: &[f64],
-    quads: &[u32],
-    labels: &[u8],
-    c: Counts,
-    kind: u32,
-    numbers: &[f64],
-    bounds: &[f64],
-    lower: f64,
-    upper: f64,
-    work: &mut [u32],
-    floats: &mut [f64],
-    answer: &mut [u64],
-    measures: &mut [f64],
-) -> u32
-    ensures { λ r. ⌜ r ≡ answersBy (length (now (answer .entry))) (length (now (measures .entry)))
-        (qualityBy (now (points .entry)) (now (quads .entry)) (now (labels .entry)) c kind (now (numbers .entry))
-        (now (bounds .entry)) lower upper (length (now (work .entry))) (length (now (floats .entry)))) ⌝ }
-    ensures { λ _. ⌜ now (answer .exit) ≡ countsLeft (length (now (measures .entry)))
-        (qualityBy (now (points .entry)) (now (quads .entry)) (now (labels .entry)) c kind (now (numbers .entry))
-        (now (bounds .entry)) lower upper (length (now (work .entry))) (length (now (floats .entry))))
-        (now (answer .entry)) ⌝ }
-    ensures { λ _. ⌜ now (measures .exit) ≡ measuresLeft (length (now (answer .entry)))
-        (qualityBy (now (points .entry)) (now (quads .entry)) (now (labels .entry)) c kind (now (numbers .entry))
-        (now (bounds .entry)) lower upper (length (now (work .entry))) (length (now (floats .entry))))
-        (now (measures .entry)) ⌝ }
-    ensures { λ _. ⌜ now (work .exit) ≡ replicate (length (now (work .entry))) 0 ⌝ }
-    ensures { λ _. ⌜ now (floats .exit) ≡ replicate (length (now (floats .entry))) zeroF ⌝ }
-{
-    if (answer.len() < 10) | (measures.len() < 4) {
-        sheet::clear_work(work, floats);
-        return sheet::SHORT;
-    }
-    let r = quality_by(
-        points,
-        quads,
-        labels,
-        c,
-        kind,
-        numbers,
-        bounds,
-        lower,
-        upper,
-        work,
-        floats,
-    );
-    put_assessed(answer, measures, r)
 }

@@ -1,7 +1,7 @@
 -- The stages of extraction, from its last tests to the outcome of its rule. Assumes nothing.
 use Prim.Native.Nat.{ℕ, _+_, _*_, _≤_, _<_}
 use mathlib.Core.Path.{_≡_, refl, sym, ap, _∙_}
-use mathlib.Core.Bool.{Bool, true, false, cond}
+use mathlib.Core.Bool.{Bool, true, false, cond, _||_}
 use mathlib.Core.List.{List}
 use native.Mathlib.Omega.{arith}
 use native.Mathlib.Nat.{mul-le-mul-right}
@@ -15,21 +15,22 @@ use Rattle.lists.specs.Sort.{tabulate}
 use Rattle.lists.specs.Every.{every}
 use Rattle.lists.proofs.Laws.{length-tab, getD-tab}
 use Rattle.lists.proofs.Every.{and-right, every-ext}
-use Rattle.band.specs.declared.Band.{Band}
 use Rattle.band.specs.Bands.{validOf}
+use Rattle.setting.specs.Settings.{Domain, bandIn}
 use Rattle.rule_sheet.specs.declared.Counts.{Counts}
 use Rattle.rule_sheet.specs.Flat.{quadsOf, flatQuads}
 use Rattle.sheet.specs.Flat.{Holds}
 use Rattle.rule_sheet.specs.Edges.{joinTo}
 use Rattle.rule_sheet.specs.Tests.{goodCorners, goodMasks}
-use Rattle.rule_sheet.specs.Sheet.{Sheet, sheetOf, pointsOf, flatPoints, isLarge, isShort, isBare}
+use Rattle.rule_sheet.specs.Sheet.{Sheet, sheetOf, countsOf, pointsOf, flatPoints, isBare}
+use Rattle.rule_sheet.specs.Lent.{Room, Work, roomWith, workWith, isLarge, isShort}
 use Rattle.sheet.specs.Sheet.{bareBy, LentSheet}
 use Rattle.sheet.proofs.Flat.{length-quads}
 use Rattle.sheet.proofs.Tests.{or-left, or-right, holds-of, length-points, bare-is, labels-match, holds-quads}
-use Rattle.rule_sheet.specs.declared.Made.{Made}
-use Rattle.rule_sheet.specs.declared.Made.the-variants.{Done}
+use Rattle.rule_sheet.specs.declared.Answer.{Answer}
+use Rattle.rule_sheet.specs.declared.Answer.the-variants.{Done, Refused}
 use Rattle.rule_sheet.specs.Outcomes.{Outcome, refuses, gives}
-use Rattle.rule_sheet.specs.Results.{countsOf, answerOf}
+use Rattle.rule_sheet.specs.Results.{answerOf, made}
 use Rattle.sheet.specs.Results.{Front, Fills}
 use Rattle.sheet.proofs.Results.{refused-fills}
 use Rattle.sheet.proofs.Fronts.{points-front, quads-front}
@@ -54,7 +55,7 @@ cube m h =
 -- ---- 5 and 7, of a sheet that its slices hold
 
 module _ (c : Counts) (P : List Float) (Q labels : List ℕ) (L : LentSheet c (length P) (length Q) (length labels)) where
-  pub tested-bare : bareBy c P ≡ true → answerOf (refuses 5) ≡ answerOf (testedOr (sheetOf c P Q labels))
+  pub tested-bare : bareBy c P ≡ true → Refused 5 ≡ answerOf (made (testedOr (sheetOf c P Q labels)))
   unfolding testedOr
   tested-bare e = rw (← bare-is c P Q labels (L .labels), e)
 
@@ -70,11 +71,11 @@ module _ (c : Counts) (P : List Float) (Q labels : List ℕ) (L : LentSheet c (l
       good-is : goodMasks (length (pointsOf (c .points) P)) (quadsOf (c .quads) Q) (take (c .labels) labels) ≡ r
       good-is = rw (length-points (c .points) P, labels-match c P e) (sym (rw (length-take-le (c .points) w h) at k))
 
-      pub tested-done : r ≡ true → Done c ≡ answerOf (testedOr (sheetOf c P Q labels))
+      pub tested-done : r ≡ true → Done (record { count = 0; sheet = c }) ≡ answerOf (made (testedOr (sheetOf c P Q labels)))
       unfolding testedOr
-      tested-done t = rw (← bare-is c P Q labels (L .labels), e, good-is, t) (ap Done (sym counts-read))
+      tested-done t = rw (← bare-is c P Q labels (L .labels), e, good-is, t) (ap (λ (k : Counts). Done (record { count = 0; sheet = k })) (sym counts-read))
 
-      pub tested-clash : r ≡ false → answerOf (refuses 7) ≡ answerOf (testedOr (sheetOf c P Q labels))
+      pub tested-clash : r ≡ false → Refused 7 ≡ answerOf (made (testedOr (sheetOf c P Q labels)))
       unfolding testedOr
       tested-clash t = rw (← bare-is c P Q labels (L .labels), e, good-is, t)
 
@@ -95,15 +96,15 @@ module _ (s : Sheet) (c : Counts) (A : List Float) (B D : List ℕ) (e : c ≡ c
       let z : take (c .labels) D ≡ s .labels = ap (λ (t : Sheet). t .labels) read-is in
       rw (y, z, ap (λ (k : Counts). k .points) e) h
 
-  by : (b m : Bool) → let o = cond b (refuses 5) (cond m (gives s) (refuses 7)) in Fills o (answerOf o) A B D
+  by : (b m : Bool) → let o = cond b (refuses 5) (cond m (gives s) (refuses 7)) in Fills o (answerOf (made o)) A B D
   by true m = refused-fills 5 A B D
   by false true = record { answer = refl; points = F .0; quads = F .1 .0; labelled = F .1 .1 }
   by false false = refused-fills 7 A B D
 
-  tested-fills : (r : Made) → r ≡ answerOf (testedOr (sheetOf c A B D)) → Fills (testedOr s) r A B D
+  tested-fills : (r : Answer) → r ≡ answerOf (made (testedOr (sheetOf c A B D))) → Fills (testedOr s) r A B D
   unfolding testedOr
   tested-fills r q =
-      let a : r ≡ answerOf (testedOr s) = q ∙ ap (λ (t : Sheet). answerOf (testedOr t)) read-is in
+      let a : r ≡ answerOf (made (testedOr s)) = q ∙ ap (λ (t : Sheet). answerOf (made (testedOr t))) read-is in
       rw a (by (isBare s) (goodMasks (length (s .points)) (s .quads) (s .labels)))
 
 -- ---- the sheet and its counts
@@ -120,29 +121,28 @@ corners-good g n = drawn-good g n
 
 -- ---- the result's 13
 
-module _ (g : Grid) (n : ℕ) (c : Counts) (e : c ≡ countsOf (drawnSheet g n)) (p q l : ℕ) where
-  pub drawn-large : (A : List Float) (B D : List ℕ) → isLarge c ≡ true → Fills (drawnOr (drawnSheet g n) p q l) (answerOf (refuses 13)) A B D
-  drawn-large A B D h = rw (← e, h) (refused-fills 13 A B D)
+module _ (g : Grid) (n : ℕ) (c : Counts) (e : c ≡ countsOf (drawnSheet g n)) (p q l : ℕ) (o : Bool) (u : o ≡ (isLarge c || isShort c (roomWith p q l))) where
+  pub drawn-over : (A : List Float) (B D : List ℕ) → o ≡ true → Fills (drawnOr (drawnSheet g n) (roomWith p q l)) (Refused 13) A B D
+  drawn-over A B D h = rw (← e, ← u, h) (refused-fills 13 A B D)
 
-  module _ (h : isLarge c ≡ false) where
-    pub drawn-short : (A : List Float) (B D : List ℕ) → isShort c p q l ≡ true → Fills (drawnOr (drawnSheet g n) p q l) (answerOf (refuses 13)) A B D
-    drawn-short A B D k = rw (← e, h, k) (refused-fills 13 A B D)
+  module _ (h : o ≡ false) where
+    holds : LentSheet c p q l
+    holds = let k = sym u ∙ h in holds-of c p q l (or-left _ _ k) (or-right (isLarge c) _ k)
 
-    module _ (k : isShort c p q l ≡ false) where
-      pub drawn-room : LentSheet (countsOf (drawnSheet g n)) p q l
-      drawn-room = rw (← e) (holds-of c p q l h k)
+    pub drawn-room : LentSheet (countsOf (drawnSheet g n)) p q l
+    drawn-room = rw (← e) holds
 
-      -- what the tests of the drawn sheet ask
-      pub tested-ready : (A : List Float) (B D : List ℕ) (w v : ℕ) → length A ≡ p → length B ≡ q → length D ≡ l → w ≡ v
-          → Front (flatPoints (drawnSheet g n .points)) A × (Front (flatQuads (drawnSheet g n .quads)) B × Front (drawnSheet g n .labels) D)
-          → 12 * (n * n * n) ≤ v → c .points ≤ 12 * (n * n * n)
-          → LentSheet c (length A) (length B) (length D) × ((c .points ≤ w) × (goodCorners (c .points) (quadsOf (c .quads) B) (take (c .labels) D) ≡ true))
-      tested-ready A B D w v ep eq el ew F i j = (rw (ep, eq, el) (holds-of c p q l h k), (omega arith, corners-read (drawnSheet g n) c A B D e F (corners-good g n)))
+    -- what the tests of the drawn sheet ask
+    pub tested-ready : (A : List Float) (B D : List ℕ) (w v : ℕ) → length A ≡ p → length B ≡ q → length D ≡ l → w ≡ v
+        → Front (flatPoints (drawnSheet g n .points)) A × (Front (flatQuads (drawnSheet g n .quads)) B × Front (drawnSheet g n .labels) D)
+        → 12 * (n * n * n) ≤ v → c .points ≤ 12 * (n * n * n)
+        → LentSheet c (length A) (length B) (length D) × ((c .points ≤ w) × (goodCorners (c .points) (quadsOf (c .quads) B) (take (c .labels) D) ≡ true))
+    tested-ready A B D w v ep eq el ew F i j = (rw (ep, eq, el) holds, (omega arith, corners-read (drawnSheet g n) c A B D e F (corners-good g n)))
 
-      pub drawn-tested : (A : List Float) (B D : List ℕ) (r : Made) → Front (flatPoints (drawnSheet g n .points)) A × (Front (flatQuads (drawnSheet g n .quads)) B × Front (drawnSheet g n .labels) D)
-          → r ≡ answerOf (testedOr (sheetOf c A B D)) → Fills (drawnOr (drawnSheet g n) p q l) r A B D
-      unfolding testedOr
-      drawn-tested A B D r F u = rw (← e, h, k) (tested-fills (drawnSheet g n) c A B D e F r u)
+    pub drawn-tested : (A : List Float) (B D : List ℕ) (r : Answer) → Front (flatPoints (drawnSheet g n .points)) A × (Front (flatQuads (drawnSheet g n .quads)) B × Front (drawnSheet g n .labels) D)
+        → r ≡ answerOf (made (testedOr (sheetOf c A B D))) → Fills (drawnOr (drawnSheet g n) (roomWith p q l)) r A B D
+    unfolding testedOr
+    drawn-tested A B D r F t = rw (← e, ← u, h) (tested-fills (drawnSheet g n) c A B D e F r t)
 
 -- ---- 4
 
@@ -159,12 +159,12 @@ module _ (g : Grid) (m : ℕ) (F : List Float) (e : F ≡ tabulate (sampleAt g m
   pub finite-are : every (finiteIn F) (length F) ≡ finiteSamples g m
   finite-are = rw many (every-ext (finiteIn F) (finiteSample g m) (m * m * m) (λ t h. ap finiteOf (at t h)))
 
-module _ (g : Grid) (n p q l : ℕ) (A : List Float) (B D : List ℕ) where
-  pub sampled-refused : finiteSamples g (n + 1) ≡ false → Fills (sampledOr g n p q l) (answerOf (refuses 4)) A B D
+module _ (g : Grid) (n : ℕ) (room : Room) (A : List Float) (B D : List ℕ) where
+  pub sampled-refused : finiteSamples g (n + 1) ≡ false → Fills (sampledOr g n room) (Refused 4) A B D
   unfolding sampledOr
   sampled-refused e = rw e (refused-fills 4 A B D)
 
-  pub sampled-drawn : (r : Made) → finiteSamples g (n + 1) ≡ true → Fills (drawnOr (drawnSheet g n) p q l) r A B D → Fills (sampledOr g n p q l) r A B D
+  pub sampled-drawn : (r : Answer) → finiteSamples g (n + 1) ≡ true → Fills (drawnOr (drawnSheet g n) room) r A B D → Fills (sampledOr g n room) r A B D
   unfolding sampledOr
   sampled-drawn r e F = rw e F
 
@@ -174,49 +174,49 @@ pub few-cells : (cells : ℕ) → goodCells cells ≡ true → cells ≤ 128
 few-cells cells h = leb-true cells 128 (and-right (leb 4 cells) (leb cells 128) h)
 
 -- the work slices hold the samples and the slots
-pub record Room (cells w f : ℕ) : Type 0 where
+pub record CellsFit (cells : ℕ) (w : Work) : Type 0 where
   pub few : cells ≤ 128
-  pub floats : (cells + 3) * (cells + 3) * (cells + 3) ≤ f
-  pub work : 12 * ((cells + 2) * (cells + 2) * (cells + 2)) ≤ w
+  pub floats : (cells + 3) * (cells + 3) * (cells + 3) ≤ w .floats
+  pub work : 12 * ((cells + 2) * (cells + 2) * (cells + 2)) ≤ w .numbers
 
-pub room-of : (cells w f : ℕ) → goodCells cells ≡ true → shortWork cells w f ≡ false → Room cells w f
-room-of cells w f h k = record {
+pub cells-fit : (cells : ℕ) (w : Work) → goodCells cells ≡ true → shortWork cells w ≡ false → CellsFit cells w
+cells-fit cells w h k = record {
   few = few-cells cells h;
-  floats = ltb-false f _ (or-left _ _ k);
-  work = ltb-false w _ (or-right (ltb f ((cells + 3) * (cells + 3) * (cells + 3))) _ k);
+  floats = ltb-false (w .floats) _ (or-left _ _ k);
+  work = ltb-false (w .numbers) _ (or-right (ltb (w .floats) ((cells + 3) * (cells + 3) * (cells + 3))) _ k);
 }
 
-pub sample-ready : (cells w : ℕ) (F : List Float) → Room cells w (length F)
+pub sample-ready : (cells w : ℕ) (F : List Float) → CellsFit cells (workWith w (length F))
     → (cells + 2 ≤ 130) × ((length (take ((cells + 3) * (cells + 3) * (cells + 3)) F) ≡ (cells + 2 + 1) * (cells + 2 + 1) * (cells + 2 + 1)) × (12 * ((cells + 2) * (cells + 2) * (cells + 2)) ≤ w))
 sample-ready cells w F R =
     let z : cells + 2 + 1 ≡ cells + 3 = omega arith in
     let h = R .few in
     (omega arith, (rw z (length-take-le _ F (R .floats)), R .work))
 
-module _ (b : Band) (cells w f p q l : ℕ) (A : List Float) (B D : List ℕ) where
+module _ (d : Domain) (cells : ℕ) (w : Work) (room : Room) (A : List Float) (B D : List ℕ) where
   abbrev Rule : Outcome Sheet
-  Rule = extractRule b cells w f p q l
+  Rule = extractRule d cells w room
 
-  pub rule-box : validOf b ≡ false → Fills Rule (answerOf (refuses 1)) A B D
+  pub rule-box : validOf (bandIn d) ≡ false → Fills Rule (Refused 1) A B D
   unfolding extractRule
   rule-box e = rw e (refused-fills 1 A B D)
 
-  module _ (e : validOf b ≡ true) where
-    pub rule-bottomless : finiteOf (b .lower) ≡ false → Fills Rule (answerOf (refuses 2)) A B D
+  module _ (e : validOf (bandIn d) ≡ true) where
+    pub rule-bottomless : finiteOf (bandIn d .lower) ≡ false → Fills Rule (Refused 2) A B D
     unfolding extractRule
     rule-bottomless i = rw (e, i) (refused-fills 2 A B D)
 
-    module _ (i : finiteOf (b .lower) ≡ true) where
-      pub rule-cells : goodCells cells ≡ false → Fills Rule (answerOf (refuses 3)) A B D
+    module _ (i : finiteOf (bandIn d .lower) ≡ true) where
+      pub rule-cells : goodCells cells ≡ false → Fills Rule (Refused 3) A B D
       unfolding extractRule
       rule-cells h = rw (e, i, h) (refused-fills 3 A B D)
 
       module _ (h : goodCells cells ≡ true) where
-        pub rule-short : shortWork cells w f ≡ true → Fills Rule (answerOf (refuses 13)) A B D
+        pub rule-short : shortWork cells w ≡ true → Fills Rule (Refused 13) A B D
         unfolding extractRule
         rule-short k = rw (e, i, h, k) (refused-fills 13 A B D)
 
-        pub rule-sampled : {g : Grid} (r : Made) → shortWork cells w f ≡ false → g ≡ gridOf b cells → Fills (sampledOr g (cells + 2) p q l) r A B D → Fills Rule r A B D
+        pub rule-sampled : {g : Grid} (r : Answer) → shortWork cells w ≡ false → g ≡ gridOf d cells → Fills (sampledOr g (cells + 2) room) r A B D → Fills Rule r A B D
         unfolding extractRule sampledOr
         rule-sampled r k eg F =
             let z : cells + 2 + 1 ≡ cells + 3 = omega arith in

@@ -5,6 +5,7 @@ use lib.ListN.{length}
 use Rattle.rule_sheet.specs.Tests.{goodMasks}
 use Rattle.rule_sheet.specs.Numbers.{bare, clash}
 use Rattle.rule_sheet.specs.Sheet.{Sheet, isBare}
+use Rattle.rule_sheet.specs.Lent.{Room}
 use Rattle.rule_sheet.specs.Outcomes.{Outcome, refuses, gives}
 use Rattle.rule_extract.specs.declared.Grid.{Grid}
 use Rattle.rule_extract.specs.Drawing.{samplesNumber, finiteSamples, drawnSheet, drawnOr}
@@ -16,5 +17,5 @@ testedOr s =
     (refuses clash))
 
 -- 4, 13 (result), 5, 7
-unfoldable pub sampledOr : Grid → ℕ → ℕ → ℕ → ℕ → Outcome Sheet
-sampledOr g n p q l = cond (not (finiteSamples g (n + 1))) (refuses samplesNumber) (drawnOr (drawnSheet g n) p q l)
+unfoldable pub sampledOr : Grid → ℕ → Room → Outcome Sheet
+sampledOr g n room = cond (not (finiteSamples g (n + 1))) (refuses samplesNumber) (drawnOr (drawnSheet g n) room)

@@ -2,19 +2,21 @@
 
 use band::Band;
 use rule_extract::Grid;
+use rule_sheet::Answer;
 use rule_sheet::Counts;
-use rule_sheet::Made;
+use rule_sheet::Tally;
 ghost use mathlib.Core.Path.{_≡_};
 ghost use mathlib.Core.Bool.{true};
 ghost use Prim.Native.Nat.{_+_, _*_, _≤_};
-ghost use lib.ListN.{length, take, replicate};
-ghost use Rattle.numeric.specs.Num.{zeroF};
+ghost use lib.ListN.{length, take};
+ghost use Rattle.setting.specs.Settings.{domainOf};
 ghost use Rattle.rule_sheet.specs.Flat.{quadsOf, flatQuads};
 ghost use Rattle.sheet.specs.Flat.{Holds};
 ghost use Rattle.rule_sheet.specs.Tests.{goodCorners, goodMasks};
-ghost use Rattle.rule_sheet.specs.Sheet.{flatPoints, sheetOf};
+ghost use Rattle.rule_sheet.specs.Sheet.{flatPoints, sheetOf, countsOf};
+ghost use Rattle.rule_sheet.specs.Lent.{roomOf, workWith, workOf};
+ghost use Rattle.rule_sheet.specs.Results.{answerOf, made, Makes, Cleared};
 ghost use Rattle.sheet.specs.Sheet.{LentSheet};
-ghost use Rattle.rule_sheet.specs.Results.{countsOf, answerOf, Leaves};
 ghost use Rattle.sheet.specs.Results.{Front, Fills};
 ghost use Rattle.extract_grid.specs.Lattice.{Samples};
 ghost use Rattle.rule_extract.specs.Drawing.{goodCells, shortWork, drawnSheet, drawnOr, extractRule};
@@ -48,21 +50,21 @@ fn masks_tested(nq: usize, quads: &[u32], labels: &[u8], masks: &mut [u32]) -> b
 }
 
 // 5 and 7, of a sheet that its slices hold and whose corners are good.
-fn tested(c: Counts, points: &[f64], quads: &[u32], labels: &[u8], w: &mut [u32]) -> Made
+fn tested(c: Counts, points: &[f64], quads: &[u32], labels: &[u8], w: &mut [u32]) -> Answer
     requires { ⌜ LentSheet c (length (now points)) (length (now quads)) (length (now labels)) ⌝ }
     requires { ⌜ c .points ≤ length (now w) ⌝ }
     requires { ⌜ goodCorners (c .points) (quadsOf (c .quads) (now quads)) (take (c .labels) (now labels)) ≡ true ⌝ }
-    ensures { λ r. ⌜ r ≡ answerOf (testedOr (sheetOf c (now (points .entry)) (now (quads .entry))
-        (now (labels .entry)))) ⌝ }
+    ensures { λ r. ⌜ r ≡ answerOf (made (testedOr (sheetOf c (now (points .entry)) (now (quads .entry))
+        (now (labels .entry))))) ⌝ }
 {
     if sheet::is_bare(c, points) {
-        return Made::Refused(sheet::BARE);
+        return Answer::Refused(sheet::BARE);
     }
     let n = c.points;
     if masks_tested(c.quads, quads, labels, &mut w[..n]) {
-        return Made::Done(c);
+        return Answer::Done(Tally { count: 0, sheet: c });
     }
-    Made::Refused(sheet::CLASH)
+    Answer::Refused(sheet::CLASH)
 }
 
 // ---- the drawn sheet
@@ -114,19 +116,16 @@ fn draw_or_refusal(
     new_quads: &mut [u32],
     new_labels: &mut [u8],
     w: &mut [u32],
-) -> Made
+) -> Answer
     requires { ⌜ Samples g (n + 1) (now samples) ⌝ }
     requires { ⌜ 12 * (n * n * n) ≤ length (now w) ⌝ }
-    ensures { λ r. ⌜ Fills (drawnOr (drawnSheet g n) (length (now («new_points» .entry)))
-        (length (now («new_quads» .entry))) (length (now («new_labels» .entry)))) r (now («new_points» .exit))
-        (now («new_quads» .exit)) (now («new_labels» .exit)) ⌝ }
+    ensures { λ r. ⌜ Fills (drawnOr (drawnSheet g n) (roomOf (now («new_points» .entry)) (now («new_quads» .entry))
+        (now («new_labels» .entry)))) r (now («new_points» .exit)) (now («new_quads» .exit))
+        (now («new_labels» .exit)) ⌝ }
 {
     let c = count_sheet(g, n, samples);
-    if sheet::is_large(c) {
-        return Made::Refused(sheet::SHORT);
-    }
-    if sheet::is_short(c, new_points.len(), new_quads.len(), new_labels.len()) {
-        return Made::Refused(sheet::SHORT);
+    if sheet::is_over(c, new_points.len(), new_quads.len(), new_labels.len()) {
+        return Answer::Refused(sheet::SHORT);
     }
     draw_sheet(g, n, samples, new_points, new_quads, new_labels, w);
     tested(c, new_points, new_quads, new_labels, w)
@@ -141,19 +140,19 @@ fn sample_or_refusal(
     new_quads: &mut [u32],
     new_labels: &mut [u8],
     w: &mut [u32],
-) -> Made
+) -> Answer
     requires { ⌜ n ≤ 130 ⌝ }
     requires { ⌜ length (now samples) ≡ (n + 1) * (n + 1) * (n + 1) ⌝ }
     requires { ⌜ 12 * (n * n * n) ≤ length (now w) ⌝ }
-    ensures { λ r. ⌜ Fills (sampledOr g n (length (now («new_points» .entry))) (length (now («new_quads» .entry)))
-        (length (now («new_labels» .entry)))) r (now («new_points» .exit)) (now («new_quads» .exit))
+    ensures { λ r. ⌜ Fills (sampledOr g n (roomOf (now («new_points» .entry)) (now («new_quads» .entry))
+        (now («new_labels» .entry)))) r (now («new_points» .exit)) (now («new_quads» .exit))
         (now («new_labels» .exit)) ⌝ }
 {
     extract_grid::sample_grid(g, n + 1, samples);
     if extract_grid::all_finite(samples) {
         return draw_or_refusal(g, n, samples, new_points, new_quads, new_labels, w);
     }
-    Made::Refused(SAMPLES)
+    Answer::Refused(SAMPLES)
 }
 
 // ---- the operation
@@ -168,7 +167,7 @@ fn good_cells(cells: usize) -> bool
 // 13: too little work.
 fn is_short_work(cells: usize, work: usize, floats: usize) -> bool
     requires { ⌜ cells ≤ 128 ⌝ }
-    ensures { λ r. ⌜ r ≡ shortWork cells work floats ⌝ }
+    ensures { λ r. ⌜ r ≡ shortWork cells (workWith work floats) ⌝ }
 {
     let m = cells + 3;
     let n = cells + 2;
@@ -184,22 +183,22 @@ fn extract_or_refusal(
     new_labels: &mut [u8],
     w: &mut [u32],
     floats: &mut [f64],
-) -> Made
-    ensures { λ r. ⌜ Fills (extractRule b cells (length (now (w .entry))) (length (now (floats .entry)))
-        (length (now («new_points» .entry))) (length (now («new_quads» .entry))) (length (now («new_labels» .entry)))) r
+) -> Answer
+    ensures { λ r. ⌜ Fills (extractRule (domainOf b) cells (workOf (now (w .entry)) (now (floats .entry)))
+        (roomOf (now («new_points» .entry)) (now («new_quads» .entry)) (now («new_labels» .entry)))) r
         (now («new_points» .exit)) (now («new_quads» .exit)) (now («new_labels» .exit)) ⌝ }
 {
     if !band::validate(b) {
-        return Made::Refused(sheet::BOX);
+        return Answer::Refused(admission::BOX);
     }
     if !numeric::is_finite(b.lower) {
-        return Made::Refused(BOTTOMLESS);
+        return Answer::Refused(BOTTOMLESS);
     }
     if !good_cells(cells) {
-        return Made::Refused(CELLS);
+        return Answer::Refused(CELLS);
     }
     if is_short_work(cells, w.len(), floats.len()) {
-        return Made::Refused(sheet::SHORT);
+        return Answer::Refused(sheet::SHORT);
     }
     let g = extract_samples::grid_of(b, cells);
     let m = cells + 3;
@@ -225,13 +224,13 @@ pub fn extract_candidate(
     new_labels: &mut [u8],
     work: &mut [u32],
     floats: &mut [f64],
-) -> Made
-    ensures { λ r. ⌜ Leaves (extractRule b cells (length (now (work .entry))) (length (now (floats .entry)))
-        (length (now («new_points» .entry))) (length (now («new_quads» .entry))) (length (now («new_labels» .entry))))
-        (length (now («new_points» .entry))) (length (now («new_quads» .entry))) (length (now («new_labels» .entry))) r
+) -> Answer
+    ensures sheet { λ r. ⌜ Makes (extractRule (domainOf b) cells (workOf (now (work .entry)) (now (floats .entry)))
+        (roomOf (now («new_points» .entry)) (now («new_quads» .entry)) (now («new_labels» .entry))))
+        (roomOf (now («new_points» .entry)) (now («new_quads» .entry)) (now («new_labels» .entry))) r
         (now («new_points» .exit)) (now («new_quads» .exit)) (now («new_labels» .exit)) ⌝ }
-    ensures { λ _. ⌜ now (work .exit) ≡ replicate (length (now (work .entry))) 0 ⌝ }
-    ensures { λ _. ⌜ now (floats .exit) ≡ replicate (length (now (floats .entry))) zeroF ⌝ }
+    ensures cleared { λ _. ⌜ Cleared (now (work .entry)) (now (floats .entry)) (now (work .exit))
+        (now (floats .exit)) ⌝ }
 {
     let r = extract_or_refusal(b, cells, new_points, new_quads, new_labels, work, floats);
     sheet::clear_unused(sheet::shown_counts(r), new_points, new_quads, new_labels);

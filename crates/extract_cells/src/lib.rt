@@ -4,7 +4,6 @@
 ghost use mathlib.Core.Path.{_≡_};
 ghost use mathlib.Core.Bool.{cond};
 ghost use Prim.Native.Nat.{_/_, _%_, _<_};
-ghost use lib.Dec.{eqb};
 ghost use lib.ListN.{length, getD};
 ghost use Rattle.rule_extract.specs.Cells.{bitOf, lowEnd, highEnd, crosses, edgesOn, fourOn, pair, isEnd, sharedBy};
 ghost use Rattle.rule_extract.specs.Cells.{parted, renamedOf, merged, groupsOf};

@@ -45,8 +45,8 @@ unfolding siteAt indexOf
 index-site n t = ap (λ (q : ℕ). q * n + t % n) (div-add-mod' (t / n) n) ∙ div-add-mod' t n
 
 -- a place of a grid of few places a side has places next to it
-pub near : {n : ℕ} {c : Site} → n ≤ 131 → Within n c → Near c
-near h W = let a = W .x< in let b = W .y< in let d = W .z< in record { x< = omega arith; y< = omega arith; z< = omega arith }
+pub near-of : {n : ℕ} {c : Site} → n ≤ 131 → Within n c → Near c
+near-of h W = let a = W .x< in let b = W .y< in let d = W .z< in record { x< = omega arith; y< = omega arith; z< = omega arith }
 
 -- the products on the way to the number of a place
 pub index-room : (n : ℕ) (c : Site) → n ≤ 131 → Within n c → (c .x * n ≤ 17161) × ((c .x * n + c .y) * n ≤ 2265252)

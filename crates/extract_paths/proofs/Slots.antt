@@ -23,7 +23,7 @@ use Rattle.extract_cells.specs.Cells.{kindOf}
 use Rattle.extract_cells.proofs.Bits.{kind-edge}
 use Rattle.extract_grid.specs.Lattice.{Within, Samples, CellIn, eightOf}
 use Rattle.rule_extract.specs.Lattice.{siteAt, indexOf, valueAt, insideAt, caseOf, edgeSite}
-use Rattle.extract_grid.proofs.Places.{site-index, within-at, index-site, index-room, near}
+use Rattle.extract_grid.proofs.Places.{site-index, within-at, index-site, index-room, near-of}
 use Rattle.extract_grid.proofs.Signs.{corner-within, cell-in, case-is}
 use Rattle.rule_extract.specs.Paths.{edgeCrosses}
 use Rattle.extract_paths.specs.Paths.{edgePath, cellOf, Pathed, CellAt, alongOf, strideOf, sourceOf}
@@ -195,11 +195,11 @@ pub cell-least : {n : ℕ} {c : Site} {e l : ℕ} → CellAt n c e l → CellAt 
 cell-least C = record { n≤ = C .n≤; within = C .within; number = C .number; room = omega arith }
 
 pub cell-near : {n : ℕ} {c : Site} {e l : ℕ} → CellAt n c e l → Near c
-cell-near C = near (let h = C .n≤ in omega arith) (C .within)
+cell-near C = near-of (let h = C .n≤ in omega arith) (C .within)
 
 pub edge-near : {n : ℕ} {c d : Site} {e l : ℕ} (j : ℕ) → CellAt n c e l → d ≡ edgeSite c j → Near d
 unfolding edgeSite
-edge-near {n} {c} j C q = rw q (near (let h = C .n≤ in omega arith) (corner-within n c (lowEnd j) (C .within)))
+edge-near {n} {c} j C q = rw q (near-of (let h = C .n≤ in omega arith) (corner-within n c (lowEnd j) (C .within)))
 
 pub copied-source : {g : Grid} {n : ℕ} {w : List ℕ} {c : Site} {e l : ℕ} (j s : ℕ) → Pathed g n w (12 * e + j) → CellAt n c e l → j < 12 → s ≡ sourceOf n c (12 * e + j) j → s < 12 * e + j
     → edgeCrosses g c j ≡ true → getD w s 0 ≡ edgePath g c j

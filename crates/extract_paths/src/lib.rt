@@ -5,12 +5,12 @@ use rule_extract::Grid;
 use rule_extract::Site;
 ghost use mathlib.Core.Path.{_≡_};
 ghost use mathlib.Core.Bool.{true};
-ghost use Prim.Native.Nat.{ℕ, _+_, _*_, _≤_, _<_};
+ghost use Prim.Native.Nat.{_+_, _*_, _≤_, _<_};
 ghost use lib.ListN.{length};
 ghost use Rattle.rule_extract.specs.Cells.{bitOf};
 ghost use Rattle.extract_cells.specs.Cells.{kindOf};
-ghost use Rattle.extract_grid.specs.Lattice.{Within, Samples};
-ghost use Rattle.rule_extract.specs.Lattice.{indexOf, insideAt, caseOf, edgeSite};
+ghost use Rattle.extract_grid.specs.Lattice.{Samples};
+ghost use Rattle.rule_extract.specs.Lattice.{insideAt, caseOf, edgeSite};
 ghost use Rattle.rule_extract.specs.Paths.{edgeCrosses};
 ghost use Rattle.extract_paths.specs.Paths.{edgePath, Pathed, alongOf, strideOf, sourceOf, CellAt};
 

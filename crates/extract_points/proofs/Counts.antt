@@ -25,7 +25,7 @@ use Rattle.extract_cells.specs.Cells.{kindOf}
 use Rattle.extract_cells.proofs.Bits.{kind-edge}
 use Rattle.rule_extract.specs.Lattice.{siteAt, caseOf, cellGroups}
 use Rattle.extract_grid.specs.Lattice.{Samples}
-use Rattle.extract_grid.proofs.Places.{within-at, near}
+use Rattle.extract_grid.proofs.Places.{within-at, near-of}
 use Rattle.extract_paths.proofs.Slots.{no-crossing}
 use Rattle.rule_extract.specs.Drawing.{isMember, membersOf, crossingAt, groupPoint, groupPoints, cellPoints, pointsIn, pointsTo}
 use Rattle.extract_points.specs.Slots.{memberIn, hasIn, rankIn, Known}
@@ -174,4 +174,4 @@ totalling-end {g} {n} {count} {e = e} T h =
     (T .is ∙ ap (λ m. length (pointsTo g n m)) q, omega arith)
 
 pub near-read : {g : Grid} {F : List Float} {d : Site} (n e : ℕ) → Samples g (n + 1) F → e < n * n * n → d ≡ siteAt n e → Near d
-near-read n e S h q = let m = S .m≤ in near {n = n} (omega arith) (rw q (within-at n e h))
+near-read n e S h q = let m = S .m≤ in near-of {n = n} (omega arith) (rw q (within-at n e h))

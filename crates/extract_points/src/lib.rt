@@ -8,6 +8,7 @@ ghost use mathlib.Core.Bool.{true, cond};
 ghost use mathlib.Core.List.{map};
 ghost use Prim.Native.Nat.{_+_, _*_, _^_, _≤_, _<_};
 ghost use lib.ListN.{length, getD};
+ghost use Rattle.rule_sheet.specs.Lent.{limit};
 ghost use Rattle.rule_extract.specs.Lattice.{siteAt, caseOf};
 ghost use Rattle.extract_grid.specs.Lattice.{Samples};
 ghost use Rattle.rule_extract.specs.Cells.{bitOf};
@@ -374,7 +375,7 @@ pub fn draw_cell_at(
 pub fn draw_points(g: Grid, n: usize, samples: &[f64], w: &mut [u32], out: &mut [f64]) -> usize
     requires { ⌜ Samples g (n + 1) (now samples) ⌝ }
     requires { ⌜ Pathed g n (now w) (12 * (n * n * n)) ⌝ }
-    requires { ⌜ length (pointsTo g n (n * n * n)) ≤ 1048576 ⌝ }
+    requires { ⌜ length (pointsTo g n (n * n * n)) ≤ limit ⌝ }
     requires { ⌜ 3 * length (pointsTo g n (n * n * n)) ≤ length (now out) ⌝ }
     ensures { λ r. ⌜ r ≡ length (pointsTo g n (n * n * n)) ⌝ }
     ensures { λ _. ⌜ Front (flatPoints (pointsTo g n (n * n * n))) (now (out .exit)) ⌝ }

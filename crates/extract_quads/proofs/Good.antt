@@ -65,19 +65,19 @@ module _ (g : Grid) (n t : ℕ) (h : t < innerCount n) (x : innerCrosses g n t �
   abbrev i : Inner
   i = innerAt n t
 
-  abbrev corner : ℕ → ℕ → ℕ
-  corner u w = cornerOf g n i u w
+  abbrev innerCorner : ℕ → ℕ → ℕ
+  innerCorner u w = cornerOf g n i u w
 
   abbrev count : ℕ
   count = length (pointsTo g n (n * n * n))
 
-  below : (u w : ℕ) → u < 2 → w < 2 → corner u w < count
+  below : (u w : ℕ) → u < 2 → w < 2 → innerCorner u w < count
   below u w p q = dual-cell-complete g n t u w h x p q .corner
 
-  apart : (u w v z : ℕ) → u < 2 → w < 2 → v < 2 → z < 2 → (u ≡ v → w ≡ z → ⊥) → corner u w ≡ corner v z → ⊥
+  apart : (u w v z : ℕ) → u < 2 → w < 2 → v < 2 → z < 2 → (u ≡ v → w ≡ z → ⊥) → innerCorner u w ≡ innerCorner v z → ⊥
   apart u w v z a b c d ne = corners-apart g n i u w v z (at-inner n t h) a b c d ne (dual-cell-complete g n t u w h x a b) (dual-cell-complete g n t v z h x c d)
 
-  four : Four count (corner 1 1) (corner 0 1) (corner 0 0) (corner 1 0)
+  four : Four count (innerCorner 1 1) (innerCorner 0 1) (innerCorner 0 0) (innerCorner 1 0)
   four = record {
     a< = below 1 1 (omega arith) (omega arith);
     b< = below 0 1 (omega arith) (omega arith);
@@ -95,7 +95,7 @@ module _ (g : Grid) (n t : ℕ) (h : t < innerCount n) (x : innerCrosses g n t �
   unfolding innerQuad
   quad-proper = by (insideAt g (innerSite i))
     where
-      by : (b : Bool) → proper count (cond b (quad (corner 1 1) (corner 0 1) (corner 0 0) (corner 1 0)) (quad (corner 1 0) (corner 0 0) (corner 0 1) (corner 1 1))) ≡ true
+      by : (b : Bool) → proper count (cond b (quad (innerCorner 1 1) (innerCorner 0 1) (innerCorner 0 0) (innerCorner 1 0)) (quad (innerCorner 1 0) (innerCorner 0 0) (innerCorner 0 1) (innerCorner 1 1))) ≡ true
       by true = four-proper count _ _ _ _ four
       by false = four-proper count _ _ _ _ (reversed four)
 

@@ -2,7 +2,6 @@
 // that extraction lays over its box.
 
 use band::Band;
-use field::Field;
 use points::Point;
 use rule_extract::Grid;
 use rule_extract::Sampled;

@@ -4,6 +4,7 @@ use mathlib.Core.Bool.{Bool, cond}
 use mathlib.Core.List.{List}
 use lib.ListN.{getD, length}
 use lib.Dec.{eqb, ltb}
+use Rattle.rule_sheet.specs.Lent.{limit}
 use Rattle.lists.specs.Sort.{tabulate}
 use Rattle.lists.specs.Every.{some}
 use Rattle.lists.specs.Regions.{Part, Apart}
@@ -25,7 +26,7 @@ barredBy Q v bs q = cond (ltb 0 (uses v (quadAt Q q))) 1 (getD bs q 0)
 
 -- m corners of nq quads at `from`, and nq marks at `barred`
 pub record Marking (from m barred nq : ℕ) (cs w : List ℕ) : Type 0 where
-  pub few : nq ≤ 1048576
+  pub few : nq ≤ limit
   pub at : Part from m cs w
   pub known : (i : ℕ) → i < m → getD cs i 0 < 4 * nq
   pub in-barred : barred + nq ≤ length w

@@ -6,7 +6,7 @@ use Rattle.lists.specs.Sort.{tabulate}
 use Rattle.lists.specs.Regions.{Part, Kept}
 use Rattle.rule_sheet.specs.Quads.{valence}
 use Rattle.rule_sheet.specs.Flat.{quadsOf}
-use Rattle.rule_sheet.specs.Sheet.{limit}
+use Rattle.rule_sheet.specs.Lent.{limit}
 use Rattle.incidence.specs.Corners.{Cornered}
 use Rattle.edges.specs.Conditions.{EdgeMapHolds, PointMapHolds}
 use Rattle.pass_map.specs.Regions.{wasAt, edgeStartsAt, edgesAt, pointStartsAt, pointsAt, valencesAt, Beside}

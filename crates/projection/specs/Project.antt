@@ -10,6 +10,7 @@ use Rattle.field.specs.declared.Field.{Field}
 use Rattle.field.specs.Fields.{valueOf}
 use Rattle.band.specs.declared.Band.{Band}
 use Rattle.band.specs.Bands.{lengthOf, gradientWith}
+use Rattle.setting.specs.Settings.{Setting, bandIn, domainIn}
 use Rattle.projection.specs.declared.Look.{Look}
 use Rattle.projection.specs.declared.Look.the-variants.{Singular, Arrived, Moved}
 use Rattle.projection.specs.declared.Projected.{Projected}
@@ -30,8 +31,8 @@ abbrev pub smallest : Float
 smallest = ofBits binary64 0x0010_0000_0000_0000
 
 -- 1e-12
-abbrev pub near : Float
-near = ofBits binary64 0x3d71_9799_812d_ea11
+abbrev pub arrival : Float
+arrival = ofBits binary64 0x3d71_9799_812d_ea11
 
 -- 1e-10
 abbrev pub beyond : Float
@@ -76,7 +77,7 @@ singularOf residual gn = not (finiteOf residual) || not (finiteOf gn) || le gn s
 
 -- being within length × 1e-12
 unfoldable pub arrivedOf : Float → Float → Bool
-arrivedOf distance len = le (absOf distance) (len ⊗ near)
+arrivedOf distance len = le (absOf distance) (len ⊗ arrival)
 
 -- the point after a move of at most length × longest against the gradient g, whose norm is gn
 unfoldable pub movedOf : Point → Point → Float → Float → Float → Float → Point
@@ -134,9 +135,9 @@ projectWith b len longest looks p mask =
     cond (eqb (mask % 4) 0) (closeOf (b .low) (b .high) q len)
     (closeAfter (b .low) (b .high) len (walkFrom looks (b .field) len longest t (freePartOf mask) q))
 
--- the projection of a band: a move is at most length × 0.05, and it looks up to 20 times
-unfoldable pub projectOf : Band → Point → ℕ → Projected
-projectOf b p mask = projectWith b (lengthOf b) longestMove lookCount p mask
+-- the projection of a call: a move is at most length × 0.05, and it looks up to 20 times
+unfoldable pub projectOf : Setting → Point → ℕ → Projected
+projectOf s p mask = let b = bandIn (domainIn s) in projectWith b (lengthOf b) longestMove lookCount p mask
 
 -- ---- what it answers
 

@@ -1,20 +1,20 @@
 // The public face: every operation under its name, as a function that C and Rust can link. A slice passes as its
-// pointer and its length.
+// pointer and its length. An export is told its band as a kind, numbers, bounds and levels; the answer slice takes the
+// count of swaps or merges and the counts of the sheet.
 
 use rule_sheet::Counts;
-ghost use mathlib.Core.Path.{_≡_};
-ghost use mathlib.Core.Bool.{true, false};
-ghost use lib.ListN.{length, replicate};
-ghost use Rattle.numeric.specs.Num.{zeroF};
-ghost use Rattle.rule_sheet.specs.Outcomes.{roomFor};
+ghost use Rattle.rule_sheet.specs.Lent.{lentOf, roomOf, workOf};
+ghost use Rattle.rule_sheet.specs.Results.{Cleared};
+ghost use Rattle.rule_regularize.specs.Rule.{regularizeRule, improveRule};
+ghost use Rattle.rule_coarsen.specs.Rule.{coarsenRule};
 ghost use Rattle.rule_finer.specs.Finer.{refineRule};
-ghost use Rattle.rule_regularize.specs.Rule.{answerOf, quadsLeft};
-ghost use Rattle.rule_exports.specs.Extraction.{extractBy};
-ghost use Rattle.rule_exports.specs.Making.{subdivideBy, rowsBy};
-ghost use Rattle.rule_exports.specs.Cleanings.{cleanedNumber, cleanBy, countLeft};
-ghost use Rattle.rule_exports.specs.Coarsenings.{coarsenBy, Coarsens};
-ghost use Rattle.rule_exports.specs.Assessments.{qualityBy, answersBy, countsLeft, measuresLeft};
-ghost use Rattle.rule_exports.specs.Exports.{Exports, answerLeft};
+ghost use Rattle.rule_finer.specs.Subdivide.{subdivideRule};
+ghost use Rattle.rule_rows.specs.Rows.{rowsRule};
+ghost use Rattle.rule_quality.specs.Quality.{qualityRule, assessedOf};
+ghost use Rattle.rule_extract.specs.Drawing.{extractRule};
+ghost use Rattle.rule_exports.specs.Told.{toldOf, byTold};
+ghost use Rattle.rule_exports.specs.Exports.{isShortAnswer, withAnswer, ExportMakes, ExportAlters, ExportAltersQuads};
+ghost use Rattle.rule_exports.specs.Measured.{isShortMeasures, ShowsMeasures};
 
 // `extract_candidate`: the counts of the drawn sheet go to answer[1..4], answer[0] is 0.
 #[no_mangle]
@@ -32,32 +32,35 @@ pub extern "C" fn quads_extract_candidate(
     floats: &mut [f64],
     answer: &mut [u64],
 ) -> u32
-    ensures { λ r. ⌜ Exports (roomFor (length (now (answer .entry)))
-        (extractBy kind (now (numbers .entry)) (now (bounds .entry)) lower upper cells (length (now (work .entry)))
-        (length (now (floats .entry))) (length (now («new_points» .entry))) (length (now («new_quads» .entry)))
-        (length (now («new_labels» .entry))))) (length (now («new_points» .entry))) (length (now («new_quads» .entry)))
-        (length (now («new_labels» .entry))) r (now («new_points» .exit)) (now («new_quads» .exit))
-        (now («new_labels» .exit)) ⌝ }
-    ensures { λ _. ⌜ now (answer .exit) ≡ answerLeft (extractBy kind (now (numbers .entry)) (now (bounds .entry)) lower
-        upper cells (length (now (work .entry))) (length (now (floats .entry))) (length (now («new_points» .entry)))
-        (length (now («new_quads» .entry))) (length (now («new_labels» .entry)))) (now (answer .entry)) ⌝ }
-    ensures { λ _. ⌜ now (work .exit) ≡ replicate (length (now (work .entry))) 0 ⌝ }
-    ensures { λ _. ⌜ now (floats .exit) ≡ replicate (length (now (floats .entry))) zeroF ⌝ }
+    ensures sheet { λ r. ⌜ (
+        let t = toldOf kind (now (numbers .entry)) (now (bounds .entry)) lower upper in
+        let room = roomOf (now («new_points» .entry)) (now («new_quads» .entry)) (now («new_labels» .entry)) in
+        let w = workOf (now (work .entry)) (now (floats .entry)) in
+        let l = now (answer .entry) in
+        ExportMakes (byTold (isShortAnswer l) t (λ s. extractRule s cells w room)) room l r
+        (now («new_points» .exit)) (now («new_quads» .exit))
+        (now («new_labels» .exit)) (now (answer .exit))) ⌝ }
+    ensures cleared { λ _. ⌜ Cleared (now (work .entry)) (now (floats .entry)) (now (work .exit))
+        (now (floats .exit)) ⌝ }
 {
-    export_extract::extract_answered(
+    let v = export_band::told_verdict(
+        answer.len() < export_band::ANSWERS,
         kind,
-        numbers,
-        bounds,
-        lower,
-        upper,
+        numbers.len(),
+        bounds.len(),
+    );
+    let b = export_band::band_of(kind, numbers, bounds, lower, upper);
+    let r = export_extract::extract_after(
+        v,
+        b,
         cells,
         new_points,
         new_quads,
         new_labels,
         work,
         floats,
-        answer,
-    )
+    );
+    export_band::put_answer(answer, r)
 }
 
 // `refine`: the counts of the finer sheet go to answer[1..4], answer[0] is 0.
@@ -76,39 +79,40 @@ pub extern "C" fn quads_refine(
     floats: &mut [f64],
     answer: &mut [u64],
 ) -> u32
-    ensures { λ r. ⌜ Exports (roomFor (length (now (answer .entry)))
-        (refineRule (record { points = np; quads = nq; labels = nl }) (now (points .entry)) (now (quads .entry))
-        (now (labels .entry)) (length (now (work .entry))) (length (now (floats .entry)))
-        (length (now («new_points» .entry))) (length (now («new_quads» .entry))) (length (now («new_labels» .entry)))))
-        (length (now («new_points» .entry))) (length (now («new_quads» .entry))) (length (now («new_labels» .entry))) r
-        (now («new_points» .exit)) (now («new_quads» .exit)) (now («new_labels» .exit)) ⌝ }
-    ensures { λ _. ⌜ now (answer .exit) ≡ answerLeft (refineRule (record { points = np; quads = nq; labels = nl })
-        (now (points .entry)) (now (quads .entry)) (now (labels .entry)) (length (now (work .entry)))
-        (length (now (floats .entry))) (length (now («new_points» .entry))) (length (now («new_quads» .entry)))
-        (length (now («new_labels» .entry)))) (now (answer .entry)) ⌝ }
-    ensures { λ _. ⌜ now (work .exit) ≡ replicate (length (now (work .entry))) 0 ⌝ }
-    ensures { λ _. ⌜ now (floats .exit) ≡ replicate (length (now (floats .entry))) zeroF ⌝ }
+    ensures sheet { λ r. ⌜ (
+        let x = lentOf (record { points = np; quads = nq; labels = nl }) (now (points .entry)) (now (quads .entry))
+        (now (labels .entry)) in
+        let room = roomOf (now («new_points» .entry)) (now («new_quads» .entry)) (now («new_labels» .entry)) in
+        let w = workOf (now (work .entry)) (now (floats .entry)) in
+        let l = now (answer .entry) in
+        ExportMakes (withAnswer l (refineRule x w room)) room l r
+        (now («new_points» .exit)) (now («new_quads» .exit))
+        (now («new_labels» .exit)) (now (answer .exit))) ⌝ }
+    ensures cleared { λ _. ⌜ Cleared (now (work .entry)) (now (floats .entry)) (now (work .exit))
+        (now (floats .exit)) ⌝ }
 {
+    let v = export_band::answer_verdict(answer.len());
     let c = Counts {
         points: np,
         quads: nq,
         labels: nl,
     };
-    export_finer::refine_answered(
+    let r = export_finer::refine_after(
+        v,
+        c,
         points,
         quads,
         labels,
-        c,
         new_points,
         new_quads,
         new_labels,
         work,
         floats,
-        answer,
-    )
+    );
+    export_band::put_answer(answer, r)
 }
 
-// `subdivide`: the counts of the finer sheet go to answer[1..4], answer[0] is 0.
+// `subdivide`: the counts of the smooth sheet go to answer[1..4], answer[0] is 0.
 #[no_mangle]
 pub extern "C" fn quads_subdivide(
     points: &[f64],
@@ -129,43 +133,45 @@ pub extern "C" fn quads_subdivide(
     floats: &mut [f64],
     answer: &mut [u64],
 ) -> u32
-    ensures { λ r. ⌜ Exports (roomFor (length (now (answer .entry)))
-        (subdivideBy (now (points .entry)) (now (quads .entry)) (now (labels .entry))
-        (record { points = np; quads = nq; labels = nl }) kind (now (numbers .entry)) (now (bounds .entry)) lower upper
-        (length (now (work .entry))) (length (now (floats .entry))) (length (now («new_points» .entry)))
-        (length (now («new_quads» .entry))) (length (now («new_labels» .entry))))) (length (now («new_points» .entry)))
-        (length (now («new_quads» .entry))) (length (now («new_labels» .entry))) r (now («new_points» .exit))
-        (now («new_quads» .exit)) (now («new_labels» .exit)) ⌝ }
-    ensures { λ _. ⌜ now (answer .exit) ≡ answerLeft (subdivideBy (now (points .entry)) (now (quads .entry))
-        (now (labels .entry)) (record { points = np; quads = nq; labels = nl }) kind (now (numbers .entry))
-        (now (bounds .entry)) lower upper (length (now (work .entry))) (length (now (floats .entry)))
-        (length (now («new_points» .entry))) (length (now («new_quads» .entry))) (length (now («new_labels» .entry))))
-        (now (answer .entry)) ⌝ }
-    ensures { λ _. ⌜ now (work .exit) ≡ replicate (length (now (work .entry))) 0 ⌝ }
-    ensures { λ _. ⌜ now (floats .exit) ≡ replicate (length (now (floats .entry))) zeroF ⌝ }
+    ensures sheet { λ r. ⌜ (
+        let x = lentOf (record { points = np; quads = nq; labels = nl }) (now (points .entry)) (now (quads .entry))
+        (now (labels .entry)) in
+        let t = toldOf kind (now (numbers .entry)) (now (bounds .entry)) lower upper in
+        let room = roomOf (now («new_points» .entry)) (now («new_quads» .entry)) (now («new_labels» .entry)) in
+        let w = workOf (now (work .entry)) (now (floats .entry)) in
+        let l = now (answer .entry) in
+        ExportMakes (byTold (isShortAnswer l) t (λ s. subdivideRule s x w room)) room l r
+        (now («new_points» .exit)) (now («new_quads» .exit))
+        (now («new_labels» .exit)) (now (answer .exit))) ⌝ }
+    ensures cleared { λ _. ⌜ Cleared (now (work .entry)) (now (floats .entry)) (now (work .exit))
+        (now (floats .exit)) ⌝ }
 {
+    let v = export_band::told_verdict(
+        answer.len() < export_band::ANSWERS,
+        kind,
+        numbers.len(),
+        bounds.len(),
+    );
+    let b = export_band::band_of(kind, numbers, bounds, lower, upper);
     let c = Counts {
         points: np,
         quads: nq,
         labels: nl,
     };
-    export_finer::subdivide_answered(
+    let r = export_finer::subdivide_after(
+        v,
+        b,
+        c,
         points,
         quads,
         labels,
-        c,
-        kind,
-        numbers,
-        bounds,
-        lower,
-        upper,
         new_points,
         new_quads,
         new_labels,
         work,
         floats,
-        answer,
-    )
+    );
+    export_band::put_answer(answer, r)
 }
 
 // `boundary_rows`: the counts of the sheet with rows go to answer[1..4], answer[0] is 0.
@@ -189,43 +195,45 @@ pub extern "C" fn quads_boundary_rows(
     floats: &mut [f64],
     answer: &mut [u64],
 ) -> u32
-    ensures { λ r. ⌜ Exports (roomFor (length (now (answer .entry)))
-        (rowsBy (now (points .entry)) (now (quads .entry)) (now (labels .entry))
-        (record { points = np; quads = nq; labels = nl }) kind (now (numbers .entry)) (now (bounds .entry)) lower upper
-        (length (now (work .entry))) (length (now (floats .entry))) (length (now («new_points» .entry)))
-        (length (now («new_quads» .entry))) (length (now («new_labels» .entry))))) (length (now («new_points» .entry)))
-        (length (now («new_quads» .entry))) (length (now («new_labels» .entry))) r (now («new_points» .exit))
-        (now («new_quads» .exit)) (now («new_labels» .exit)) ⌝ }
-    ensures { λ _. ⌜ now (answer .exit) ≡ answerLeft (rowsBy (now (points .entry)) (now (quads .entry))
-        (now (labels .entry)) (record { points = np; quads = nq; labels = nl }) kind (now (numbers .entry))
-        (now (bounds .entry)) lower upper (length (now (work .entry))) (length (now (floats .entry)))
-        (length (now («new_points» .entry))) (length (now («new_quads» .entry))) (length (now («new_labels» .entry))))
-        (now (answer .entry)) ⌝ }
-    ensures { λ _. ⌜ now (work .exit) ≡ replicate (length (now (work .entry))) 0 ⌝ }
-    ensures { λ _. ⌜ now (floats .exit) ≡ replicate (length (now (floats .entry))) zeroF ⌝ }
+    ensures sheet { λ r. ⌜ (
+        let x = lentOf (record { points = np; quads = nq; labels = nl }) (now (points .entry)) (now (quads .entry))
+        (now (labels .entry)) in
+        let t = toldOf kind (now (numbers .entry)) (now (bounds .entry)) lower upper in
+        let room = roomOf (now («new_points» .entry)) (now («new_quads» .entry)) (now («new_labels» .entry)) in
+        let w = workOf (now (work .entry)) (now (floats .entry)) in
+        let l = now (answer .entry) in
+        ExportMakes (byTold (isShortAnswer l) t (λ s. rowsRule s x w room)) room l r
+        (now («new_points» .exit)) (now («new_quads» .exit))
+        (now («new_labels» .exit)) (now (answer .exit))) ⌝ }
+    ensures cleared { λ _. ⌜ Cleared (now (work .entry)) (now (floats .entry)) (now (work .exit))
+        (now (floats .exit)) ⌝ }
 {
+    let v = export_band::told_verdict(
+        answer.len() < export_band::ANSWERS,
+        kind,
+        numbers.len(),
+        bounds.len(),
+    );
+    let b = export_band::band_of(kind, numbers, bounds, lower, upper);
     let c = Counts {
         points: np,
         quads: nq,
         labels: nl,
     };
-    export_finer::rows_answered(
+    let r = export_finer::rows_after(
+        v,
+        b,
+        c,
         points,
         quads,
         labels,
-        c,
-        kind,
-        numbers,
-        bounds,
-        lower,
-        upper,
         new_points,
         new_quads,
         new_labels,
         work,
         floats,
-        answer,
-    )
+    );
+    export_band::put_answer(answer, r)
 }
 
 // `quality`: the eight counts in the record's order, tight and valid go to answer[..10], the four measures to
@@ -248,44 +256,30 @@ pub extern "C" fn quads_quality(
     answer: &mut [u64],
     measures: &mut [f64],
 ) -> u32
-    ensures { λ r. ⌜ r ≡ answersBy (length (now (answer .entry))) (length (now (measures .entry)))
-        (qualityBy (now (points .entry)) (now (quads .entry)) (now (labels .entry))
-        (record { points = np; quads = nq; labels = nl }) kind (now (numbers .entry)) (now (bounds .entry)) lower upper
-        (length (now (work .entry))) (length (now (floats .entry)))) ⌝ }
-    ensures { λ _. ⌜ now (answer .exit) ≡ countsLeft (length (now (measures .entry)))
-        (qualityBy (now (points .entry)) (now (quads .entry)) (now (labels .entry))
-        (record { points = np; quads = nq; labels = nl }) kind (now (numbers .entry)) (now (bounds .entry)) lower upper
-        (length (now (work .entry))) (length (now (floats .entry)))) (now (answer .entry)) ⌝ }
-    ensures { λ _. ⌜ now (measures .exit) ≡ measuresLeft (length (now (answer .entry)))
-        (qualityBy (now (points .entry)) (now (quads .entry)) (now (labels .entry))
-        (record { points = np; quads = nq; labels = nl }) kind (now (numbers .entry)) (now (bounds .entry)) lower upper
-        (length (now (work .entry))) (length (now (floats .entry)))) (now (measures .entry)) ⌝ }
-    ensures { λ _. ⌜ now (work .exit) ≡ replicate (length (now (work .entry))) 0 ⌝ }
-    ensures { λ _. ⌜ now (floats .exit) ≡ replicate (length (now (floats .entry))) zeroF ⌝ }
+    ensures answer { λ r. ⌜ (
+        let x = lentOf (record { points = np; quads = nq; labels = nl }) (now (points .entry)) (now (quads .entry))
+        (now (labels .entry)) in
+        let t = toldOf kind (now (numbers .entry)) (now (bounds .entry)) lower upper in
+        let w = workOf (now (work .entry)) (now (floats .entry)) in
+        let few = isShortMeasures (now (answer .entry)) (now (measures .entry)) in
+        ShowsMeasures (assessedOf (byTold few t (λ s. qualityRule s x w))) (now (answer .entry))
+        (now (measures .entry)) r (now (answer .exit)) (now (measures .exit))) ⌝ }
+    ensures cleared { λ _. ⌜ Cleared (now (work .entry)) (now (floats .entry)) (now (work .exit))
+        (now (floats .exit)) ⌝ }
 {
+    let few = export_quality::is_short(answer.len(), measures.len());
+    let v = export_band::told_verdict(few, kind, numbers.len(), bounds.len());
+    let b = export_band::band_of(kind, numbers, bounds, lower, upper);
     let c = Counts {
         points: np,
         quads: nq,
         labels: nl,
     };
-    export_quality::quality_answered(
-        points,
-        quads,
-        labels,
-        c,
-        kind,
-        numbers,
-        bounds,
-        lower,
-        upper,
-        work,
-        floats,
-        answer,
-        measures,
-    )
+    let r = export_quality::quality_after(v, b, c, points, quads, labels, work, floats);
+    export_quality::put_assessed(answer, measures, r)
 }
 
-// `regularize`: the count goes to answer[0], the counts of the sheet to answer[1..4].
+// `regularize`: the swaps go to answer[0], the counts of the sheet to answer[1..4].
 #[no_mangle]
 pub extern "C" fn quads_regularize(
     points: &[f64],
@@ -304,45 +298,34 @@ pub extern "C" fn quads_regularize(
     floats: &mut [f64],
     answer: &mut [u64],
 ) -> u32
-    ensures { λ r. ⌜ r ≡ cleanedNumber (answerOf (roomFor (length (now (answer .entry)))
-        (cleanBy false (now (points .entry)) (now (quads .entry)) (now (labels .entry))
-        (record { points = np; quads = nq; labels = nl }) kind (now (numbers .entry)) (now (bounds .entry)) lower upper
-        passes (length (now (work .entry))) (length (now (floats .entry)))))) ⌝ }
-    ensures { λ _. ⌜ now (quads .exit) ≡ quadsLeft (roomFor (length (now (answer .entry)))
-        (cleanBy false (now (points .entry)) (now (quads .entry)) (now (labels .entry))
-        (record { points = np; quads = nq; labels = nl }) kind (now (numbers .entry)) (now (bounds .entry)) lower upper
-        passes (length (now (work .entry))) (length (now (floats .entry))))) (now (quads .entry)) ⌝ }
-    ensures { λ _. ⌜ now (answer .exit) ≡ countLeft (cleanBy false (now (points .entry)) (now (quads .entry))
-        (now (labels .entry)) (record { points = np; quads = nq; labels = nl }) kind (now (numbers .entry))
-        (now (bounds .entry)) lower upper passes (length (now (work .entry))) (length (now (floats .entry))))
-        (record { points = np; quads = nq; labels = nl }) (now (answer .entry)) ⌝ }
-    ensures { λ _. ⌜ now (work .exit) ≡ replicate (length (now (work .entry))) 0 ⌝ }
-    ensures { λ _. ⌜ now (floats .exit) ≡ replicate (length (now (floats .entry))) zeroF ⌝ }
+    ensures sheet { λ r. ⌜ (
+        let x = lentOf (record { points = np; quads = nq; labels = nl }) (now (points .entry)) (now (quads .entry))
+        (now (labels .entry)) in
+        let t = toldOf kind (now (numbers .entry)) (now (bounds .entry)) lower upper in
+        let w = workOf (now (work .entry)) (now (floats .entry)) in
+        let l = now (answer .entry) in
+        ExportAltersQuads (byTold (isShortAnswer l) t (λ s. regularizeRule s passes x w)) x l r (now (quads .exit))
+        (now (answer .exit))) ⌝ }
+    ensures cleared { λ _. ⌜ Cleared (now (work .entry)) (now (floats .entry)) (now (work .exit))
+        (now (floats .exit)) ⌝ }
 {
+    let v = export_band::told_verdict(
+        answer.len() < export_band::ANSWERS,
+        kind,
+        numbers.len(),
+        bounds.len(),
+    );
+    let b = export_band::band_of(kind, numbers, bounds, lower, upper);
     let c = Counts {
         points: np,
         quads: nq,
         labels: nl,
     };
-    export_cleanup::clean_answered(
-        false,
-        points,
-        quads,
-        labels,
-        c,
-        kind,
-        numbers,
-        bounds,
-        lower,
-        upper,
-        passes,
-        work,
-        floats,
-        answer,
-    )
+    let r = export_cleanup::regularize_after(v, b, passes, c, points, quads, labels, work, floats);
+    export_band::put_answer(answer, r)
 }
 
-// `improve_layout`, likewise.
+// `improve_layout`: the swaps go to answer[0], the counts of the sheet to answer[1..4].
 #[no_mangle]
 pub extern "C" fn quads_improve_layout(
     points: &[f64],
@@ -361,42 +344,31 @@ pub extern "C" fn quads_improve_layout(
     floats: &mut [f64],
     answer: &mut [u64],
 ) -> u32
-    ensures { λ r. ⌜ r ≡ cleanedNumber (answerOf (roomFor (length (now (answer .entry)))
-        (cleanBy true (now (points .entry)) (now (quads .entry)) (now (labels .entry))
-        (record { points = np; quads = nq; labels = nl }) kind (now (numbers .entry)) (now (bounds .entry)) lower upper
-        passes (length (now (work .entry))) (length (now (floats .entry)))))) ⌝ }
-    ensures { λ _. ⌜ now (quads .exit) ≡ quadsLeft (roomFor (length (now (answer .entry)))
-        (cleanBy true (now (points .entry)) (now (quads .entry)) (now (labels .entry))
-        (record { points = np; quads = nq; labels = nl }) kind (now (numbers .entry)) (now (bounds .entry)) lower upper
-        passes (length (now (work .entry))) (length (now (floats .entry))))) (now (quads .entry)) ⌝ }
-    ensures { λ _. ⌜ now (answer .exit) ≡ countLeft (cleanBy true (now (points .entry)) (now (quads .entry))
-        (now (labels .entry)) (record { points = np; quads = nq; labels = nl }) kind (now (numbers .entry))
-        (now (bounds .entry)) lower upper passes (length (now (work .entry))) (length (now (floats .entry))))
-        (record { points = np; quads = nq; labels = nl }) (now (answer .entry)) ⌝ }
-    ensures { λ _. ⌜ now (work .exit) ≡ replicate (length (now (work .entry))) 0 ⌝ }
-    ensures { λ _. ⌜ now (floats .exit) ≡ replicate (length (now (floats .entry))) zeroF ⌝ }
+    ensures sheet { λ r. ⌜ (
+        let x = lentOf (record { points = np; quads = nq; labels = nl }) (now (points .entry)) (now (quads .entry))
+        (now (labels .entry)) in
+        let t = toldOf kind (now (numbers .entry)) (now (bounds .entry)) lower upper in
+        let w = workOf (now (work .entry)) (now (floats .entry)) in
+        let l = now (answer .entry) in
+        ExportAltersQuads (byTold (isShortAnswer l) t (λ s. improveRule s passes x w)) x l r (now (quads .exit))
+        (now (answer .exit))) ⌝ }
+    ensures cleared { λ _. ⌜ Cleared (now (work .entry)) (now (floats .entry)) (now (work .exit))
+        (now (floats .exit)) ⌝ }
 {
+    let v = export_band::told_verdict(
+        answer.len() < export_band::ANSWERS,
+        kind,
+        numbers.len(),
+        bounds.len(),
+    );
+    let b = export_band::band_of(kind, numbers, bounds, lower, upper);
     let c = Counts {
         points: np,
         quads: nq,
         labels: nl,
     };
-    export_cleanup::clean_answered(
-        true,
-        points,
-        quads,
-        labels,
-        c,
-        kind,
-        numbers,
-        bounds,
-        lower,
-        upper,
-        passes,
-        work,
-        floats,
-        answer,
-    )
+    let r = export_cleanup::improve_after(v, b, passes, c, points, quads, labels, work, floats);
+    export_band::put_answer(answer, r)
 }
 
 // `coarsen`: the merges go to answer[0], the counts of the sheet that is left to answer[1..4].
@@ -418,32 +390,29 @@ pub extern "C" fn quads_coarsen(
     floats: &mut [f64],
     answer: &mut [u64],
 ) -> u32
-    ensures { λ r. ⌜ Coarsens (coarsenBy (now (points .entry)) (now (quads .entry)) (now (labels .entry))
-        (record { points = np; quads = nq; labels = nl }) kind (now (numbers .entry)) (now (bounds .entry)) lower upper
-        passes (length (now (work .entry))) (length (now (floats .entry)))) (now (points .entry)) (now (quads .entry))
-        (now (labels .entry)) (now (answer .entry)) r (now (points .exit)) (now (quads .exit)) (now (labels .exit))
-        (now (answer .exit)) ⌝ }
-    ensures { λ _. ⌜ now (work .exit) ≡ replicate (length (now (work .entry))) 0 ⌝ }
-    ensures { λ _. ⌜ now (floats .exit) ≡ replicate (length (now (floats .entry))) zeroF ⌝ }
+    ensures sheet { λ r. ⌜ (
+        let x = lentOf (record { points = np; quads = nq; labels = nl }) (now (points .entry)) (now (quads .entry))
+        (now (labels .entry)) in
+        let t = toldOf kind (now (numbers .entry)) (now (bounds .entry)) lower upper in
+        let w = workOf (now (work .entry)) (now (floats .entry)) in
+        let l = now (answer .entry) in
+        ExportAlters (byTold (isShortAnswer l) t (λ s. coarsenRule s passes x w)) x l r (now (points .exit))
+        (now (quads .exit)) (now (labels .exit)) (now (answer .exit))) ⌝ }
+    ensures cleared { λ _. ⌜ Cleared (now (work .entry)) (now (floats .entry)) (now (work .exit))
+        (now (floats .exit)) ⌝ }
 {
+    let v = export_band::told_verdict(
+        answer.len() < export_band::ANSWERS,
+        kind,
+        numbers.len(),
+        bounds.len(),
+    );
+    let b = export_band::band_of(kind, numbers, bounds, lower, upper);
     let c = Counts {
         points: np,
         quads: nq,
         labels: nl,
     };
-    export_cleanup::coarsen_answered(
-        points,
-        quads,
-        labels,
-        c,
-        kind,
-        numbers,
-        bounds,
-        lower,
-        upper,
-        passes,
-        work,
-        floats,
-        answer,
-    )
+    let r = export_cleanup::coarsen_after(v, b, passes, c, points, quads, labels, work, floats);
+    export_band::put_answer(answer, r)
 }

@@ -4,20 +4,17 @@ use mathlib.Core.Path.{_≡_, sym, _∙_}
 use mathlib.Core.Bool.{Bool}
 use mathlib.Core.List.{List}
 use native.Mathlib.Omega.{arith}
-use lib.ListN.{length, take}
-use lib.Seq.{length-take-le}
-use lib.Ieee.{Float}
+use lib.ListN.{length}
 use Rattle.lists.specs.Sort.{tabulate}
 use Rattle.lists.specs.Regions.{Part, Out, Kept}
 use Rattle.lists.proofs.Regions.{part-kept}
-use Rattle.band.specs.declared.Band.{Band}
-use Rattle.rule_sheet.specs.declared.Counts.{Counts}
+use Rattle.setting.specs.Settings.{Domain}
 use Rattle.rule_sheet.specs.declared.Verdict.the-variants as verdict
 use Rattle.rule_sheet.specs.Flat.{quadsOf}
-use Rattle.rule_sheet.specs.Sheet.{sheetOf, lentVerdict, sheetVerdict}
-use Rattle.sheet.specs.Sheet.{LentSheet}
+use Rattle.rule_sheet.specs.Lent.{Lent, Work, held}
+use Rattle.rule_admission.specs.Admission.{measurable}
 use Rattle.sheet.proofs.Flat.{length-quads}
-use Rattle.sheet.proofs.Tests.{lent-is, length-points}
+use Rattle.sheet.proofs.Tests.{length-points}
 use Rattle.incidence.specs.Corners.{firstAt, cornersAt}
 use Rattle.edges.specs.declared.EdgeCounts.{EdgeCounts}
 use Rattle.edges.specs.Steps.{edgeCounts}
@@ -30,12 +27,12 @@ use Rattle.rule_quality.specs.Measure.{measureRule}
 use Rattle.quality.specs.declared.PointCounts.{PointCounts}
 use Rattle.rule_quality.specs.declared.report.Assessed.{Assessed}
 use Rattle.rule_quality.specs.declared.report.Assessed.the-variants.{Done, Refused}
-use Rattle.rule_quality.specs.Quality.{qualityOf, withCounts, assessed, qualityRule}
+use Rattle.rule_quality.specs.Quality.{qualityOf, withCounts, qualityRule, assessedOf}
 use Rattle.quality.specs.Quality.{pointCounts, Countable}
 
 -- the slice after the numbers of quads are taken has what the links ask
-pub link-room : {np nq m : ℕ} {Q v w : List ℕ} → Countable np nq Q m → m ≡ length v → Part 0 (np + 1) (tabulate (firstAt nq Q) (np + 1)) v → Part (2 * (np + nq)) (4 * nq) (cornersAt np nq Q) v → Kept (Out (10 * (np + nq)) np) v w
-    → LinkRoom np nq Q 0 (2 * (np + nq)) (11 * (np + nq)) (12 * (np + nq)) w
+pub link-room : {np nq m : ℕ} {Q v w : List ℕ} → Countable np nq Q m → m ≡ length v → Part (0 * (np + nq)) (np + 1) (tabulate (firstAt nq Q) (np + 1)) v → Part (2 * (np + nq)) (4 * nq) (cornersAt np nq Q) v → Kept (Out (10 * (np + nq)) np) v w
+    → LinkRoom np nq Q (0 * (np + nq)) (2 * (np + nq)) (11 * (np + nq)) (12 * (np + nq)) w
 link-room {np} {nq} {m} {Q} {v} {w} C e S O K =
     let len : length w ≡ m = K .len ∙ sym e in
     let room : 64 * (np + nq) ≤ length w = omega (arith, C .room) in
@@ -77,26 +74,13 @@ counted n nq Q m p e d t ep ee ed et = rw (et, ep, ee, ed, length-quads nq Q, ti
 
 -- ---- the refusals in order
 
-module _ (b : Band) (c : Counts) (P : List Float) (Q labels : List ℕ) (w f : ℕ) where
-  -- 12 or 13
-  pub rule-lent : (k : ℕ) → lentVerdict c (length P) (length Q) (length labels) w f ≡ verdict.Refused k → Refused k ≡ qualityRule b c P Q labels w f
+module _ (d : Domain) (x : Lent) (w : Work) where
+  -- 12, 13, 1, 5, 6 or 7
+  pub rule-refused : (k : ℕ) → measurable d x w ≡ verdict.Refused k → Refused k ≡ assessedOf (qualityRule d x w)
   unfolding qualityRule
-  rule-lent k e = rw e
+  rule-refused k e = rw e
 
-  module _ (l : lentVerdict c (length P) (length Q) (length labels) w f ≡ verdict.Accepted) where
-    -- what the tests ask
-    pub rule-sheet : LentSheet c (length P) (length Q) (length labels) × (c .points ≤ w)
-    rule-sheet = let L = lent-is c (length P) (length Q) (length labels) w f l in (L .0, omega (arith, L .1 .work))
-
-    pub masks-length : (W : List ℕ) → length W ≡ w → length (take (c .points) W) ≡ c .points
-    masks-length W e = length-take-le (c .points) W (omega (arith, rule-sheet .1))
-
-    -- 1, 5, 6 or 7
-    pub rule-tested : (k : ℕ) → sheetVerdict b (sheetOf c P Q labels) ≡ verdict.Refused k → Refused k ≡ qualityRule b c P Q labels w f
-    unfolding qualityRule assessed
-    rule-tested k e = rw (l, e)
-
-    -- 11, or the record
-    pub rule-assessed : (r : Assessed) → sheetVerdict b (sheetOf c P Q labels) ≡ verdict.Accepted → r ≡ withCounts (c .points) (quadsOf (c .quads) Q) (measureRule b (sheetOf c P Q labels)) → r ≡ qualityRule b c P Q labels w f
-    unfolding qualityRule assessed
-    rule-assessed r e g = rw (l, e, length-points (c .points) P) g
+  -- 11, or the record
+  pub rule-assessed : (r : Assessed) → measurable d x w ≡ verdict.Accepted → r ≡ assessedOf (withCounts (x .counts .points) (held x .quads) (measureRule d (held x))) → r ≡ assessedOf (qualityRule d x w)
+  unfolding qualityRule
+  rule-assessed r e g = rw (e, length-points (x .counts .points) (x .points)) g

@@ -2,19 +2,16 @@
 use Prim.Native.Nat.{ℕ}
 use mathlib.Core.Path.{_≡_, refl, sym, ap, _∙_}
 use mathlib.Core.Bool.{Bool, true}
-use mathlib.Core.List.{List}
 use native.Mathlib.Omega.{arith}
-use lib.ListN.{length}
-use lib.Ieee.{Float}
 use borrow.Author.Tests.{eqb-true}
 use Rattle.lists.proofs.Every.{and-left, and-right}
-use Rattle.band.specs.declared.Band.{Band}
-use Rattle.rule_sheet.specs.declared.Counts.{Counts}
+use Rattle.setting.specs.Settings.{Domain}
 use Rattle.rule_sheet.specs.declared.Verdict.{Verdict}
 use Rattle.rule_sheet.specs.declared.Verdict.the-variants as verdict
 use Rattle.rule_sheet.specs.Closed.{Closed, Rings}
-use Rattle.rule_sheet.specs.Flat.{quadsOf}
-use Rattle.rule_sheet.specs.Sheet.{sheetOf, lentVerdict, sheetVerdict}
+use Rattle.rule_sheet.specs.Lent.{Lent, Work, held}
+use Rattle.rule_sheet.specs.Outcomes.{afterTest}
+use Rattle.rule_admission.specs.Admission.{measurable}
 use Rattle.sheet.proofs.Tests.{length-points}
 use Rattle.rule_quality.specs.Census.{badLinks, tight}
 use Rattle.edges.specs.Steps.{edgeCounts}
@@ -28,7 +25,7 @@ use Rattle.rule_quality.specs.Measure.{measureRule}
 use Rattle.rule_quality.specs.declared.report.Quality.{Quality}
 use Rattle.rule_quality.specs.declared.report.Assessed.{Assessed}
 use Rattle.rule_quality.specs.declared.report.Assessed.the-variants.{Done, Refused}
-use Rattle.rule_quality.specs.Quality.{isValid, qualityOf, withCounts, afterTests, assessed, qualityRule}
+use Rattle.rule_quality.specs.Quality.{isValid, qualityOf, withCounts, qualityRule, assessedOf}
 use Rattle.quality.proofs.Accepted.{accepted}
 
 -- the record of an answer, d for a refusal
@@ -46,37 +43,34 @@ abbrev isRefusal : Assessed → ℕ
 isRefusal (Done q t) = 0
 isRefusal (Refused k) = 1
 
--- what an answer with a record tells: the tests accept the sheet, and the record and tight are those of its counts
-pub record Told (b : Band) (c : Counts) (P : List Float) (Q labels : List ℕ) (w f : ℕ) (q : Quality) (t : Bool) : Type 0 where
-  pub lent : lentVerdict c (length P) (length Q) (length labels) w f ≡ verdict.Accepted
-  pub tests : sheetVerdict b (sheetOf c P Q labels) ≡ verdict.Accepted
+-- what an answer with a record tells: the tests admit the sheet, and the record and tight are those of its counts
+pub record Told (d : Domain) (x : Lent) (w : Work) (q : Quality) (t : Bool) : Type 0 where
+  pub admitted : measurable d x w ≡ verdict.Accepted
   pub measures : Measures
-  pub is : q ≡ qualityOf (c .points) (quadsOf (c .quads) Q) measures
-  pub is-tight : t ≡ tight (c .points) (quadsOf (c .quads) Q)
+  pub is : q ≡ qualityOf (x .counts .points) (held x .quads) measures
+  pub is-tight : t ≡ tight (x .counts .points) (held x .quads)
 
-module _ (b : Band) (c : Counts) (P : List Float) (Q labels : List ℕ) (w f : ℕ) (q : Quality) (t : Bool) where
-  pub told : qualityRule b c P Q labels w f ≡ Done q t → Told b c P Q labels w f q t
-  unfolding qualityRule assessed
-  told e = go (lentVerdict c (length P) (length Q) (length labels) w f) refl (sheetVerdict b (sheetOf c P Q labels)) refl (measureRule b (sheetOf c P Q labels)) (rw (length-points (c .points) P) at e)
+module _ (d : Domain) (x : Lent) (w : Work) (q : Quality) (t : Bool) where
+  pub told : assessedOf (qualityRule d x w) ≡ Done q t → Told d x w q t
+  unfolding qualityRule
+  told e = go (measurable d x w) refl (measureRule d (held x)) (rw (length-points (x .counts .points) (x .points)) at e)
     where
-      go : (u : Verdict) → lentVerdict c (length P) (length Q) (length labels) w f ≡ u → (v : Verdict) → sheetVerdict b (sheetOf c P Q labels) ≡ v → (m : Measured)
-          → afterTests u (afterTests v (withCounts (c .points) (quadsOf (c .quads) Q) m)) ≡ Done q t → Told b c P Q labels w f q t
-      go (verdict.Refused k) eu v ev m h = absurd (let z : _≡_ {A = ℕ} 1 0 = ap isRefusal h in omega arith)
-      go verdict.Accepted eu (verdict.Refused k) ev m h = absurd (let z : _≡_ {A = ℕ} 1 0 = ap isRefusal h in omega arith)
-      go verdict.Accepted eu verdict.Accepted ev (measured.Refused k) h = absurd (let z : _≡_ {A = ℕ} 1 0 = ap isRefusal h in omega arith)
-      go verdict.Accepted eu verdict.Accepted ev (measured.Done m) h = record { lent = eu; tests = ev; measures = m; is = sym (ap (recordOr q) h); is-tight = sym (ap (tightOr t) h) }
+      go : (v : Verdict) → measurable d x w ≡ v → (m : Measured) → assessedOf (afterTest v (withCounts (x .counts .points) (held x .quads) m)) ≡ Done q t → Told d x w q t
+      go (verdict.Refused k) ev m h = absurd (let z : _≡_ {A = ℕ} 1 0 = ap isRefusal h in omega arith)
+      go verdict.Accepted ev (measured.Refused k) h = absurd (let z : _≡_ {A = ℕ} 1 0 = ap isRefusal h in omega arith)
+      go verdict.Accepted ev (measured.Done m) h = record { admitted = ev; measures = m; is = sym (ap (recordOr q) h); is-tight = sym (ap (tightOr t) h) }
 
   -- "tight is a yes if every edge has exactly two quads that run opposite ways": the sheet is closed, as demand 3's start is
-  pub yes-closed : qualityRule b c P Q labels w f ≡ Done q t → t ≡ true → Closed (quadsOf (c .quads) Q)
+  pub yes-closed : assessedOf (qualityRule d x w) ≡ Done q t → t ≡ true → Closed (held x .quads)
   yes-closed e y =
       let T = told e in
-      tight-closed (c .points) (quadsOf (c .quads) Q) (accepted b c P Q labels w f (T .lent) (T .tests) .counts .good) (sym (T .is-tight) ∙ y)
+      tight-closed (x .counts .points) (held x .quads) (accepted d x w (T .admitted) .counts .good) (sym (T .is-tight) ∙ y)
 
   -- and a valid sheet is closed, with one ring at each point
-  pub valid-closed : qualityRule b c P Q labels w f ≡ Done q t → isValid q ≡ true → Closed (quadsOf (c .quads) Q) × Rings (quadsOf (c .quads) Q)
+  pub valid-closed : assessedOf (qualityRule d x w) ≡ Done q t → isValid q ≡ true → Closed (held x .quads) × Rings (held x .quads)
   unfolding isValid qualityOf edgeCounts tightBy
   valid-closed e y =
       let T = told e in
-      let good = accepted b c P Q labels w f (T .lent) (T .tests) .counts .good in
-      let v : isValid (qualityOf (c .points) (quadsOf (c .quads) Q) (T .measures)) ≡ true = sym (ap isValid (T .is)) ∙ y in
-      tight-rings (c .points) (quadsOf (c .quads) Q) good (tight-counts (c .points) (quadsOf (c .quads) Q) ∙ search (and-left)) (eqb-true (badLinks (c .points) (quadsOf (c .quads) Q)) 0 (search (and-left, and-right)))
+      let good = accepted d x w (T .admitted) .counts .good in
+      let v : isValid (qualityOf (x .counts .points) (held x .quads) (T .measures)) ≡ true = sym (ap isValid (T .is)) ∙ y in
+      tight-rings (x .counts .points) (held x .quads) good (tight-counts (x .counts .points) (held x .quads) ∙ search (and-left)) (eqb-true (badLinks (x .counts .points) (held x .quads)) 0 (search (and-left, and-right)))

@@ -7,7 +7,7 @@ use Rattle.rule_sheet.specs.declared.Counts.{Counts}
 use Rattle.rule_sheet.specs.Quads.{Quad, all}
 use Rattle.rule_sheet.specs.Flat.{quadsOf}
 use Rattle.rule_sheet.specs.Tests.{proper}
-use Rattle.rule_sheet.specs.Sheet.{limit}
+use Rattle.rule_sheet.specs.Lent.{limit}
 use Rattle.incidence.specs.Corners.{Cornered}
 use Rattle.rule_quality.specs.Census.{irregular, badLinks}
 use Rattle.quality_measures.specs.Readings.{Measurable}

@@ -9,16 +9,37 @@ use rule_quality::report::Quality;
 use rule_sheet::Counts;
 use rule_sheet::Verdict;
 ghost use mathlib.Core.Path.{_≡_};
-ghost use lib.ListN.{length, replicate};
-ghost use Rattle.numeric.specs.Num.{zeroF};
+ghost use lib.ListN.{length};
+ghost use Rattle.setting.specs.Settings.{domainOf};
 ghost use Rattle.rule_sheet.specs.Flat.{quadsOf};
 ghost use Rattle.rule_sheet.specs.Sheet.{sheetOf};
+ghost use Rattle.rule_sheet.specs.Lent.{lentOf, workOf};
+ghost use Rattle.rule_sheet.specs.Results.{Cleared};
 ghost use Rattle.edges.specs.Steps.{edgeCounts};
-ghost use Rattle.rule_quality.specs.Census.{duplicateFaces, tight};
+ghost use Rattle.rule_quality.specs.Census.{duplicateFaces};
 ghost use Rattle.rule_quality.specs.Measure.{measureRule};
-ghost use Rattle.rule_quality.specs.declared.report.Assessed.the-variants.{Done};
-ghost use Rattle.rule_quality.specs.Quality.{qualityOf, withCounts, qualityRule};
+ghost use Rattle.rule_quality.specs.declared.Measured.the-variants.{Done};
+ghost use Rattle.rule_quality.specs.Quality.{withCounts, qualityRule, assessedOf};
 ghost use Rattle.quality.specs.Quality.{pointCounts, Countable, Measuring};
+
+// Where the regions of the counts begin in the work slice, in units of points and quads together. Where the corners of
+// each point begin in their order, or those of each key in a sort.
+const STARTS: usize = 0;
+
+// Corners in an order.
+const CORNERS: usize = 2;
+
+// Where a sort works.
+const WORK: usize = 6;
+
+// How many quads each point has.
+const VALENCES: usize = 10;
+
+// How many joins each node of a link has.
+const DEGREES: usize = 11;
+
+// The sum of the points of the first two joins of each node of a link.
+const SUMS: usize = 12;
 
 // The points whose number of quads is not 4, and those whose link is bad.
 struct PointCounts {
@@ -32,16 +53,22 @@ fn count_points(np: usize, nq: usize, quads: &[u32], work: &mut [u32]) -> PointC
     ensures { λ r. ⌜ r ≡ pointCounts np (quadsOf nq (now (quads .entry))) ⌝ }
 {
     let n = np + nq;
-    let starts = 0;
-    let order = 2 * n;
-    let first = 6 * n;
-    let val = 10 * n;
-    let deg = 11 * n;
-    let acc = 12 * n;
-    incidence::quads_at(np, nq, quads, first, starts, order, work);
-    incidence::valences(np, nq, quads, starts, val, work);
-    let irregular = quality_counts::irregular_vertices(np, nq, quads, val, work);
-    let bad_links = quality_links::bad_links(np, nq, quads, starts, order, deg, acc, work);
+    let starts = STARTS * n;
+    let order = CORNERS * n;
+    let valences = VALENCES * n;
+    incidence::quads_at(np, nq, quads, WORK * n, starts, order, work);
+    incidence::valences(np, nq, quads, starts, valences, work);
+    let irregular = quality_counts::irregular_vertices(np, nq, quads, valences, work);
+    let bad_links = quality_links::bad_links(
+        np,
+        nq,
+        quads,
+        starts,
+        order,
+        DEGREES * n,
+        SUMS * n,
+        work,
+    );
     PointCounts {
         irregular,
         bad_links,
@@ -54,9 +81,8 @@ fn count_edges(np: usize, nq: usize, quads: &[u32], work: &mut [u32]) -> EdgeCou
     ensures { λ r. ⌜ r ≡ edgeCounts np (quadsOf nq (now (quads .entry))) ⌝ }
 {
     let n = np + nq;
-    let order = 4 * n;
-    let pos = 8 * n;
-    incidence::edge_order(np, nq, quads, 0, pos, order, work);
+    let order = CORNERS * n;
+    incidence::edge_order(np, nq, quads, WORK * n, STARTS * n, order, work);
     edges::edge_counts(np, nq, quads, order, work)
 }
 
@@ -66,16 +92,15 @@ fn count_duplicates(np: usize, nq: usize, quads: &[u32], work: &mut [u32]) -> us
     ensures { λ r. ⌜ r ≡ duplicateFaces (quadsOf nq (now (quads .entry))) ⌝ }
 {
     let n = np + nq;
-    let pos = 2 * n;
-    quality_counts::quad_order(np, nq, quads, 0, pos, n, work);
-    quality_counts::duplicate_faces(np, nq, quads, 0, work)
+    let order = CORNERS * n;
+    quality_counts::quad_order(np, nq, quads, order, STARTS * n, WORK * n, work);
+    quality_counts::duplicate_faces(np, nq, quads, order, work)
 }
 
 // The record of a sheet with these measures, and whether it is tight.
 fn with_counts(np: usize, nq: usize, quads: &[u32], m: Measures, work: &mut [u32]) -> Assessed
     requires { ⌜ Countable np nq (now quads) (length (now work)) ⌝ }
-    ensures { λ r. ⌜ r ≡ Done (qualityOf np (quadsOf nq (now (quads .entry))) m)
-        (tight np (quadsOf nq (now (quads .entry)))) ⌝ }
+    ensures { λ r. ⌜ r ≡ assessedOf (withCounts np (quadsOf nq (now (quads .entry))) (Done m)) ⌝ }
 {
     let points = count_points(np, nq, quads, work);
     let edges = count_edges(np, nq, quads, work);
@@ -109,8 +134,8 @@ fn assess(
 ) -> Assessed
     requires { ⌜ Measuring c (length (now points)) (now quads) (length (now labels)) (length (now work))
         (length (now floats)) ⌝ }
-    ensures { λ r. ⌜ r ≡ withCounts (c .points) (quadsOf (c .quads) (now (quads .entry)))
-        (measureRule b (sheetOf c (now (points .entry)) (now (quads .entry)) (now (labels .entry)))) ⌝ }
+    ensures { λ r. ⌜ r ≡ assessedOf (withCounts (c .points) (quadsOf (c .quads) (now (quads .entry)))
+        (measureRule (domainOf b) (sheetOf c (now (points .entry)) (now (quads .entry)) (now (labels .entry))))) ⌝ }
 {
     let np = c.points;
     let nq = c.quads;
@@ -131,23 +156,11 @@ fn quality_or_refusal(
     work: &mut [u32],
     floats: &mut [f64],
 ) -> Assessed
-    ensures { λ r. ⌜ r ≡ qualityRule b c (now (points .entry)) (now (quads .entry)) (now (labels .entry))
-        (length (now (work .entry))) (length (now (floats .entry))) ⌝ }
+    ensures { λ r. ⌜ r ≡ assessedOf (qualityRule (domainOf b) (lentOf c (now (points .entry)) (now (quads .entry))
+        (now (labels .entry))) (workOf (now (work .entry)) (now (floats .entry)))) ⌝ }
 {
-    let lent = sheet::lent(
-        c,
-        points.len(),
-        quads.len(),
-        labels.len(),
-        work.len(),
-        floats.len(),
-    );
-    if let Verdict::Refused(k) = lent {
-        return Assessed::Refused(k);
-    }
-    let np = c.points;
-    let tested = sheet::constraints(b, c, points, quads, labels, &mut work[..np]);
-    if let Verdict::Refused(k) = tested {
+    let admitted = admission::admit(b, c, points, quads, labels, 0, work, floats.len());
+    if let Verdict::Refused(k) = admitted {
         return Assessed::Refused(k);
     }
     assess(b, c, points, quads, labels, work, floats)
@@ -163,10 +176,10 @@ pub fn quality(
     work: &mut [u32],
     floats: &mut [f64],
 ) -> Assessed
-    ensures { λ r. ⌜ r ≡ qualityRule b c (now (points .entry)) (now (quads .entry)) (now (labels .entry))
-        (length (now (work .entry))) (length (now (floats .entry))) ⌝ }
-    ensures { λ _. ⌜ now (work .exit) ≡ replicate (length (now (work .entry))) 0 ⌝ }
-    ensures { λ _. ⌜ now (floats .exit) ≡ replicate (length (now (floats .entry))) zeroF ⌝ }
+    ensures answer { λ r. ⌜ r ≡ assessedOf (qualityRule (domainOf b) (lentOf c (now (points .entry))
+        (now (quads .entry)) (now (labels .entry))) (workOf (now (work .entry)) (now (floats .entry)))) ⌝ }
+    ensures cleared { λ _. ⌜ Cleared (now (work .entry)) (now (floats .entry)) (now (work .exit))
+        (now (floats .exit)) ⌝ }
 {
     let r = quality_or_refusal(b, c, points, quads, labels, work, floats);
     sheet::clear_work(work, floats);

@@ -5,6 +5,7 @@ use mathlib.Core.Bool.{Bool, true, cond, _&&_}
 use mathlib.Core.List.{List}
 use lib.Dec.{eqb}
 use lib.ListN.{length, getD, set}
+use Rattle.rule_sheet.specs.Lent.{limit}
 use Rattle.lists.specs.Every.{every}
 use Rattle.lists.specs.Sort.{tabulate}
 use Rattle.lists.specs.Regions.{Part, Apart}
@@ -51,14 +52,14 @@ registered deg acc x y w =
 pub record Registering (deg acc x y : ℕ) (w : List ℕ) : Type 0 where
   pub in-deg : deg + x < length w
   pub in-acc : acc + x < length w
-  pub small : y < 1048576
+  pub small : y < limit
   pub few : getD w (deg + x) 0 < 16777216
-  pub sum< : getD w (deg + x) 0 ≡ 1 → getD w (acc + x) 0 < 1048576
+  pub sum< : getD w (deg + x) 0 ≡ 1 → getD w (acc + x) 0 < limit
 
 -- m corners cs at `from`, and for each of np points a count at `deg` and a sum at `acc`
 pub record Joining (np : ℕ) (Q cs : List ℕ) (from m deg acc : ℕ) (w : List ℕ) : Type 0 where
   pub few : m ≤ 4194304
-  pub points : np ≤ 1048576
+  pub points : np ≤ limit
   pub at : Part from m cs w
   pub known : (i : ℕ) → i < m → Known Q (getD cs i 0)
   pub before< : (i : ℕ) → i < m → before Q (getD cs i 0) < np
@@ -74,7 +75,7 @@ pub record Joins (np : ℕ) (D W : ℕ → ℕ) (deg acc : ℕ) (w : List ℕ) :
   pub none : (x : ℕ) → D x ≡ 0 → W x ≡ 0
   pub degrees : (x : ℕ) → x < np → getD w (deg + x) 0 ≡ D x
   pub sums : (x : ℕ) → x < np → 0 < D x → D x ≤ 2 → getD w (acc + x) 0 ≡ W x
-  pub small : (x : ℕ) → x < np → 0 < D x → D x ≤ 2 → getD w (acc + x) 0 < D x * 1048576
+  pub small : (x : ℕ) → x < np → 0 < D x → D x ≤ 2 → getD w (acc + x) 0 < D x * limit
 
 -- no point has a join
 abbrev pub Unjoined : ℕ → ℕ → List ℕ → Type 0
@@ -120,7 +121,7 @@ oneRound n S v = connected n S v && every (noneOrTwo S v) n
 pub record LinkRoom (np nq : ℕ) (Q : List ℕ) (starts order deg acc : ℕ) (w : List ℕ) : Type 0 where
   pub sheet : Cornered np nq Q
   pub good : all (proper np) (quadsOf nq Q) ≡ true
-  pub points : np ≤ 1048576
+  pub points : np ≤ limit
   pub begin : Part starts (np + 1) (tabulate (firstAt nq Q) (np + 1)) w
   pub at : Part order (4 * nq) (cornersAt np nq Q) w
   pub in-deg : deg + np ≤ length w

@@ -5,6 +5,7 @@ ghost use mathlib.Core.Path.{_≡_};
 ghost use Prim.Native.Nat.{ℕ, _+_, _<_};
 ghost use lib.Dec.{eqb};
 ghost use lib.ListN.{length, getD};
+ghost use Rattle.rule_sheet.specs.Lent.{limit};
 ghost use Rattle.lists.specs.Every.{every};
 ghost use Rattle.lists.specs.Regions.{part, Out, Out2, Kept};
 ghost use Rattle.rule_sheet.specs.Quads.{valence};
@@ -18,8 +19,8 @@ ghost use Rattle.quality_links.specs.Links.{oneRound, LinkRoom};
 
 // The sum of the first two joins of a point that has d joins of the sum s, with a join to y.
 fn other_sum(d: u32, s: u32, y: u32) -> u32
-    requires { ⌜ (d ≡ 1 → s < 1048576) ⌝ }
-    requires { ⌜ y < 1048576 ⌝ }
+    requires { ⌜ (d ≡ 1 → s < limit) ⌝ }
+    requires { ⌜ y < limit ⌝ }
     ensures { λ r. ⌜ r ≡ otherSum d s y ⌝ }
 {
     if d == 0 {

@@ -14,7 +14,7 @@ use lib.Ieee.Nearest.{div-mono}
 use lib.Ieee.Positive.{positive, own-value, positive-of-value, values-of-le, mul-at}
 use Rattle.numeric.specs.Num.{zeroF, floorOf, float, twentieth}
 use Rattle.points.specs.Points.{_⊗_}
-use Rattle.rule_sheet.specs.Sheet.{limit}
+use Rattle.rule_sheet.specs.Lent.{limit}
 use Rattle.rule_quality.specs.Measure.{fractOf, ceilOf}
 
 -- a whole number of at most 2 ^ 53 is a float's value

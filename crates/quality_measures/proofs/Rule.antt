@@ -15,10 +15,11 @@ use Rattle.band.specs.declared.Band.{Band}
 use Rattle.band.specs.Bands.{lengthOf}
 use Rattle.rule_sheet.specs.declared.Counts.{Counts}
 use Rattle.rule_sheet.specs.Quads.{all}
-use Rattle.rule_sheet.specs.Sheet.{sheetOf, limit}
+use Rattle.rule_sheet.specs.Sheet.{sheetOf}
+use Rattle.rule_sheet.specs.Lent.{limit}
 use Rattle.rule_quality.specs.declared.Measures.{Measures}
 use Rattle.rule_quality.specs.declared.Measured.the-variants.{Done, Refused}
-use Rattle.rule_quality.specs.Measure.{Cell, hasNormal, cellsOf, leastOf, meanOf, invalidOf, p05Of, scoreOf, scoresOf, summaryOf, measuresOf, measureRule, normal}
+use Rattle.rule_quality.specs.Measure.{Cell, hasNormal, cellsOf, leastOf, meanOf, invalidOf, p05Of, scoreOf, scoresOf, summaryOf, measuresOf, measureRule, normalNumber}
 use Rattle.quality_measures.specs.Readings.{cellsTo, Readings, Measurable}
 use Rattle.quality_measures.proofs.Folds.{zip-tab}
 use Rattle.quality_measures.proofs.Cells.{cells-flat}
@@ -117,7 +118,7 @@ module _ (b : Band) (c : Counts) (P : List Float) (Q labels : List ℕ) (M : Mea
 
   -- a cell has no normal
   pub refused : (len : Float) (g : Bool) (at : ℕ) (F G : List Float) (w : List ℕ) → len ≡ lengthOf b → g ≡ false → Read len g F G
-      → (Refused normal ≡ measureRule b (sheetOf c P Q labels)) × (Kept (Out at (2 * c .quads + 256)) w w × Kept (Out 0 (5 * c .quads)) F G)
+      → (Refused normalNumber ≡ measureRule b (sheetOf c P Q labels)) × (Kept (Out at (2 * c .quads + 256)) w w × Kept (Out 0 (5 * c .quads)) F G)
   unfolding measureRule
   refused len g at F G w el t R =
       let e : all hasNormal (cells len) ≡ false = sym (R .0) ∙ t in

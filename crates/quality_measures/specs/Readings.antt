@@ -12,7 +12,7 @@ use Rattle.field.specs.declared.Field.{Field}
 use Rattle.band.specs.Bands.{normalWith}
 use Rattle.rule_sheet.specs.declared.Counts.{Counts}
 use Rattle.rule_sheet.specs.Flat.{corner}
-use Rattle.rule_sheet.specs.Sheet.{limit}
+use Rattle.rule_sheet.specs.Lent.{limit}
 use Rattle.sheet.specs.Sheet.{LentSheet}
 use Rattle.rule_quality.specs.declared.Corners.{Corners}
 use Rattle.rule_quality.specs.Measure.{Cell, centreOf, hasNormal, cellShape, cellJacobian, cellArea}

@@ -21,13 +21,14 @@ use Rattle.rule_sheet.specs.declared.Verdict.the-variants.{Accepted, Refused}
 use Rattle.rule_sheet.specs.Quads.{all}
 use Rattle.rule_sheet.specs.Flat.{quadAt, quadsOf, flatQuads}
 use Rattle.rule_sheet.specs.Tests.{inRange}
-use Rattle.rule_sheet.specs.Sheet.{Sheet, sheetOf, pointsOf, flatPoints, isLarge, isShort, lentVerdict}
+use Rattle.rule_sheet.specs.Sheet.{Sheet, sheetOf, pointsOf, flatPoints}
+use Rattle.rule_sheet.specs.Lent.{lentOf, limit, roomWith, roomOf, workWith, isLarge, isShort, lentVerdict}
 use Rattle.sheet.specs.Sheet.{LentSheet}
 use Rattle.sheet.proofs.Flat.{length-quads}
 use Rattle.sheet.proofs.Tests.{or-left, or-right, all-tab, lent-is, length-points}
-use Rattle.rule_sheet.specs.declared.Made.{Made}
-use Rattle.rule_sheet.specs.Outcomes.{Outcome, refuses, gives}
-use Rattle.rule_sheet.specs.Results.{answerOf, countsOf}
+use Rattle.rule_sheet.specs.declared.Answer.{Answer}
+use Rattle.rule_sheet.specs.Outcomes.{Outcome, gives}
+use Rattle.rule_sheet.specs.Sheet.{countsOf}
 use Rattle.sheet.specs.Results.{Front, Fills}
 use Rattle.sheet.proofs.Results.{refused-fills}
 use Rattle.incidence.specs.Corners.{Cornered, edgeOrder}
@@ -37,7 +38,7 @@ use Rattle.refine.specs.Loops.{lowAt, Linking, Numbering, Numbered, Writ
 use Rattle.lists.specs.Steps.{nth}
 use Rattle.refine.proofs.Edges.{linked-start}
 use Rattle.refine.proofs.Sheet.{firsts-known, finer-points, finer-quads, finer-labels, finer-counts}
-use Rattle.rule_sheet.specs.declared.Made.the-variants as made
+use Rattle.rule_sheet.specs.declared.Answer.the-variants as answers
 
 -- ---- the work slice
 
@@ -64,7 +65,7 @@ started {np} {nq} {Q} {u} {v} y C h E e =
       kept = kept-then (E .1) (L .kept) (λ i b. ((λ r s. omega arith, (λ r s. omega arith, λ r s. omega arith)), λ r s. omega arith));
     }
 
-pub numbering-start : {np nq : ℕ} {Q v u w : List ℕ} {K : ℕ → Type 0} → Cornered np nq Q → np ≤ 1048576 → 64 * (np + nq) ≤ length v → Started np nq Q v u → Part (firstsAt np nq) (5 * nq) (firstsOf np nq Q) w × Kept K u w
+pub numbering-start : {np nq : ℕ} {Q v u w : List ℕ} {K : ℕ → Type 0} → Cornered np nq Q → np ≤ limit → 64 * (np + nq) ≤ length v → Started np nq Q v u → Part (firstsAt np nq) (5 * nq) (firstsOf np nq Q) w × Kept K u w
     → Numbering np (5 * nq) (firstsAt np nq) (numbersAt np nq) (part (firstsAt np nq) (5 * nq) w) 0 np w
 unfolding tabulate
 numbering-start {np} {nq} {Q} {v} {u} {w} C h room S E =
@@ -141,7 +142,7 @@ module _ {np nq : ℕ} {P : List Float} {Q labels w : List ℕ} {p q l : ℕ} (F
 abbrev pub countsAfter : Counts → ℕ → Counts
 countsAfter c n = record { points = n; quads = 4 * c .quads; labels = 4 * c .quads }
 
-room-of : (k : Counts) (p q l : ℕ) → isShort k p q l ≡ false → (3 * k .points ≤ p) × ((4 * k .quads ≤ q) × (k .labels ≤ l))
+room-of : (k : Counts) (p q l : ℕ) → isShort k (roomWith p q l) ≡ false → (3 * k .points ≤ p) × ((4 * k .quads ≤ q) × (k .labels ≤ l))
 unfolding isShort
 room-of k p q l e = (ltb-false _ _ (search (or-left, or-right)), (ltb-false _ _ (search (or-left, or-right)), ltb-false _ _ (search (or-left, or-right))))
 
@@ -149,14 +150,14 @@ module _ (c : Counts) (P : List Float) (Q labels : List ℕ) (w : ℕ) (R : Refi
   counts-are : countsOf (finerSheet (sheetOf c P Q labels)) ≡ countsAfter c n
   counts-are = finer-counts c P Q labels (R .cornered) (R .same) (R .lent .labels) n en
 
-  pub tested-large : (A : List Float) (B D : List ℕ) → isLarge (countsAfter c n) ≡ true → Fills (madeOrShort (finerSheet (sheetOf c P Q labels)) p q l) (answerOf (refuses 13)) A B D
+  pub tested-large : (A : List Float) (B D : List ℕ) → isLarge (countsAfter c n) ≡ true → Fills (madeOrShort (finerSheet (sheetOf c P Q labels)) (roomWith p q l)) (answers.Refused 13) A B D
   tested-large A B D h = rw (counts-are, h) (refused-fills 13 A B D)
 
-  pub tested-short : (A : List Float) (B D : List ℕ) → isLarge (countsAfter c n) ≡ false → isShort (countsAfter c n) p q l ≡ true
-      → Fills (madeOrShort (finerSheet (sheetOf c P Q labels)) p q l) (answerOf (refuses 13)) A B D
+  pub tested-short : (A : List Float) (B D : List ℕ) → isLarge (countsAfter c n) ≡ false → isShort (countsAfter c n) (roomWith p q l) ≡ true
+      → Fills (madeOrShort (finerSheet (sheetOf c P Q labels)) (roomWith p q l)) (answers.Refused 13) A B D
   tested-short A B D h s = rw (counts-are, h, s) (refused-fills 13 A B D)
 
-  pub tested-finished : (v : List ℕ) → Worked (c .points) (c .quads) Q v → isShort (countsAfter c n) p q l ≡ false → Finished (c .points) (c .quads) P Q labels v p q l
+  pub tested-finished : (v : List ℕ) → Worked (c .points) (c .quads) Q v → isShort (countsAfter c n) (roomWith p q l) ≡ false → Finished (c .points) (c .quads) P Q labels v p q l
   tested-finished v W s =
       let r = room-of (countsAfter c n) p q l s in
       record {
@@ -168,16 +169,16 @@ module _ (c : Counts) (P : List Float) (Q labels : List ℕ) (w : ℕ) (R : Refi
         in-labels = r .1 .1;
       }
 
-  pub tested-done : (A : List Float) (B D : List ℕ) → isLarge (countsAfter c n) ≡ false → isShort (countsAfter c n) p q l ≡ false
+  pub tested-done : (A : List Float) (B D : List ℕ) → isLarge (countsAfter c n) ≡ false → isShort (countsAfter c n) (roomWith p q l) ≡ false
       → Front (flatPoints (pointsOf (c .points) P ++ madeTo (firstsOf (c .points) (c .quads) Q) (positionAt (pointAt P) Q) (5 * c .quads))) A
       × (Front (flatQuads (tabulate (childAt (numberOf (c .points) (firstsOf (c .points) (c .quads) Q)) Q) (4 * c .quads))) B × Front (tabulate (labelAt labels) (4 * c .quads)) D)
-      → Fills (madeOrShort (finerSheet (sheetOf c P Q labels)) p q l) (made.Done (countsAfter c n)) A B D
+      → Fills (madeOrShort (finerSheet (sheetOf c P Q labels)) (roomWith p q l)) (answers.Done (record { count = 0; sheet = countsAfter c n })) A B D
   tested-done A B D h s E =
       let x = finer-points c P Q labels (R .cornered) (R .same) (R .lent .labels) in
       let y = finer-quads c P Q labels (R .cornered) (R .same) (R .lent .labels) in
       let z = finer-labels c P Q labels (R .cornered) (R .same) (R .lent .labels) in
-      let o : madeOrShort (finerSheet (sheetOf c P Q labels)) p q l ≡ gives (finerSheet (sheetOf c P Q labels)) = rw (counts-are, h, s) in
-      rw o (record { answer = ap made.Done (sym counts-are); points = rw x (E .0); quads = rw y (E .1 .0); labelled = rw z (E .1 .1) })
+      let o : madeOrShort (finerSheet (sheetOf c P Q labels)) (roomWith p q l) ≡ gives (finerSheet (sheetOf c P Q labels)) = rw (counts-are, h, s) in
+      rw o (record { answer = ap (λ (k : Counts). answers.Done (record { count = 0; sheet = k })) (sym counts-are); points = rw x (E .0); quads = rw y (E .1 .0); labelled = rw z (E .1 .1) })
 
 -- ---- the tests before
 
@@ -205,27 +206,27 @@ range-is n nq Q = bool-iff _ _
 
 module _ (c : Counts) (P : List Float) (Q labels : List ℕ) (w f p q l : ℕ) where
   abbrev Rule : Outcome Sheet
-  Rule = refineRule c P Q labels w f p q l
+  Rule = refineRule (lentOf c P Q labels) (workWith w f) (roomWith p q l)
 
-  pub rule-lent : (n : ℕ) (A : List Float) (B D : List ℕ) → lentVerdict c (length P) (length Q) (length labels) w f ≡ Refused n → Fills Rule (answerOf (refuses n)) A B D
+  pub rule-lent : (n : ℕ) (A : List Float) (B D : List ℕ) → lentVerdict c (roomOf P Q labels) (workWith w f) ≡ Refused n → Fills Rule (answers.Refused n) A B D
   unfolding refineRule
   rule-lent n A B D e = rw e (refused-fills n A B D)
 
-  module _ (e : lentVerdict c (length P) (length Q) (length labels) w f ≡ Accepted) where
+  module _ (e : lentVerdict c (roomOf P Q labels) (workWith w f) ≡ Accepted) where
     lent-sheet : LentSheet c (length P) (length Q) (length labels)
     lent-sheet = lent-is c (length P) (length Q) (length labels) w f e .0
 
-    pub rule-few : (c .quads ≤ 1048576) × (4 * c .quads ≤ length Q)
+    pub rule-few : (c .quads ≤ limit) × (4 * c .quads ≤ length Q)
     rule-few = (lent-sheet .few .quads≤, lent-sheet .quads)
 
     length-labels : length (take (c .labels) labels) ≡ c .labels
     length-labels = length-take-le (c .labels) labels (lent-sheet .labels)
 
-    pub rule-bare : (A : List Float) (B D : List ℕ) → (c .labels ≡ c .quads → ⊥) → Fills Rule (answerOf (refuses 5)) A B D
+    pub rule-bare : (A : List Float) (B D : List ℕ) → (c .labels ≡ c .quads → ⊥) → Fills Rule (answers.Refused 5) A B D
     unfolding refineRule refined
     rule-bare A B D ne = rw (e, length-labels, length-quads (c .quads) Q, ne-eqb (c .labels) (c .quads) ne) (refused-fills 5 A B D)
 
-    pub rule-corner : (A : List Float) (B D : List ℕ) → c .labels ≡ c .quads → every (lowAt (c .points) Q) (4 * c .quads) ≡ false → Fills Rule (answerOf (refuses 6)) A B D
+    pub rule-corner : (A : List Float) (B D : List ℕ) → c .labels ≡ c .quads → every (lowAt (c .points) Q) (4 * c .quads) ≡ false → Fills Rule (answers.Refused 6) A B D
     unfolding refineRule refined
     rule-corner A B D s r = rw (e, length-labels, length-quads (c .quads) Q, eq-eqb (c .labels) (c .quads) s, length-points (c .points) P, ← range-is (c .points) (c .quads) Q, r) (refused-fills 6 A B D)
 
@@ -237,7 +238,7 @@ module _ (c : Counts) (P : List Float) (Q labels : List ℕ) (w f p q l : ℕ) w
       work = lent-is c (length P) (length Q) (length labels) w f e .1 .work;
     }
 
-    pub rule-tested : (a : Made) (A : List Float) (B D : List ℕ) → c .labels ≡ c .quads → every (lowAt (c .points) Q) (4 * c .quads) ≡ true
-        → Fills (madeOrShort (finerSheet (sheetOf c P Q labels)) p q l) a A B D → Fills Rule a A B D
+    pub rule-tested : (a : Answer) (A : List Float) (B D : List ℕ) → c .labels ≡ c .quads → every (lowAt (c .points) Q) (4 * c .quads) ≡ true
+        → Fills (madeOrShort (finerSheet (sheetOf c P Q labels)) (roomWith p q l)) a A B D → Fills Rule a A B D
     unfolding refineRule refined
     rule-tested a A B D s r F = rw (e, length-labels, length-quads (c .quads) Q, eq-eqb (c .labels) (c .quads) s, length-points (c .points) P, ← range-is (c .points) (c .quads) Q, r) F

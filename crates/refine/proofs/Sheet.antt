@@ -21,7 +21,7 @@ use Rattle.rule_sheet.specs.FirstUse.{firsts, place}
 use Rattle.rule_sheet.specs.Sheet.{Sheet, sheetOf, pointsOf}
 use Rattle.sheet.proofs.Tests.{length-points}
 use Rattle.rule_sheet.proofs.FirstUse.{usedTo, ownFirst, used-suc, used-zero, used-new, used-old, count-used, place-used, first-unique, firsts-new, firsts-old}
-use Rattle.rule_sheet.specs.Results.{countsOf}
+use Rattle.rule_sheet.specs.Sheet.{countsOf}
 use Rattle.incidence.specs.Corners.{Cornered}
 use Rattle.rule_finer.specs.Finer.{split, edgeKey, centreKey, asked, midOf, cenOf, finer, positionOf, requests, made, newPoints, finerSheet}
 use Rattle.refine.specs.Finer.{finerCount, keyOf}

@@ -3,15 +3,15 @@
 // edge makes its point.
 
 use points::Point;
+use rule_sheet::Answer;
 use rule_sheet::Counts;
-use rule_sheet::Made;
+use rule_sheet::Tally;
 use rule_sheet::Verdict;
 ghost use mathlib.Core.Path.{_≡_};
 ghost use mathlib.Core.Bool.{cond};
 ghost use mathlib.Core.List.{_++_};
 ghost use Prim.Native.Nat.{_+_, _*_, _/_, _%_, _<_, _≤_, _^_};
-ghost use lib.ListN.{length, replicate};
-ghost use Rattle.numeric.specs.Num.{zeroF};
+ghost use lib.ListN.{length};
 ghost use Rattle.points.specs.Points.{pointAt};
 ghost use Rattle.lists.specs.Sort.{tabulate};
 ghost use Rattle.lists.specs.Every.{every, countTo};
@@ -19,7 +19,8 @@ ghost use Rattle.lists.specs.Regions.{part, Part, Out, Kept};
 ghost use Rattle.rule_sheet.specs.Flat.{corner, flatQuads};
 ghost use Rattle.sheet.specs.Flat.{withQuad};
 ghost use Rattle.rule_sheet.specs.Sheet.{pointsOf, flatPoints, sheetOf};
-ghost use Rattle.rule_sheet.specs.Results.{Leaves};
+ghost use Rattle.rule_sheet.specs.Results.{Makes, Cleared};
+ghost use Rattle.rule_sheet.specs.Lent.{limit, lentOf, roomOf, workOf, workWith};
 ghost use Rattle.sheet.specs.Results.{Fills, Front};
 ghost use Rattle.incidence.specs.Corners.{Cornered, Positioned};
 ghost use Rattle.rule_finer.specs.Finer.{finerSheet, madeOrShort, refineRule};
@@ -288,7 +289,7 @@ pub fn put_labels(nq: usize, labels: &[u8], out: &mut [u8])
 // there are then.
 pub fn number_sheet(np: usize, nq: usize, quads: &[u32], w: &mut [u32]) -> usize
     requires { ⌜ Cornered np nq (now quads) ⌝ }
-    requires { ⌜ np ≤ 1048576 ⌝ }
+    requires { ⌜ np ≤ limit ⌝ }
     requires { ⌜ 64 * (np + nq) ≤ length (now w) ⌝ }
     ensures { λ r. ⌜ r ≡ pointsAfter np nq (now (quads .entry)) ⌝ }
     ensures { λ _. ⌜ Worked np nq (now (quads .entry)) (now (w .exit)) ⌝ }
@@ -342,11 +343,11 @@ fn refine_tested(
     new_quads: &mut [u32],
     new_labels: &mut [u8],
     w: &mut [u32],
-) -> Made
+) -> Answer
     requires { ⌜ Refinable c (length (now points)) (now quads) (length (now labels)) (length (now w)) ⌝ }
     ensures { λ r. ⌜ Fills (madeOrShort (finerSheet (sheetOf c (now (points .entry)) (now (quads .entry))
-        (now (labels .entry)))) (length (now («new_points» .entry))) (length (now («new_quads» .entry)))
-        (length (now («new_labels» .entry)))) r (now («new_points» .exit)) (now («new_quads» .exit))
+        (now (labels .entry)))) (roomOf (now («new_points» .entry)) (now («new_quads» .entry))
+        (now («new_labels» .entry)))) r (now («new_points» .exit)) (now («new_quads» .exit))
         (now («new_labels» .exit)) ⌝ }
 {
     let np = c.points;
@@ -357,10 +358,10 @@ fn refine_tested(
         labels: 4 * nq,
     };
     if sheet::is_large(made) {
-        return Made::Refused(sheet::SHORT);
+        return Answer::Refused(sheet::SHORT);
     }
     if sheet::is_short(made, new_points.len(), new_quads.len(), new_labels.len()) {
-        return Made::Refused(sheet::SHORT);
+        return Answer::Refused(sheet::SHORT);
     }
     put_sheet(
         np,
@@ -373,7 +374,10 @@ fn refine_tested(
         new_quads,
         new_labels,
     );
-    Made::Done(made)
+    Answer::Done(Tally {
+        count: 0,
+        sheet: made,
+    })
 }
 
 // The finer sheet, or the first refusal; the slices behind it may hold anything.
@@ -387,18 +391,18 @@ fn refine_or_refusal(
     new_labels: &mut [u8],
     w: &mut [u32],
     floats: usize,
-) -> Made
-    ensures { λ r. ⌜ Fills (refineRule c (now (points .entry)) (now (quads .entry)) (now (labels .entry))
-        (length (now (w .entry))) floats (length (now («new_points» .entry))) (length (now («new_quads» .entry)))
-        (length (now («new_labels» .entry)))) r (now («new_points» .exit)) (now («new_quads» .exit))
+) -> Answer
+    ensures { λ r. ⌜ Fills (refineRule (lentOf c (now (points .entry)) (now (quads .entry)) (now (labels .entry)))
+        (workWith (length (now (w .entry))) floats) (roomOf (now («new_points» .entry)) (now («new_quads» .entry))
+        (now («new_labels» .entry)))) r (now («new_points» .exit)) (now («new_quads» .exit))
         (now («new_labels» .exit)) ⌝ }
 {
     let v = sheet::lent(c, points.len(), quads.len(), labels.len(), w.len(), floats);
     if let Verdict::Refused(n) = v {
-        return Made::Refused(n);
+        return Answer::Refused(n);
     }
     if c.labels != c.quads {
-        return Made::Refused(sheet::BARE);
+        return Answer::Refused(sheet::BARE);
     }
     if in_range(c.points, 4 * c.quads, quads) {
         return refine_tested(
@@ -412,7 +416,7 @@ fn refine_or_refusal(
             w,
         );
     }
-    Made::Refused(sheet::CORNER)
+    Answer::Refused(sheet::CORNER)
 }
 
 // Refines a sheet: a halfway point on each edge, a centre in each quad, four quads for each. The sheet goes to the
@@ -427,14 +431,14 @@ pub fn refine(
     new_labels: &mut [u8],
     work: &mut [u32],
     floats: &mut [f64],
-) -> Made
-    ensures { λ r. ⌜ Leaves (refineRule c (now (points .entry)) (now (quads .entry)) (now (labels .entry))
-        (length (now (work .entry))) (length (now (floats .entry))) (length (now («new_points» .entry)))
-        (length (now («new_quads» .entry))) (length (now («new_labels» .entry)))) (length (now («new_points» .entry)))
-        (length (now («new_quads» .entry))) (length (now («new_labels» .entry))) r (now («new_points» .exit))
-        (now («new_quads» .exit)) (now («new_labels» .exit)) ⌝ }
-    ensures { λ _. ⌜ now (work .exit) ≡ replicate (length (now (work .entry))) 0 ⌝ }
-    ensures { λ _. ⌜ now (floats .exit) ≡ replicate (length (now (floats .entry))) zeroF ⌝ }
+) -> Answer
+    ensures sheet { λ r. ⌜ (
+        let x = lentOf c (now (points .entry)) (now (quads .entry)) (now (labels .entry)) in
+        let room = roomOf (now («new_points» .entry)) (now («new_quads» .entry)) (now («new_labels» .entry)) in
+        Makes (refineRule x (workOf (now (work .entry)) (now (floats .entry))) room) room r
+        (now («new_points» .exit)) (now («new_quads» .exit)) (now («new_labels» .exit))) ⌝ }
+    ensures cleared { λ _. ⌜ Cleared (now (work .entry)) (now (floats .entry)) (now (work .exit))
+        (now (floats .exit)) ⌝ }
 {
     let r = refine_or_refusal(
         c,

@@ -10,13 +10,14 @@ use lib.Ieee.{Float}
 use borrow.Author.Tests.{eq-eqb, ne-eqb}
 use Rattle.rule_sheet.specs.Quads.{Quad}
 use Rattle.rule_sheet.specs.Flat.{quadsOf}
-use Rattle.rule_passes.specs.Runs.{Answer, run, capped}
-use Rattle.rule_regularize.proofs.Runs.{idle, capped-add}
+use Rattle.rule_passes.specs.Runs.{run, capped}
+use Rattle.rule_sheet.specs.Outcomes.{RunEnd}
+use Rattle.rule_passes.proofs.Runs.{idle, capped-add}
 use Rattle.rule_regularize.proofs.Sweep.{pass-none}
 use Rattle.regularize_pass.specs.declared.Trial.{Trial}
 use Rattle.regularize_pass.specs.Steps.{fitsIn, passIn}
 use Rattle.regularize_pass.specs.Conditions.{SwapPassAsks, SwapPassLeaves}
-use Rattle.regularize.specs.Runs.{Ran}
+use Rattle.regularize.specs.Contracts.{RunPassesLeaves}
 
 module _ (np nq : ℕ) (t : Trial) (P : List Float) (labels : List ℕ) where
   -- the count of a pass over S, and the quads that it leaves
@@ -27,7 +28,7 @@ module _ (np nq : ℕ) (t : Trial) (P : List Float) (labels : List ℕ) where
   nextOf S = passIn np nq t P labels S .quads
 
   -- what is left of the run
-  abbrev pub runFrom : ℕ → List Quad → ℕ → Answer (List Quad)
+  abbrev pub runFrom : ℕ → List Quad → ℕ → RunEnd (List Quad)
   runFrom k S c = run countOf nextOf k S c
 
 -- after some passes: `left` of them may follow, and end as all k passes over the quads of Q
@@ -46,18 +47,18 @@ module _ {np nq : ℕ} {t : Trial} {P : List Float} {labels : List ℕ} {k : ℕ
   abbrev S : List Quad
   S = quadsOf nq R
 
-  ends-as : {R′ : List ℕ} → quadsOf nq R′ ≡ S → runFrom np nq t P labels left S (G .swaps) ≡ record { left = S; count = G .swaps } → Ran np nq t P labels k Q R′ total
+  ends-as : {R′ : List ℕ} → quadsOf nq R′ ≡ S → runFrom np nq t P labels left S (G .swaps) ≡ record { left = S; count = G .swaps } → RunPassesLeaves np nq t P labels k Q R′ total
   ends-as e f =
       let a = sym (G .same) ∙ f in
-      record { quads = e ∙ ap (λ (x : Answer (List Quad)). x .left) (sym a); count = G .total-is ∙ ap (λ (x : Answer (List Quad)). capped (x .count)) (sym a) }
+      record { quads = e ∙ ap (λ (x : RunEnd (List Quad)). x .left) (sym a); count = G .total-is ∙ ap (λ (x : RunEnd (List Quad)). capped (x .count)) (sym a) }
 
   -- no pass is left
-  pub running-end : left ≤ 0 → Ran np nq t P labels k Q R total
+  pub running-end : left ≤ 0 → RunPassesLeaves np nq t P labels k Q R total
   running-end h = let z : left ≡ 0 = omega arith in ends-as refl (ap (λ (l : ℕ). runFrom np nq t P labels l S (G .swaps)) z)
 
   module _ {R′ : List ℕ} {count : ℕ} (D : SwapPassLeaves np nq t P labels R R′ count) where
     -- a pass that swaps nothing is the last
-    pub running-none : count ≡ 0 → Ran np nq t P labels k Q R′ total
+    pub running-none : count ≡ 0 → RunPassesLeaves np nq t P labels k Q R′ total
     running-none e =
         let z : countOf np nq t P labels S ≡ 0 = sym (D .count) ∙ e in
         ends-as (D .quads ∙ pass-none np (take nq labels) (t .least) (fitsIn t np nq P labels) S z .0)

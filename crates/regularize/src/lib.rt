@@ -2,19 +2,21 @@
 
 use band::Band;
 use regularize_pass::Trial;
-use rule_regularize::Cleaned;
+use rule_sheet::Answer;
 use rule_sheet::Counts;
+use rule_sheet::Tally;
 use rule_sheet::Verdict;
 ghost use mathlib.Core.Path.{_≡_};
 ghost use Prim.Native.Nat.{_+_, _≤_};
-ghost use lib.ListN.{length, replicate};
-ghost use Rattle.numeric.specs.Num.{zeroF};
-ghost use Rattle.rule_sheet.specs.Sheet.{sheetOf};
-ghost use Rattle.regularize_pass.specs.Conditions.{SwapPassAsks};
+ghost use lib.ListN.{length};
+ghost use Rattle.setting.specs.Settings.{settingOf};
+ghost use Rattle.rule_sheet.specs.Lent.{lentOf, held, workWith, workOf};
+ghost use Rattle.rule_sheet.specs.Outcomes.{gives};
+ghost use Rattle.rule_sheet.specs.Results.{AltersQuads, Cleared};
 ghost use Rattle.rule_passes.specs.Runs.{capped};
-ghost use Rattle.regularize.specs.Runs.{Ran};
-ghost use Rattle.regularize.specs.Rule.{Cleanable, Cleans};
-ghost use Rattle.rule_regularize.specs.Rule.{swapSheet, cleanRule, regularizeRule, improveRule, Leaves};
+ghost use Rattle.rule_regularize.specs.Rule.{swapSheet, swapRule, regularizeRule, improveRule};
+ghost use Rattle.regularize_pass.specs.Conditions.{SwapPassAsks};
+ghost use Rattle.regularize.specs.Contracts.{RunPassesLeaves, CleanAcceptedAsks};
 
 // The least half gain of a swap: more than 0, or 0.
 const GAIN: usize = 1;
@@ -46,7 +48,7 @@ fn run_passes(
     w: &mut [u32],
 ) -> usize
     requires { ⌜ SwapPassAsks np nq t (now points) (now quads) (now labels) (now w) ⌝ }
-    ensures { λ r. ⌜ Ran np nq t (now (points .entry)) (now (labels .entry)) passes (now (quads .entry))
+    ensures { λ r. ⌜ RunPassesLeaves np nq t (now (points .entry)) (now (labels .entry)) passes (now (quads .entry))
         (now (quads .exit)) r ⌝ }
 {
     let mut total: usize = 0;
@@ -72,10 +74,10 @@ fn clean_accepted(
     quads: &mut [u32],
     labels: &[u8],
     w: &mut [u32],
-) -> usize
-    requires { ⌜ Cleanable b least c (now points) (now quads) (now labels) (now w) ⌝ }
-    ensures { λ r. ⌜ Cleans (swapSheet least b passes (sheetOf c (now (points .entry)) (now (quads .entry))
-        (now (labels .entry)))) (now (quads .entry)) r (now (quads .exit)) ⌝ }
+) -> Answer
+    requires { ⌜ CleanAcceptedAsks least (lentOf c (now points) (now quads) (now labels)) (now w) ⌝ }
+    ensures sheet { λ r. ⌜ (let x = lentOf c (now (points .entry)) (now (quads .entry)) (now (labels .entry)) in
+        AltersQuads (gives (swapSheet least (settingOf b) passes (held x))) x r (now (quads .exit))) ⌝ }
 {
     let field = b.field;
     let t = Trial {
@@ -86,7 +88,7 @@ fn clean_accepted(
     let nq = c.quads;
     let count = run_passes(passes, c.points, nq, t, points, labels, quads, w);
     sheet::clear_behind(4 * nq, quads);
-    count
+    Answer::Done(Tally { count, sheet: c })
 }
 
 // The clean-up, or the first refusal; the work slice may hold anything.
@@ -100,20 +102,17 @@ fn clean_or_refusal(
     labels: &[u8],
     w: &mut [u32],
     floats: usize,
-) -> Cleaned
+) -> Answer
     requires { ⌜ least ≤ 1 ⌝ }
-    ensures { λ r. ⌜ Leaves (cleanRule least b passes c (now (points .entry)) (now (quads .entry)) (now (labels .entry))
-        (length (now (w .entry))) floats) (now (quads .entry)) r (now (quads .exit)) ⌝ }
+    ensures sheet { λ r. ⌜ (let x = lentOf c (now (points .entry)) (now (quads .entry)) (now (labels .entry)) in
+        AltersQuads (swapRule least (settingOf b) passes x (workWith (length (now (w .entry))) floats)) x r
+        (now (quads .exit))) ⌝ }
 {
-    let v = sheet::lent(c, points.len(), quads.len(), labels.len(), w.len(), floats);
+    let v = admission::admit(b, c, points, quads, labels, 0, w, floats);
     if let Verdict::Refused(n) = v {
-        return Cleaned::Refused(n);
+        return Answer::Refused(n);
     }
-    let tested = sheet::constraints(b, c, points, quads, labels, &mut w[..c.points]);
-    if let Verdict::Refused(n) = tested {
-        return Cleaned::Refused(n);
-    }
-    Cleaned::Done(clean_accepted(b, passes, least, c, points, quads, labels, w))
+    clean_accepted(b, passes, least, c, points, quads, labels, w)
 }
 
 // Swaps diagonals where the valences gain, at most so many passes. The quads are altered in place; the answer has
@@ -127,11 +126,12 @@ pub fn regularize(
     labels: &[u8],
     work: &mut [u32],
     floats: &mut [f64],
-) -> Cleaned
-    ensures { λ r. ⌜ Leaves (regularizeRule b passes c (now (points .entry)) (now (quads .entry)) (now (labels .entry))
-        (length (now (work .entry))) (length (now (floats .entry)))) (now (quads .entry)) r (now (quads .exit)) ⌝ }
-    ensures { λ _. ⌜ now (work .exit) ≡ replicate (length (now (work .entry))) 0 ⌝ }
-    ensures { λ _. ⌜ now (floats .exit) ≡ replicate (length (now (floats .entry))) zeroF ⌝ }
+) -> Answer
+    ensures sheet { λ r. ⌜ (let x = lentOf c (now (points .entry)) (now (quads .entry)) (now (labels .entry)) in
+        AltersQuads (regularizeRule (settingOf b) passes x (workOf (now (work .entry)) (now (floats .entry)))) x r
+        (now (quads .exit))) ⌝ }
+    ensures cleared { λ _. ⌜ Cleared (now (work .entry)) (now (floats .entry)) (now (work .exit))
+        (now (floats .exit)) ⌝ }
 {
     let r = clean_or_refusal(
         b,
@@ -158,11 +158,12 @@ pub fn improve_layout(
     labels: &[u8],
     work: &mut [u32],
     floats: &mut [f64],
-) -> Cleaned
-    ensures { λ r. ⌜ Leaves (improveRule b passes c (now (points .entry)) (now (quads .entry)) (now (labels .entry))
-        (length (now (work .entry))) (length (now (floats .entry)))) (now (quads .entry)) r (now (quads .exit)) ⌝ }
-    ensures { λ _. ⌜ now (work .exit) ≡ replicate (length (now (work .entry))) 0 ⌝ }
-    ensures { λ _. ⌜ now (floats .exit) ≡ replicate (length (now (floats .entry))) zeroF ⌝ }
+) -> Answer
+    ensures sheet { λ r. ⌜ (let x = lentOf c (now (points .entry)) (now (quads .entry)) (now (labels .entry)) in
+        AltersQuads (improveRule (settingOf b) passes x (workOf (now (work .entry)) (now (floats .entry)))) x r
+        (now (quads .exit))) ⌝ }
+    ensures cleared { λ _. ⌜ Cleared (now (work .entry)) (now (floats .entry)) (now (work .exit))
+        (now (floats .exit)) ⌝ }
 {
     let r = clean_or_refusal(
         b,

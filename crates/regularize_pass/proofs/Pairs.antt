@@ -16,9 +16,10 @@ use Rattle.lists.proofs.Regions.{kept-refl}
 use Rattle.rule_sheet.specs.Quads.{Quad, quad, corners, valence}
 use Rattle.rule_sheet.specs.Flat.{quadAt, quadsOf}
 use Rattle.sheet.specs.Flat.{from, to, before}
-use Rattle.rule_regularize.specs.Swaps.{Fits, State, turn, swapOne, swapTwo, sixDiffer, barList, may, swapQuads}
+use Rattle.rule_regularize.specs.Swaps.{Fits, State, swapOne, swapTwo, sixDiffer, barList, may, swapQuads}
+use Rattle.rule_sheet.specs.Quads.{turn}
 use Rattle.rule_passes.specs.Choices.{noneQuad, choose, takeOr}
-use Rattle.rule_regularize.proofs.Swap.{corners-turn}
+use Rattle.rule_sheet.proofs.Weigh.{corners-turn}
 use Rattle.pass_shapes.specs.declared.Six.{Six}
 use Rattle.pass_shapes.specs.SwapFits.{hexOf}
 use Rattle.pass_shapes.proofs.SwapFits.{quad-there}

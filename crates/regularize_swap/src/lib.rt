@@ -5,6 +5,7 @@ use pass_shapes::Six;
 ghost use mathlib.Core.Path.{_≡_};
 ghost use Prim.Native.Nat.{_+_, _*_, _/_, _%_, _<_, _≤_, _^_};
 ghost use lib.ListN.{length, getD};
+ghost use Rattle.rule_sheet.specs.Lent.{limit};
 ghost use Rattle.lists.specs.Sort.{tabulate};
 ghost use Rattle.lists.specs.Regions.{part, Part, Out, Kept};
 ghost use Rattle.incidence.specs.Corners.{Known};
@@ -178,7 +179,7 @@ pub fn edge_corner(np: usize, nq: usize, i: usize, w: &[u32]) -> usize
 fn put_pair(quads: &mut [u32], i: usize, j: usize, g: Six)
     requires { ⌜ 4 * i + 3 < length (now quads) ⌝ }
     requires { ⌜ 4 * j + 3 < length (now quads) ⌝ }
-    requires { ⌜ SixBelow 1048576 g ⌝ }
+    requires { ⌜ SixBelow limit g ⌝ }
     ensures { λ _. ⌜ now (quads .exit) ≡ withPair (now (quads .entry)) i j g ⌝ }
 {
     sheet::put_quad(quads, i, g.h0 as u32, g.h1 as u32, g.h2 as u32, g.h3 as u32);

@@ -2,7 +2,6 @@
 use crate::numbers;
 ghost use mathlib.Core.Path.{_≡_};
 ghost use mathlib.Core.Bool.{true};
-ghost use Prim.Native.Nat.{_≤_};
 ghost use Rattle.replay_records.specs.Sizes.{Small};
 
 // Where the points of a record begin.

@@ -16,6 +16,8 @@ use Rattle.lists.proofs.Regions.{part-of, part-get, RegionFilled, region-start,
 use Rattle.points.specs.declared.Point.{Point}
 use Rattle.points.specs.Points.{_⊗_, addP, mulP, origin}
 use Rattle.band.specs.declared.Band.{Band}
+use Rattle.setting.specs.Settings.{Setting, settingOf}
+use Rattle.rule_sheet.specs.Lent.{limit}
 use Rattle.band.specs.Bands.{lengthOf}
 use Rattle.projection.specs.declared.Projected.{Projected}
 use Rattle.projection.specs.declared.Projected.the-variants.{Onto, Refused}
@@ -58,13 +60,13 @@ number-le np M k = omega (arith, count-le (copiedIn M) k)
 
 -- the invariant of the loop over the keys: v is the slice as it came
 pub record NumberLoop (np masks pos : ℕ) (v w : List ℕ) (next k : ℕ) : Type 0 where
-  pub few : np ≤ 1048576
+  pub few : np ≤ limit
   pub in-masks : masks + np ≤ length v
   pub apart : Apart masks np pos (8 * np)
   pub filled : RegionFilled (numberIn np (part masks np v)) pos (8 * np) v w k
   pub next-is : next ≡ numberIn np (part masks np v) k
 
-pub numbers-start : {np masks pos : ℕ} {v : List ℕ} → (np ≤ 1048576) × ((masks + np ≤ length v) × ((pos + 8 * np ≤ length v) × Apart masks np pos (8 * np))) → NumberLoop np masks pos v v np 0
+pub numbers-start : {np masks pos : ℕ} {v : List ℕ} → (np ≤ limit) × ((masks + np ≤ length v) × ((pos + 8 * np ≤ length v) × Apart masks np pos (8 * np))) → NumberLoop np masks pos v v np 0
 unfolding numberIn countTo
 numbers-start {np} {masks} {pos} {v} p = record {
   few = p .0;
@@ -151,21 +153,21 @@ centre-more false c p s e es = absurd (true≢false e)
 
 -- ---- the tries
 
-pub try-none : (n : ℕ) (b : Band) (p d : Point) (mask : ℕ) (step : Float) → n ≤ 0 → tryFrom n b p d mask step ≡ Refused
+pub try-none : (n : ℕ) (b : Setting) (p d : Point) (mask : ℕ) (step : Float) → n ≤ 0 → tryFrom n b p d mask step ≡ Refused
 unfolding tryFrom
 try-none zero b p d mask step h = refl
 try-none (suc n) b p d mask step h = absurd (omega arith)
 
 pub try-step : (n : ℕ) (b : Band) (len : Float) (p d q s : Point) (mask : ℕ) (step : Float) (r : Projected) → 0 < n → len ≡ lengthOf b → s ≡ mulP d step → q ≡ addP p s
-    → r ≡ projectWith b len longestMove lookCount q mask → tryFrom n b p d mask step ≡ orElse r (tryFrom (n - 1) b p d mask (step ⊗ half))
+    → r ≡ projectWith b len longestMove lookCount q mask → tryFrom n (settingOf b) p d mask step ≡ orElse r (tryFrom (n - 1) (settingOf b) p d mask (step ⊗ half))
 unfolding tryFrom projectOf
 try-step zero b len p d q s mask step r h el es eq er = absurd (omega arith)
 try-step (suc n) b len p d q s mask step r h el es eq er = rw (sub-one, er, el, eq, es)
 
-module _ (n : ℕ) (b : Band) (len : Float) (p d q s : Point) (mask : ℕ) (step : Float) (r z : Projected) (e : tryFrom n b p d mask step ≡ z) (h : 0 < n) (el : len ≡ lengthOf b) (es : s ≡ mulP d step) (eq : q ≡ addP p s)
+module _ (n : ℕ) (b : Band) (len : Float) (p d q s : Point) (mask : ℕ) (step : Float) (r z : Projected) (e : tryFrom n (settingOf b) p d mask step ≡ z) (h : 0 < n) (el : len ≡ lengthOf b) (es : s ≡ mulP d step) (eq : q ≡ addP p s)
     (er : r ≡ projectWith b len longestMove lookCount q mask) where
   pub try-found : (x : Point) → r ≡ Onto x → r ≡ z
-  try-found x o = o ∙ ap (λ (y : Projected). orElse y (tryFrom (n - 1) b p d mask (step ⊗ half))) (sym o) ∙ sym (try-step n b len p d q s mask step r h el es eq er) ∙ e
+  try-found x o = o ∙ ap (λ (y : Projected). orElse y (tryFrom (n - 1) (settingOf b) p d mask (step ⊗ half))) (sym o) ∙ sym (try-step n b len p d q s mask step r h el es eq er) ∙ e
 
-  pub try-again : r ≡ Refused → tryFrom (n - 1) b p d mask (step ⊗ half) ≡ z
-  try-again o = ap (λ (y : Projected). orElse y (tryFrom (n - 1) b p d mask (step ⊗ half))) (sym o) ∙ sym (try-step n b len p d q s mask step r h el es eq er) ∙ e
+  pub try-again : r ≡ Refused → tryFrom (n - 1) (settingOf b) p d mask (step ⊗ half) ≡ z
+  try-again o = ap (λ (y : Projected). orElse y (tryFrom (n - 1) (settingOf b) p d mask (step ⊗ half))) (sym o) ∙ sym (try-step n b len p d q s mask step r h el es eq er) ∙ e

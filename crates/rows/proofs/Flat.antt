@@ -14,7 +14,7 @@ use Rattle.lists.specs.Every.{every}
 use Rattle.lists.proofs.Laws.{lt-or-le, getD-tab, length-tab, tab-add}
 use Rattle.lists.proofs.Every.{count-ext, every-ext}
 use Rattle.lists.proofs.Order.{Each, each-bucket, below-tab}
-use Rattle.band.specs.declared.Band.{Band}
+use Rattle.setting.specs.Settings.{Setting}
 use Rattle.rule_sheet.specs.Quads.{Quad, quad, num, all, pack, hasLabel, maskOf}
 use Rattle.rule_sheet.specs.Flat.{corner, quadAt, quadsOf, flatQuads}
 use Rattle.sheet.specs.Flat.{from, to}
@@ -107,17 +107,17 @@ module _ {np nq : ℕ} {P : List Float} {Q labels : List ℕ} (L : Labelled np n
       let e = centres-of l (pointCorners Q nq v) (each-bucket 0 (λ c. c < 4 * nq) (from Q) v (tabulate itself (4 * nq)) (below-tab (4 * nq) .each)) in
       rw (← length-map cs (cornerCentre P Q), e, ← point-quads nq Q v, ← point-is (L .held .cornered) P labels v h)
 
-  pub copy-is : (b : Band) (k : ℕ) → k < 8 * np → copyAt b nq P Q labels k ≡ copyOf b (flatSheet np nq P Q labels) k
+  pub copy-is : (b : Setting) (k : ℕ) → k < 8 * np → copyAt b nq P Q labels k ≡ copyOf b (flatSheet np nq P Q labels) k
   unfolding copyAt copyOf
   copy-is b k h = rw (inward-is (k / 8) (k % 8) (omega arith), ← point-is (L .held .cornered) P labels (k / 8) (omega arith))
 
-  pub found-is : (b : Band) → every (foundAt b nq P Q labels M) (8 * np) ≡ all (λ k. isOnto (copyOf b (flatSheet np nq P Q labels) k)) (copies (flatSheet np nq P Q labels))
+  pub found-is : (b : Setting) → every (foundAt b nq P Q labels M) (8 * np) ≡ all (λ k. isOnto (copyOf b (flatSheet np nq P Q labels) k)) (copies (flatSheet np nq P Q labels))
   unfolding foundAt copies
   found-is b =
       every-ext _ (λ k. not (isCopied (flatSheet np nq P Q labels) k) || isOnto (copyOf b (flatSheet np nq P Q labels) k)) (8 * np) (λ k h. rw (copied-is k h, copy-is b k h))
       ∙ sym (rw (length-points np P) (all-those (λ k. isOnto (copyOf b (flatSheet np nq P Q labels) k)) (isCopied (flatSheet np nq P Q labels)) (8 * np)))
 
-  pub copies-are : (b : Band) → copiesTo b nq P Q labels M (8 * np) ≡ map (λ k. ontoOf (copyOf b (flatSheet np nq P Q labels) k)) (copies (flatSheet np nq P Q labels))
+  pub copies-are : (b : Setting) → copiesTo b nq P Q labels M (8 * np) ≡ map (λ k. ontoOf (copyOf b (flatSheet np nq P Q labels) k)) (copies (flatSheet np nq P Q labels))
   unfolding copiesTo copies
   copies-are b =
       rw (length-points np P, those-ext (copiedIn M) (isCopied (flatSheet np nq P Q labels)) (8 * np) copied-is)

@@ -16,7 +16,7 @@ use Rattle.lists.proofs.Every.{every-each, count-yes, count-mono}
 use Rattle.lists.proofs.Order.{Each, each-bucket, bucket-key}
 use Rattle.points.specs.declared.Point.{Point}
 use Rattle.points.specs.Points.{_⊗_, addP, mulP, finiteP}
-use Rattle.band.specs.declared.Band.{Band}
+use Rattle.setting.specs.Settings.{Setting}
 use Rattle.projection.specs.declared.Projected.{Projected}
 use Rattle.projection.specs.declared.Projected.the-variants.{Onto, Refused as RefusedPoint}
 use Rattle.projection.specs.Project.{projectOf, isOnto, ontoOf}
@@ -24,16 +24,16 @@ use Rattle.projection.proofs.Finite.{onto-finite}
 use Rattle.rule_sheet.specs.declared.Counts.{Counts}
 use Rattle.rule_sheet.specs.declared.Verdict.{Verdict}
 use Rattle.rule_sheet.specs.declared.Verdict.the-variants.{Accepted, Refused}
-use Rattle.rule_sheet.specs.Numbers.{clash, edge, short}
+use Rattle.rule_sheet.specs.Numbers.{clash, edgeNumber, short}
 use Rattle.rule_sheet.specs.Quads.{Quad, quad, all, uses, touches, hasLabel}
 use Rattle.rule_sheet.specs.Edges.{Pair, joinTo, joinOf, edgesOf}
 use Rattle.rule_sheet.specs.Tests.{proper, lowLabel, goodCorners, goodMasks}
-use Rattle.rule_sheet.specs.Sheet.{Sheet, isLarge, isShort, isBare, quadsVerdict, sheetVerdict}
+use Rattle.rule_sheet.specs.Sheet.{Sheet, countsOf, isBare, quadsVerdict, sheetVerdict}
+use Rattle.rule_sheet.specs.Lent.{Room, isLarge, isShort}
 use Rattle.rule_sheet.proofs.All.{all-append, all-get, all-each, all-map, all-weaker}
 use Rattle.sheet.proofs.Corners.{four-of, four-proper}
 use Rattle.sheet.proofs.Tests.{Tested, tested, Whole, whole-of, bare-finite, lows-of, proper-of, all-tab}
 use Rattle.rule_sheet.specs.Outcomes.{refuses, gives, afterTest}
-use Rattle.rule_sheet.specs.Results.{countsOf}
 use Rattle.rule_finer.specs.Smoothed.{paired, labelCount}
 use Rattle.subdivide_points.proofs.Moved.{each-append}
 use Rattle.rule_rows.specs.Rows.{row, keyOf, isCopied, copies, numberOf, orElse, tryFrom, copyOf, cornerFor, copiedQuad, copiedAt, copiedQuads, Side, side, labelOf, lowOf, highOf, fourSides, sidesOf, edgeSides, twoLabels, rowSides, stripAt, rowsSheet, rowsMade, rowed}
@@ -42,7 +42,7 @@ use Rattle.rows.proofs.Put.{length-rows}
 
 -- ---- a copy that is found is finite
 
-try-finite : (n : ℕ) (b : Band) (p d : Point) (mask : ℕ) (step : Float) → isOnto (tryFrom n b p d mask step) ≡ true → finiteP (ontoOf (tryFrom n b p d mask step)) ≡ true
+try-finite : (n : ℕ) (b : Setting) (p d : Point) (mask : ℕ) (step : Float) → isOnto (tryFrom n b p d mask step) ≡ true → finiteP (ontoOf (tryFrom n b p d mask step)) ≡ true
 unfolding tryFrom
 try-finite zero b p d mask step = λ e. absurd (false≢true e)
 try-finite (suc n) b p d mask step = go (projectOf b (addP p (mulP d step)) mask) (onto-finite b (addP p (mulP d step)) mask) (try-finite n b p d mask (step ⊗ half))
@@ -301,11 +301,11 @@ module _ (s : Sheet) where
 
 -- ---- the sheet with rows
 
-copy-finite : (b : Band) (s : Sheet) (k : ℕ) → isOnto (copyOf b s k) ≡ true → finiteP (ontoOf (copyOf b s k)) ≡ true
+copy-finite : (b : Setting) (s : Sheet) (k : ℕ) → isOnto (copyOf b s k) ≡ true → finiteP (ontoOf (copyOf b s k)) ≡ true
 unfolding copyOf
 copy-finite b s k e = try-finite _ b _ _ _ _ e
 
-module _ (b : Band) (s : Sheet) (T : Tested b s) (found : all (λ k. isOnto (copyOf b s k)) (copies s) ≡ true) where
+module _ (b : Setting) (s : Sheet) (T : Tested s) (found : all (λ k. isOnto (copyOf b s k)) (copies s) ≡ true) where
   abbrev t : Sheet
   t = rowsSheet b s
 
@@ -345,23 +345,23 @@ module _ (b : Band) (s : Sheet) (T : Tested b s) (found : all (λ k. isOnto (cop
       ∙ corners-good s (whole .labelled) (lows-of n (s .quads) (s .labels) (T .corners)) (proper-of n (s .quads) (s .labels) (T .corners))
 
   -- of the tests only that of the masks is left
-  rows-verdict : sheetVerdict b t ≡ cond (goodMasks (length (t .points)) (t .quads) (t .labels)) Accepted (Refused clash)
+  rows-verdict : sheetVerdict t ≡ cond (goodMasks (length (t .points)) (t .quads) (t .labels)) Accepted (Refused clash)
   unfolding sheetVerdict quadsVerdict
-  rows-verdict = rw (T .valid, rows-bare, rows-corners)
+  rows-verdict = rw (rows-bare, rows-corners)
 
 -- "boundary_rows 10, 8, 7": where all copies of an accepted sheet are found, the last test finds nothing or 7
-pub last-test : (b : Band) (s : Sheet) → sheetVerdict b s ≡ Accepted → all (λ k. isOnto (copyOf b s k)) (copies s) ≡ true
-    → (sheetVerdict b (rowsSheet b s) ≡ Accepted) ⊎ (sheetVerdict b (rowsSheet b s) ≡ Refused clash)
-last-test b s e f = go (goodMasks (length (rowsSheet b s .points)) (rowsSheet b s .quads) (rowsSheet b s .labels)) (rows-verdict b s (tested b s e) f)
+pub last-test : (b : Setting) (s : Sheet) → sheetVerdict s ≡ Accepted → all (λ k. isOnto (copyOf b s k)) (copies s) ≡ true
+    → (sheetVerdict (rowsSheet b s) ≡ Accepted) ⊎ (sheetVerdict (rowsSheet b s) ≡ Refused clash)
+last-test b s e f = go (goodMasks (length (rowsSheet b s .points)) (rowsSheet b s .quads) (rowsSheet b s .labels)) (rows-verdict b s (tested s e) f)
   where
-    go : (g : Bool) → sheetVerdict b (rowsSheet b s) ≡ cond g Accepted (Refused clash) → (sheetVerdict b (rowsSheet b s) ≡ Accepted) ⊎ (sheetVerdict b (rowsSheet b s) ≡ Refused clash)
+    go : (g : Bool) → sheetVerdict (rowsSheet b s) ≡ cond g Accepted (Refused clash) → (sheetVerdict (rowsSheet b s) ≡ Accepted) ⊎ (sheetVerdict (rowsSheet b s) ≡ Refused clash)
     go true h = inl h
     go false h = inr h
 
 -- so after the tests of the lent sheet `boundary_rows` refuses with 13, 10, 8 or 7 only
-pub numbers-left : (b : Band) (s : Sheet) (p q l n : ℕ) → sheetVerdict b s ≡ Accepted → rowed b s p q l ≡ refuses n → (n ≡ short) ⊎ ((n ≡ row) ⊎ ((n ≡ edge) ⊎ (n ≡ clash)))
+pub numbers-left : (b : Setting) (s : Sheet) (room : Room) (n : ℕ) → sheetVerdict s ≡ Accepted → rowed b s room ≡ refuses n → (n ≡ short) ⊎ ((n ≡ row) ⊎ ((n ≡ edgeNumber) ⊎ (n ≡ clash)))
 unfolding rowed rowsMade
-numbers-left b s p q l n e = go (isLarge c || isShort c p q l) (all (λ k. isOnto (copyOf b s k)) (copies s)) refl (paired (length (s .points)) (s .quads)) (sheetVerdict b t) refl
+numbers-left b s room n e = go (isLarge c || isShort c room) (all (λ k. isOnto (copyOf b s k)) (copies s)) refl (paired (length (s .points)) (s .quads)) (sheetVerdict t) refl
   where
     t : Sheet
     t = rowsSheet b s
@@ -369,15 +369,15 @@ numbers-left b s p q l n e = go (isLarge c || isShort c p q l) (all (λ k. isOnt
     c : Counts
     c = countsOf (rowsSheet b s)
 
-    go : (over found : Bool) → all (λ k. isOnto (copyOf b s k)) (copies s) ≡ found → (pairs : Bool) (v : Verdict) → sheetVerdict b t ≡ v
-        → cond over (refuses short) (cond found (cond pairs (afterTest v (gives t)) (refuses edge)) (refuses row)) ≡ refuses n
-        → (n ≡ short) ⊎ ((n ≡ row) ⊎ ((n ≡ edge) ⊎ (n ≡ clash)))
+    go : (over found : Bool) → all (λ k. isOnto (copyOf b s k)) (copies s) ≡ found → (pairs : Bool) (v : Verdict) → sheetVerdict t ≡ v
+        → cond over (refuses short) (cond found (cond pairs (afterTest v (gives t)) (refuses edgeNumber)) (refuses row)) ≡ refuses n
+        → (n ≡ short) ⊎ ((n ≡ row) ⊎ ((n ≡ edgeNumber) ⊎ (n ≡ clash)))
     go true found f pairs v h x = inl (cc)
     go false false f pairs v h x = inr (inl (cc))
     go false true f false v h x = inr (inr (inl (cc)))
     go false true f true Accepted h x = absurd (let z : _≡_ {A = ℕ} 0 1 = cc in omega arith)
     go false true f true (Refused k) h x = inr (inr (inr (last (last-test b s e f))))
       where
-        last : (sheetVerdict b t ≡ Accepted) ⊎ (sheetVerdict b t ≡ Refused clash) → n ≡ clash
+        last : (sheetVerdict t ≡ Accepted) ⊎ (sheetVerdict t ≡ Refused clash) → n ≡ clash
         last (inl a) = absurd (let z : _≡_ {A = ℕ} 0 1 = cc in omega arith)
         last (inr a) = let r : Refused k ≡ Refused clash = sym h ∙ a in let i : refuses k ≡ refuses n = x in cc

@@ -16,7 +16,7 @@ use Rattle.lists.proofs.Regions.{part-get}
 use Rattle.points.specs.declared.Point.{Point}
 use Rattle.points.specs.Points.{pointAt}
 use Rattle.points.specs.Steps.{withPoint}
-use Rattle.band.specs.declared.Band.{Band}
+use Rattle.setting.specs.Settings.{Setting}
 use Rattle.projection.specs.declared.Projected.{Projected}
 use Rattle.projection.specs.declared.Projected.the-variants.{Onto, Refused}
 use Rattle.rule_sheet.specs.Edges.{joinTo}
@@ -45,7 +45,7 @@ length-those p (suc n) = length-append (those p n) (consIf (p n) n []) ∙ go (p
     go false e = omega arith
 
 -- the points of the sheet with rows
-pub length-rows : (b : Band) (s : Sheet) → length (rowsSheet b s .points) ≡ numberOf s (8 * length (s .points))
+pub length-rows : (b : Setting) (s : Sheet) → length (rowsSheet b s .points) ≡ numberOf s (8 * length (s .points))
 unfolding rowsSheet copies numberOf
 length-rows b s =
     length-append (s .points) (map (λ k. ontoOf (copyOf b s k)) (copies s)) ∙ rw (length-map (copies s) (λ k. ontoOf (copyOf b s k)), length-those (isCopied s) (8 * length (s .points)))
@@ -58,7 +58,7 @@ number-at np M k e h =
     let s : countTo (copiedIn M) (suc k) ≡ countTo (copiedIn M) k + 1 = rw e in
     omega (arith, count-mono (copiedIn M) (suc k) (8 * np) (omega arith))
 
-module _ (b : Band) (np nq : ℕ) (P : List Float) (Q labels M : List ℕ) where
+module _ (b : Setting) (np nq : ℕ) (P : List Float) (Q labels M : List ℕ) where
   -- the copy of the key k
   abbrev placed : ℕ → Point
   placed k = ontoOf (copyAt b nq P Q labels k)
@@ -141,7 +141,7 @@ pub number-room : (np : ℕ) (M : List ℕ) (k x n : ℕ) (t : Bool) → t ≡ c
 number-room np M k x n t et e h ex r = omega (arith, number-at np M k (sym et ∙ e) h)
 
 -- the copy that the code asks for
-pub copy-by : (b : Band) (nq : ℕ) (P : List Float) (Q labels : List ℕ) (k m : ℕ) (p d : Point) (r : Projected) → r ≡ tryFrom tryCount b p d m firstStep → m ≡ 2 ^ (k % 8) → p ≡ pointAt P (k / 8)
+pub copy-by : (b : Setting) (nq : ℕ) (P : List Float) (Q labels : List ℕ) (k m : ℕ) (p d : Point) (r : Projected) → r ≡ tryFrom tryCount b p d m firstStep → m ≡ 2 ^ (k % 8) → p ≡ pointAt P (k / 8)
     → d ≡ inwardAt nq P Q labels (k / 8) (k % 8) → r ≡ copyAt b nq P Q labels k
 unfolding copyAt
 copy-by b nq P Q labels k m p d r er em ep ed = rw (← em, ← ep, ← ed) er

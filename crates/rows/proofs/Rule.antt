@@ -13,25 +13,27 @@ use Rattle.lists.specs.Sort.{tabulate}
 use Rattle.lists.specs.Every.{every}
 use Rattle.lists.specs.Regions.{part}
 use Rattle.lists.proofs.Every.{and-left, every-at}
-use Rattle.lists.proofs.Regions.{part-of, part-as, lent}
-use Rattle.lists.proofs.Laws.{length-tab}
+use Rattle.lists.proofs.Regions.{part-of}
 use Rattle.lists.proofs.Parts.{put-end, length-end}
-use Rattle.band.specs.declared.Band.{Band}
+use Rattle.setting.specs.Settings.{Setting}
 use Rattle.rule_sheet.specs.declared.Counts.{Counts}
 use Rattle.rule_sheet.specs.declared.Verdict.{Verdict}
 use Rattle.rule_sheet.specs.declared.Verdict.the-variants.{Accepted, Refused}
-use Rattle.rule_sheet.specs.Quads.{Quad, quad, all, maskOf}
+use Rattle.rule_sheet.specs.Quads.{Quad, quad, all}
 use Rattle.sheet.specs.Tests.{goodQuadAt}
 use Rattle.rule_sheet.specs.Tests.{goodCorners}
 use Rattle.rule_sheet.specs.Flat.{quadsOf, flatQuads}
-use Rattle.rule_sheet.specs.Sheet.{Sheet, pointsOf, flatPoints, sheetOf, isLarge, isShort, lentVerdict, sheetVerdict}
+use Rattle.rule_sheet.specs.Sheet.{Sheet, pointsOf, flatPoints, sheetOf, countsOf, sheetVerdict}
+use Rattle.rule_sheet.specs.Lent.{Lent, Work, lentOf, Room, roomWith, isLarge, isShort}
 use Rattle.sheet.specs.Sheet.{masksOf, LentSheet}
-use Rattle.sheet.proofs.Tests.{or-left, or-right, holds-of, lent-is, length-points, bare-is, labels-match, tested, some-quad, proper-of, corners-tested}
-use Rattle.rule_sheet.specs.declared.Made.{Made}
-use Rattle.rule_sheet.specs.declared.Made.the-variants as made
-use Rattle.rule_sheet.specs.Outcomes.{Outcome, refuses, gives, afterTest}
+use Rattle.sheet.proofs.Tests.{or-left, or-right, holds-of, length-points, bare-is, labels-match, tested, some-quad, proper-of, corners-tested}
+use Rattle.rule_sheet.specs.declared.Answer.{Answer}
+use Rattle.rule_sheet.specs.declared.Answer.the-variants as answers
+use Rattle.rule_sheet.specs.Outcomes.{gives, afterTest}
 use Rattle.sheet.specs.Results.{Front, Fills}
-use Rattle.rule_sheet.specs.Results.{countsOf, answerOf}
+use Rattle.rule_admission.specs.Admission.{settingVerdict, admits}
+use Rattle.admission.specs.Contracts.{MasksAt}
+use Rattle.admission.proofs.Admitted.{admitted}
 use Rattle.incidence.proofs.Corners.{cornered}
 use Rattle.refine.proofs.Edges.{sorted}
 use Rattle.sheet.proofs.Results.{refused-fills}
@@ -77,7 +79,7 @@ flat-append (quad a b c d ∷ S) T = rw (flat-append S T)
 front-take : {A : Type 0} (l s : List A) (n : ℕ) → Front l s → n ≡ length l → take n s ≡ l
 front-take l s n F e = rw e (F .is)
 
-module _ {np nq : ℕ} {P : List Float} {Q labels M w : List ℕ} (G : Gathered np nq P Q labels M w) (em : M ≡ masksOf np (quadsOf nq Q) (take nq labels)) (b : Band) where
+module _ {np nq : ℕ} {P : List Float} {Q labels M w : List ℕ} (G : Gathered np nq P Q labels M w) (em : M ≡ masksOf np (quadsOf nq Q) (take nq labels)) (b : Setting) where
   abbrev s : Sheet
   s = flatSheet np nq P Q labels
 
@@ -115,25 +117,25 @@ module _ {np nq : ℕ} {P : List Float} {Q labels M w : List ℕ} (G : Gathered 
     sheet-is : sheetOf c A B D ≡ t
     sheet-is = rw (ec, points-front (t .points) A (length (t .points)) FA refl, quads-front (t .quads) B (length (t .quads)) FB refl, front-take (t .labels) D (length (t .labels)) FD refl)
 
-    made-fills : (v : Verdict) (r : Made) → sheetVerdict b t ≡ v → r ≡ madeBy c v → Fills (afterTest v (gives t)) r A B D
-    made-fills Accepted r e er = record { answer = er ∙ ap made.Done ec; points = FA; quads = FB; labelled = FD }
-    made-fills (Refused n) r e er = rw er (refused-fills n A B D)
+    made-fills : (v : Verdict) (r : Answer) → r ≡ madeBy c v → Fills (afterTest v (gives t)) r A B D
+    made-fills Accepted r er = record { answer = er ∙ ap (λ (k : Counts). answers.Done (record { count = 0; sheet = k })) ec; points = FA; quads = FB; labelled = FD }
+    made-fills (Refused n) r er = rw er (refused-fills n A B D)
 
     -- all copies are found, and the edges have two quads each
-    pub rows-done : (r : Made) → every (foundAt b nq P Q labels M) (8 * np) ≡ true → paired np (quadsOf nq Q) ≡ true → r ≡ madeBy c (sheetVerdict b (sheetOf c A B D)) → Fills (rowsMade b s) r A B D
+    pub rows-done : (r : Answer) → every (foundAt b nq P Q labels M) (8 * np) ≡ true → paired np (quadsOf nq Q) ≡ true → r ≡ madeBy c (sheetVerdict (sheetOf c A B D)) → Fills (rowsMade b s) r A B D
     unfolding rowsMade
     rows-done r f pr er =
         let g : all (λ k. isOnto (copyOf b s k)) (copies s) ≡ true = sym (found-is (G .sheet) b) ∙ rw em at f in
-        rw (g, length-points np P, pr) (made-fills (sheetVerdict b t) r refl (rw sheet-is at er))
+        rw (g, length-points np P, pr) (made-fills (sheetVerdict t) r (rw sheet-is at er))
 
   -- 10 and 8
-  pub rows-lost : (A : List Float) (B D : List ℕ) → every (foundAt b nq P Q labels M) (8 * np) ≡ false → Fills (rowsMade b s) (answerOf (refuses 10)) A B D
+  pub rows-lost : (A : List Float) (B D : List ℕ) → every (foundAt b nq P Q labels M) (8 * np) ≡ false → Fills (rowsMade b s) (answers.Refused 10) A B D
   unfolding rowsMade
   rows-lost A B D f =
       let g : all (λ k. isOnto (copyOf b s k)) (copies s) ≡ false = sym (found-is (G .sheet) b) ∙ rw em at f in
       rw g (refused-fills 10 A B D)
 
-  pub rows-open : (A : List Float) (B D : List ℕ) → every (foundAt b nq P Q labels M) (8 * np) ≡ true → paired np (quadsOf nq Q) ≡ false → Fills (rowsMade b s) (answerOf (refuses 8)) A B D
+  pub rows-open : (A : List Float) (B D : List ℕ) → every (foundAt b nq P Q labels M) (8 * np) ≡ true → paired np (quadsOf nq Q) ≡ false → Fills (rowsMade b s) (answers.Refused 8) A B D
   unfolding rowsMade
   rows-open A B D f pr =
       let g : all (λ k. isOnto (copyOf b s k)) (copies s) ≡ true = sym (found-is (G .sheet) b) ∙ rw em at f in
@@ -194,24 +196,24 @@ module _ {m : Counts} {np nq : ℕ} {P : List Float} {Q labels w : List ℕ} {p 
   finished-room a b c n ea eb ec en =
       rw (ea, eb, ec, en) (F .room, omega (arith, points-many, number-le np masks (8 * np), F .work))
 
-  pub finished-done : {A : List Float} {B D : List ℕ} (b : Band) (f : Bool) (r : Made) → f ≡ every (foundAt b nq P Q labels masks) (8 * np) → f ≡ true
+  pub finished-done : {A : List Float} {B D : List ℕ} (b : Setting) (f : Bool) (r : Answer) → f ≡ every (foundAt b nq P Q labels masks) (8 * np) → f ≡ true
       → (f ≡ true → Front (flatPoints (pointsOf np P ++ copiesTo b nq P Q labels masks (8 * np))) A) → paired np (quadsOf nq Q) ≡ true
       → Front (tabulate (cornerIn np Q labels masks) (4 * nq) ++ flatQuads (map (stripIn np Q labels masks) J)) B × Front (take nq labels ++ map (cornerLabel labels) J) D
-      → r ≡ madeBy m (sheetVerdict b (sheetOf m A B D)) → Fills (rowsMade b (flatSheet np nq P Q labels)) r A B D
+      → r ≡ madeBy m (sheetVerdict (sheetOf m A B D)) → Fills (rowsMade b (flatSheet np nq P Q labels)) r A B D
   finished-done {A} {B} {D} b f r ef e FA pr FB er =
       let G = F .gathered in
       rows-done G (F .masks) b (rw (points-are G (F .masks) b) at (FA e)) (rw (quads-are G (F .masks) b) at (FB .0)) (rw (labels-are G (F .masks) b) at (FB .1)) m (F .counts ∙ sym (counts-of G (F .masks) b)) r (sym ef ∙ e) pr er
 
-  pub finished-lost : (b : Band) (f : Bool) (A : List Float) (B D : List ℕ) → f ≡ every (foundAt b nq P Q labels masks) (8 * np) → not f ≡ true → Fills (rowsMade b (flatSheet np nq P Q labels)) (answerOf (refuses 10)) A B D
+  pub finished-lost : (b : Setting) (f : Bool) (A : List Float) (B D : List ℕ) → f ≡ every (foundAt b nq P Q labels masks) (8 * np) → not f ≡ true → Fills (rowsMade b (flatSheet np nq P Q labels)) (answers.Refused 10) A B D
   finished-lost b f A B D ef e = rows-lost (F .gathered) (F .masks) b A B D (sym ef ∙ not-true f e)
 
-  pub finished-open : (b : Band) (f g : Bool) (A : List Float) (B D : List ℕ) → f ≡ every (foundAt b nq P Q labels masks) (8 * np) → not f ≡ false → g ≡ paired np (quadsOf nq Q) → not g ≡ true
-      → Fills (rowsMade b (flatSheet np nq P Q labels)) (answerOf (refuses 8)) A B D
+  pub finished-open : (b : Setting) (f g : Bool) (A : List Float) (B D : List ℕ) → f ≡ every (foundAt b nq P Q labels masks) (8 * np) → not f ≡ false → g ≡ paired np (quadsOf nq Q) → not g ≡ true
+      → Fills (rowsMade b (flatSheet np nq P Q labels)) (answers.Refused 8) A B D
   finished-open b f g A B D ef e eg h = rows-open (F .gathered) (F .masks) b A B D (sym ef ∙ not-false f e) (sym eg ∙ not-true g h)
 
 -- ---- an accepted sheet
 
-module _ (b : Band) (c : Counts) (P : List Float) (Q labels u : List ℕ) (T : Tested c P Q labels u) where
+module _ (b : Setting) (c : Counts) (P : List Float) (Q labels u : List ℕ) (T : Tested c P Q labels u) where
   abbrev np : ℕ
   np = c .points
 
@@ -240,16 +242,16 @@ module _ (b : Band) (c : Counts) (P : List Float) (Q labels u : List ℕ) (T : T
 
     -- more than the slices or the limit hold
     abbrev over : Bool
-    over = isLarge m || isShort m p q l
+    over = isLarge m || isShort m (roomWith p q l)
 
     counts-same : countsOf (rowsSheet b (sheetOf c P Q labels)) ≡ m
     counts-same = rw (← same-sheet) (counts-of gathered (T .masks .is) b ∙ sym e)
 
-    pub tested-over : (A : List Float) (B D : List ℕ) → over ≡ true → Fills (rowed b (sheetOf c P Q labels) p q l) (answerOf (refuses 13)) A B D
+    pub tested-over : (A : List Float) (B D : List ℕ) → over ≡ true → Fills (rowed b (sheetOf c P Q labels) (roomWith p q l)) (answers.Refused 13) A B D
     unfolding rowed
     tested-over A B D o = rw (counts-same, o) (refused-fills 13 A B D)
 
-    pub tested-done : (r : Made) (A : List Float) (B D : List ℕ) → over ≡ false → Fills (rowsMade b (flatSheet np nq P Q labels)) r A B D → Fills (rowed b (sheetOf c P Q labels) p q l) r A B D
+    pub tested-done : (r : Answer) (A : List Float) (B D : List ℕ) → over ≡ false → Fills (rowsMade b (flatSheet np nq P Q labels)) r A B D → Fills (rowed b (sheetOf c P Q labels) (roomWith p q l)) r A B D
     unfolding rowed
     tested-done r A B D o H = rw (counts-same, o) (rw same-sheet at H)
 
@@ -261,58 +263,45 @@ module _ (b : Band) (c : Counts) (P : List Float) (Q labels u : List ℕ) (T : T
           masks = k ∙ T .masks .is;
           good = T .good;
           counts = rw k e;
-          room = holds-of m p q l (or-left (isLarge m) (isShort m p q l) o) (or-right (isLarge m) (isShort m p q l) o);
+          room = holds-of m p q l (or-left (isLarge m) (isShort m (roomWith p q l)) o) (or-right (isLarge m) (isShort m (roomWith p q l)) o);
           work = omega (arith, T .work);
         }
 
 -- ---- the tests before
 
-module _ (b : Band) (c : Counts) (P : List Float) (Q labels : List ℕ) (w f p q l : ℕ) where
-  abbrev Rule : Outcome Sheet
-  Rule = rowsRule b c P Q labels w f p q l
+module _ (b : Setting) (c : Counts) (P : List Float) (Q labels : List ℕ) (w : Work) where
+  abbrev x : Lent
+  x = lentOf c P Q labels
 
-  pub rule-lent : (n : ℕ) (A : List Float) (B D : List ℕ) → lentVerdict c (length P) (length Q) (length labels) w f ≡ Refused n → Fills Rule (answerOf (refuses n)) A B D
+  pub rule-refused : (room : Room) (n : ℕ) (A : List Float) (B D : List ℕ) → admits b x w ≡ Refused n → Fills (rowsRule b x w room) (answers.Refused n) A B D
   unfolding rowsRule
-  rule-lent n A B D e = rw e (refused-fills n A B D)
+  rule-refused room n A B D e = rw e (refused-fills n A B D)
 
-  module _ (e : lentVerdict c (length P) (length Q) (length labels) w f ≡ Accepted) where
-    pub rule-sheet : LentSheet c (length P) (length Q) (length labels)
-    rule-sheet = lent-is c (length P) (length Q) (length labels) w f e .0
+  pub rule-done : (room : Room) (r : Answer) (A : List Float) (B D : List ℕ) → admits b x w ≡ Accepted → Fills (rowed b (sheetOf c P Q labels) room) r A B D → Fills (rowsRule b x w room) r A B D
+  unfolding rowsRule
+  rule-done room r A B D e F = rw e F
 
-    pub rule-work : 64 * (c .points + c .quads) ≤ w
-    rule-work = lent-is c (length P) (length Q) (length labels) w f e .1 .work
-
-    pub rule-refused : (n : ℕ) (A : List Float) (B D : List ℕ) → sheetVerdict b (sheetOf c P Q labels) ≡ Refused n → Fills Rule (answerOf (refuses n)) A B D
-    unfolding rowsRule
-    rule-refused n A B D t = rw (e, t) (refused-fills n A B D)
-
-    pub rule-done : (r : Made) (A : List Float) (B D : List ℕ) → sheetVerdict b (sheetOf c P Q labels) ≡ Accepted → Fills (rowed b (sheetOf c P Q labels) p q l) r A B D → Fills Rule r A B D
-    unfolding rowsRule
-    rule-done r A B D t F = rw (e, t) F
-
-    pub rule-tested : (v y : List ℕ) → length v ≡ w → sheetVerdict b (sheetOf c P Q labels) ≡ Accepted → y ≡ masksOf (c .points) (quadsOf (c .quads) Q) (take (c .labels) labels)
-        → Tested c P Q labels (putMid (masksAt (c .points) (c .quads)) (masksAt (c .points) (c .quads) + c .points - masksAt (c .points) (c .quads)) v y)
-    unfolding masksOf
-    rule-tested v y ew t em =
-        let L = rule-sheet in
-        let N = tested b (sheetOf c P Q labels) t in
-        let x = bare-is c P Q labels (L .labels) ∙ N .not-bare in
-        let same = labels-match c P x in
-        let g : goodCorners (c .points) (quadsOf (c .quads) Q) (take (c .labels) labels) ≡ true = rw (length-points (c .points) P) at (N .corners) in
-        let h : c .quads ≤ length labels = omega (arith, same, L .labels) in
-        let each : every (goodQuadAt (c .points) Q labels) (c .quads) ≡ true = corners-tested (c .points) (c .quads) Q labels h ∙ rw same at g in
-        let many : length y ≡ c .points = ap length em ∙ length-tab (maskOf (quadsOf (c .quads) Q) (take (c .labels) labels)) (c .points) in
-        let Z = lent (masksAt (c .points) (c .quads)) (c .points) v y (omega (arith, rule-work)) many in
-        record {
-          same = same;
-          sheet = record {
-            held = record { cornered = cornered (c .points) (c .quads) Q (take (c .labels) labels) g (L .few .quads≤) (L .quads); points = L .points };
-            few = L .few .points≤;
-            labelled = h;
-            low = λ i k. leb-true _ 7 (and-left _ _ (every-at (goodQuadAt (c .points) Q labels) (c .quads) i each k));
-          };
-          some = some-quad c P x;
-          good = proper-of (c .points) (quadsOf (c .quads) Q) (take (c .labels) labels) g;
-          masks = part-as (Z .part) (rw same at em);
-          work = omega (arith, Z .kept .len, rule-work);
-        }
+  pub rule-tested : (r : Verdict) (v : List ℕ) → length v ≡ w .numbers → r ≡ admits b x w → r ≡ Accepted
+      → MasksAt r (masksAt (c .points) (c .quads)) (c .points) (masksOf (c .points) (quadsOf (c .quads) Q) (take (c .labels) labels)) v → Tested c P Q labels v
+  rule-tested r v ew er e M =
+      let A = admitted (settingVerdict b) x w (sym er ∙ e) in
+      let L = A .sheet in
+      let N = tested (sheetOf c P Q labels) (A .accepted) in
+      let y = bare-is c P Q labels (L .labels) ∙ N .not-bare in
+      let same = labels-match c P y in
+      let g : goodCorners (c .points) (quadsOf (c .quads) Q) (take (c .labels) labels) ≡ true = rw (length-points (c .points) P) at (N .corners) in
+      let h : c .quads ≤ length labels = omega (arith, same, L .labels) in
+      let each : every (goodQuadAt (c .points) Q labels) (c .quads) ≡ true = corners-tested (c .points) (c .quads) Q labels h ∙ rw same at g in
+      record {
+        same = same;
+        sheet = record {
+          held = record { cornered = cornered (c .points) (c .quads) Q (take (c .labels) labels) g (L .few .quads≤) (L .quads); points = L .points };
+          few = L .few .points≤;
+          labelled = h;
+          low = λ i k. leb-true _ 7 (and-left _ _ (every-at (goodQuadAt (c .points) Q labels) (c .quads) i each k));
+        };
+        some = some-quad c P y;
+        good = proper-of (c .points) (quadsOf (c .quads) Q) (take (c .labels) labels) g;
+        masks = rw (e, same) at M;
+        work = omega (arith, ew, A .work .work);
+      }

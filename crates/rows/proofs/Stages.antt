@@ -9,6 +9,7 @@ use Rattle.lists.specs.Sort.{tabulate}
 use Rattle.lists.specs.Regions.{part, Part, Out, Out3, Apart, Kept, Three}
 use Rattle.lists.proofs.Regions.{part-kept, part-of}
 use Rattle.rule_sheet.specs.declared.Counts.{Counts}
+use Rattle.rule_sheet.specs.Lent.{limit}
 use Rattle.rule_sheet.specs.Edges.{joinTo}
 use Rattle.incidence.specs.Corners.{edgeOrder, cornersAt, firstAt}
 use Rattle.refine.specs.Loops.{orderAt}
@@ -66,7 +67,7 @@ module _ {np nq : ℕ} {Q labels M u : List ℕ} (G : Gathering np nq Q labels M
       order-in : Part (orderAt np nq) (4 * nq) (edgeOrder np nq Q) x
       order-in = part-kept (A .0) (B .1 .1) (λ i p q. (λ r s. omega arith, (λ r s. omega arith, λ r s. omega arith)))
 
-      pub numbering : (np ≤ 1048576) × ((masksAt np nq + np ≤ length x) × ((numbersAt np nq + 8 * np ≤ length x) × Apart (masksAt np nq) np (numbersAt np nq) (8 * np)))
+      pub numbering : (np ≤ limit) × ((masksAt np nq + np ≤ length x) × ((numbersAt np nq + 8 * np ≤ length x) × Apart (masksAt np nq) np (numbersAt np nq) (8 * np)))
       numbering = (G .few, (masks-in .fits, (omega (arith, long, G .work), λ i p q r s. omega arith)))
 
       module _ {y : List ℕ} {k : ℕ} (D : (k ≡ numberIn np (part (masksAt np nq) np x) (8 * np))

@@ -12,13 +12,14 @@ use Rattle.lists.specs.Regions.{part, Part}
 use Rattle.points.specs.declared.Point.{Point}
 use Rattle.points.specs.Points.{addP, subP, pointAt}
 use Rattle.points.specs.Steps.{withPoint}
-use Rattle.band.specs.declared.Band.{Band}
+use Rattle.setting.specs.Settings.{Setting}
 use Rattle.projection.specs.declared.Projected.{Projected}
 use Rattle.rule_sheet.specs.declared.Counts.{Counts}
 use Rattle.rule_sheet.specs.declared.Verdict.{Verdict}
 use Rattle.rule_sheet.specs.declared.Verdict.the-variants.{Accepted, Refused}
-use Rattle.rule_sheet.specs.declared.Made.{Made}
-use Rattle.rule_sheet.specs.declared.Made.the-variants.{Done, Refused as RefusedMade}
+use Rattle.rule_sheet.specs.declared.Answer.{Answer}
+use Rattle.rule_sheet.specs.declared.Answer.the-variants as answers
+use Rattle.rule_sheet.specs.Lent.{limit}
 use Rattle.rule_sheet.specs.Quads.{Quad, quad, all}
 use Rattle.sheet.specs.Flat.{from, to}
 use Rattle.rule_sheet.specs.Flat.{quadsOf}
@@ -35,7 +36,7 @@ use Rattle.refine.specs.Loops.{orderAt}
 use Rattle.rule_finer.specs.Smoothed.{those}
 use Rattle.subdivide_points.specs.Steps.{onesOf, cornerCentre}
 use Rattle.rows.specs.declared.Centres.{Centres}
-use Rattle.rule_rows.specs.Rows.{keyOf, pointIn, labelIn, firstStep, tryCount, tryFrom}
+use Rattle.rule_rows.specs.Rows.{keyOf, keyPoint, keyLabel, firstStep, tryCount, tryFrom}
 use Rattle.projection.specs.Project.{isOnto, ontoOf}
 
 -- ---- the copies
@@ -46,7 +47,7 @@ copiedBy m l = ltb 1 (onesOf m) && eqb (m / 2 ^ l % 2) 1
 
 -- the key k has a copy
 unfoldable pub copiedIn : List ℕ → ℕ → Bool
-copiedIn M k = copiedBy (getD M (pointIn k) 0) (labelIn k)
+copiedIn M k = copiedBy (getD M (keyPoint k) 0) (keyLabel k)
 
 -- the number of the copy of the key k
 unfoldable pub numberIn : ℕ → List ℕ → ℕ → ℕ
@@ -77,23 +78,23 @@ inwardAt nq P Q labels v l =
     subP (mean pointwise (c .sum) (c .count)) (pointAt P v)
 
 -- the copy of the key k
-unfoldable pub copyAt : Band → ℕ → List Float → List ℕ → List ℕ → ℕ → Projected
-copyAt b nq P Q labels k =
-    tryFrom tryCount b (pointAt P (pointIn k)) (inwardAt nq P Q labels (pointIn k) (labelIn k)) (2 ^ labelIn k)
+unfoldable pub copyAt : Setting → ℕ → List Float → List ℕ → List ℕ → ℕ → Projected
+copyAt s nq P Q labels k =
+    tryFrom tryCount s (pointAt P (keyPoint k)) (inwardAt nq P Q labels (keyPoint k) (keyLabel k)) (2 ^ keyLabel k)
     firstStep
 
 -- the key k has no copy, or it is found
-unfoldable pub foundAt : Band → ℕ → List Float → List ℕ → List ℕ → List ℕ → ℕ → Bool
-foundAt b nq P Q labels M k = not (copiedIn M k) || isOnto (copyAt b nq P Q labels k)
+unfoldable pub foundAt : Setting → ℕ → List Float → List ℕ → List ℕ → List ℕ → ℕ → Bool
+foundAt s nq P Q labels M k = not (copiedIn M k) || isOnto (copyAt s nq P Q labels k)
 
--- the coordinates s with the copy of the key k at its number, if it has one
-unfoldable pub putCopy : Band → ℕ → ℕ → List Float → List ℕ → List ℕ → List ℕ → ℕ → List Float → List Float
-putCopy b np nq P Q labels M k s =
-    cond (copiedIn M k) (withPoint s (numberIn np M k) (ontoOf (copyAt b nq P Q labels k))) s
+-- the coordinates out with the copy of the key k at its number, if it has one
+unfoldable pub putCopy : Setting → ℕ → ℕ → List Float → List ℕ → List ℕ → List ℕ → ℕ → List Float → List Float
+putCopy s np nq P Q labels M k out =
+    cond (copiedIn M k) (withPoint out (numberIn np M k) (ontoOf (copyAt s nq P Q labels k))) out
 
 -- the copies of the keys below n
-unfoldable pub copiesTo : Band → ℕ → List Float → List ℕ → List ℕ → List ℕ → ℕ → List Point
-copiesTo b nq P Q labels M n = map (λ k. ontoOf (copyAt b nq P Q labels k)) (those (copiedIn M) n)
+unfoldable pub copiesTo : Setting → ℕ → List Float → List ℕ → List ℕ → List ℕ → ℕ → List Point
+copiesTo s nq P Q labels M n = map (λ k. ontoOf (copyAt s nq P Q labels k)) (those (copiedIn M) n)
 
 -- ---- the copied quads
 
@@ -133,8 +134,7 @@ stripIn np Q labels M c =
     quad (from Q c) (to Q c) (numberIn np M (keyOf (to Q c) l)) (numberIn np M (keyOf (from Q c) l))
 
 -- ---- the work slice: behind the corners in the order of their edges stand the corners of each point behind where
--- they begin, the masks, the numbers of
--- the copies, and the corners at which strips run
+-- they begin, the masks, the numbers of the copies, and the corners at which strips run
 
 abbrev pub startsAt : ℕ → ℕ → ℕ
 startsAt np nq = 9 * (np + nq)
@@ -154,7 +154,7 @@ seamsAt np nq = 23 * (np + nq)
 -- the sheet in the slices, of good quads and labels
 pub record Labelled (np nq : ℕ) (P : List Float) (Q labels : List ℕ) : Type 0 where
   pub held : Positioned np nq P Q
-  pub few : np ≤ 1048576
+  pub few : np ≤ limit
   pub labelled : nq ≤ length labels
   pub low : (i : ℕ) → i < nq → getD labels i 0 ≤ 7
 
@@ -196,16 +196,16 @@ countsAfter np nq Q labels M = record {
 -- what the gathering asks: the masks, and room
 pub record Gathering (np nq : ℕ) (Q labels M w : List ℕ) : Type 0 where
   pub cornered : Cornered np nq Q
-  pub few : np ≤ 1048576
+  pub few : np ≤ limit
   pub some : 0 < nq
   pub labelled : nq ≤ length labels
   pub work : 64 * (np + nq) ≤ length w
   pub masks : Part (masksAt np nq) np M w
 
 -- the answer for a made sheet of these counts, by the test of it
-abbrev pub madeBy : Counts → Verdict → Made
-madeBy c Accepted = Done c
-madeBy c (Refused n) = RefusedMade n
+abbrev pub madeBy : Counts → Verdict → Answer
+madeBy c Accepted = answers.Done (record { count = 0; sheet = c })
+madeBy c (Refused n) = answers.Refused n
 
 -- what the writing of the sheet with rows asks: the sheet and all that is gathered of it, its counts m, and room in
 -- result slices of p, q and l elements

@@ -6,25 +6,27 @@ use points::Point;
 use projection::LONGEST_MOVE;
 use projection::LOOKS;
 use projection::Projected;
+use rule_sheet::Answer;
 use rule_sheet::Counts;
-use rule_sheet::Made;
+use rule_sheet::Tally;
 use rule_sheet::Verdict;
 ghost use mathlib.Core.Path.{_≡_};
 ghost use mathlib.Core.Bool.{true, cond};
 ghost use mathlib.Core.List.{_++_, map};
 ghost use Prim.Native.Nat.{_+_, _*_, _/_, _%_, _<_, _≤_};
-ghost use lib.ListN.{length, getD, take, replicate};
-ghost use Rattle.numeric.specs.Num.{zeroF};
+ghost use lib.ListN.{length, take};
 ghost use Rattle.lists.specs.Sort.{tabulate, keep};
 ghost use Rattle.lists.specs.Every.{every};
 ghost use Rattle.lists.specs.Regions.{part, Part, Out, Apart, Kept};
 ghost use Rattle.band.specs.Bands.{lengthOf};
+ghost use Rattle.setting.specs.Settings.{settingOf};
 ghost use Rattle.rule_sheet.specs.Flat.{flatQuads};
 ghost use Rattle.sheet.specs.Flat.{withQuad};
 ghost use Rattle.rule_sheet.specs.Sheet.{pointsOf, flatPoints, sheetOf, sheetVerdict};
 ghost use Rattle.sheet.specs.Sheet.{LentSheet};
 ghost use Rattle.sheet.specs.Results.{Front, Fills};
-ghost use Rattle.rule_sheet.specs.Results.{Leaves};
+ghost use Rattle.rule_sheet.specs.Results.{Makes, Cleared};
+ghost use Rattle.rule_sheet.specs.Lent.{limit, lentOf, roomOf, workOf, workWith};
 ghost use Rattle.incidence.specs.Corners.{Cornered, edgeOrder, Positioned};
 ghost use Rattle.incidence.specs.Marks.{Incident};
 ghost use Rattle.refine.specs.Loops.{orderAt};
@@ -32,7 +34,7 @@ ghost use Rattle.subdivide_points.specs.Steps.{Below, flatSheet};
 ghost use Rattle.rule_rows.specs.Rows.{firstStep, tryCount, tryFrom, rowsMade, rowed, rowsRule};
 ghost use Rattle.rows.specs.Steps.{copiedBy, copiedIn, numberIn, pointsAfter, ofLabel, centresOf, withCentre};
 ghost use Rattle.rows.specs.Steps.{inwardAt, copyAt, foundAt, putCopy, copiesTo, cornerIn, startsAt, listAt};
-ghost use Rattle.rows.specs.Steps.{masksAt, seamsAt, seamAt, seamsTo, seamsOf, stripIn, cornerLabel};
+ghost use Rattle.rows.specs.Steps.{masksAt, seamsAt, seamAt, seamsOf, stripIn, cornerLabel};
 ghost use Rattle.rows.specs.Steps.{countsAfter, madeBy, Labelled, Worked, Gathered, Seaming, Gathering};
 ghost use Rattle.rows.specs.Steps.{Finished, Tested};
 
@@ -84,7 +86,7 @@ fn is_copied(np: usize, masks: usize, k: usize, w: &[u32]) -> bool
 
 // Numbers the copies of all keys behind np points; how many points there are then.
 fn number_copies(np: usize, masks: usize, num: usize, w: &mut [u32]) -> usize
-    requires { ⌜ np ≤ 1048576 ⌝ }
+    requires { ⌜ np ≤ limit ⌝ }
     requires { ⌜ masks + np ≤ length (now w) ⌝ }
     requires { ⌜ num + 8 * np ≤ length (now w) ⌝ }
     requires { ⌜ Apart masks np num (8 * np) ⌝ }
@@ -153,7 +155,7 @@ fn centres_at(
 // The first projection of p + d × step that succeeds, the steps halved from the first on.
 fn first_found(b: Band, len: f64, p: Point, d: Point, mask: u8) -> Projected
     requires { ⌜ len ≡ lengthOf b ⌝ }
-    ensures { λ r. ⌜ r ≡ tryFrom tryCount b p d mask firstStep ⌝ }
+    ensures { λ r. ⌜ r ≡ tryFrom tryCount (settingOf b) p d mask firstStep ⌝ }
 {
     let mut step = FIRST_STEP;
     let mut left = TRIES;
@@ -208,7 +210,8 @@ fn copy_at(
     requires { ⌜ Labelled np nq (now points) (now quads) (now labels) ⌝ }
     requires { ⌜ Incident np nq (now quads) (startsAt np nq) (listAt np nq) 0 (now w) ⌝ }
     requires { ⌜ k < 8 * np ⌝ }
-    ensures { λ r. ⌜ r ≡ copyAt b nq (now (points .entry)) (now (quads .entry)) (now (labels .entry)) k ⌝ }
+    ensures { λ r. ⌜ r ≡ copyAt (settingOf b) nq (now (points .entry)) (now (quads .entry)) (now (labels .entry))
+        k ⌝ }
 {
     let l = (k % 8) as u32;
     let d = inward_at(points, quads, labels, np, nq, k / 8, l, w);
@@ -233,10 +236,11 @@ fn put_copy(
     requires { ⌜ Gathered np nq (now points) (now quads) (now labels) (part (masksAt np nq) np (now w)) (now w) ⌝ }
     requires { ⌜ k < 8 * np ⌝ }
     requires { ⌜ 3 * pointsAfter np (part (masksAt np nq) np (now w)) ≤ length (now out) ⌝ }
-    ensures { λ r. ⌜ r ≡ foundAt b nq (now (points .entry)) (now (quads .entry)) (now (labels .entry))
+    ensures { λ r. ⌜ r ≡ foundAt (settingOf b) nq (now (points .entry)) (now (quads .entry)) (now (labels .entry))
         (part (masksAt np nq) np (now (w .entry))) k ⌝ }
-    ensures { λ r. ⌜ (r ≡ true → now (out .exit) ≡ putCopy b np nq (now (points .entry)) (now (quads .entry))
-        (now (labels .entry)) (part (masksAt np nq) np (now (w .entry))) k (now (out .entry))) ⌝ }
+    ensures { λ r. ⌜ (r ≡ true → now (out .exit) ≡ putCopy (settingOf b) np nq (now (points .entry))
+        (now (quads .entry)) (now (labels .entry)) (part (masksAt np nq) np (now (w .entry))) k
+        (now (out .entry))) ⌝ }
 {
     let n = np + nq;
     if is_copied(np, MASKS * n, k, w) {
@@ -264,10 +268,10 @@ fn put_copies(
     requires { ⌜ Gathered np nq (now points) (now quads) (now labels) (part (masksAt np nq) np (now w)) (now w) ⌝ }
     requires { ⌜ 3 * pointsAfter np (part (masksAt np nq) np (now w)) ≤ length (now out) ⌝ }
     requires { ⌜ Front (flatPoints (pointsOf np (now points))) (now out) ⌝ }
-    ensures { λ r. ⌜ r ≡ every (foundAt b nq (now (points .entry)) (now (quads .entry)) (now (labels .entry))
-        (part (masksAt np nq) np (now (w .entry)))) (8 * np) ⌝ }
+    ensures { λ r. ⌜ r ≡ every (foundAt (settingOf b) nq (now (points .entry)) (now (quads .entry))
+        (now (labels .entry)) (part (masksAt np nq) np (now (w .entry)))) (8 * np) ⌝ }
     ensures { λ r. ⌜ (r ≡ true → Front (flatPoints (pointsOf np (now (points .entry))
-        ++ copiesTo b nq (now (points .entry)) (now (quads .entry)) (now (labels .entry))
+        ++ copiesTo (settingOf b) nq (now (points .entry)) (now (quads .entry)) (now (labels .entry))
         (part (masksAt np nq) np (now (w .entry))) (8 * np))) (now (out .exit))) ⌝ }
 {
     let len = band::length(b);
@@ -542,18 +546,18 @@ fn put_quads(
 }
 
 // The answer for the sheet with rows, which is tested as a lent one.
-fn tested(b: Band, c: Counts, points: &[f64], quads: &[u32], labels: &[u8], w: &mut [u32]) -> Made
+fn tested(c: Counts, points: &[f64], quads: &[u32], labels: &[u8], w: &mut [u32]) -> Answer
     requires { ⌜ LentSheet c (length (now points)) (length (now quads)) (length (now labels)) ⌝ }
     requires { ⌜ c .points ≤ length (now w) ⌝ }
-    ensures { λ r. ⌜ r ≡ madeBy c (sheetVerdict b (sheetOf c (now (points .entry)) (now (quads .entry))
+    ensures { λ r. ⌜ r ≡ madeBy c (sheetVerdict (sheetOf c (now (points .entry)) (now (quads .entry))
         (now (labels .entry)))) ⌝ }
 {
     let n = c.points;
-    let v = sheet::constraints(b, c, points, quads, labels, &mut w[..n]);
+    let v = sheet::constraints(c, points, quads, labels, &mut w[..n]);
     if let Verdict::Refused(k) = v {
-        return Made::Refused(k);
+        return Answer::Refused(k);
     }
-    Made::Done(c)
+    Answer::Done(Tally { count: 0, sheet: c })
 }
 
 // Writes the sheet with rows, whose counts are m, and tests it: 10, 8, 7.
@@ -569,18 +573,18 @@ fn put_sheet(
     new_quads: &mut [u32],
     new_labels: &mut [u8],
     w: &mut [u32],
-) -> Made
+) -> Answer
     requires { ⌜ Finished m np nq (now points) (now quads) (now labels) (now w) (length (now «new_points»))
         (length (now «new_quads»)) (length (now «new_labels»)) ⌝ }
-    ensures { λ r. ⌜ Fills (rowsMade b (flatSheet np nq (now (points .entry)) (now (quads .entry))
+    ensures { λ r. ⌜ Fills (rowsMade (settingOf b) (flatSheet np nq (now (points .entry)) (now (quads .entry))
         (now (labels .entry)))) r (now («new_points» .exit)) (now («new_quads» .exit)) (now («new_labels» .exit)) ⌝ }
 {
     refine::copy_points(np, points, new_points);
     if !put_copies(b, points, quads, labels, np, nq, w, new_points) {
-        return Made::Refused(ROW);
+        return Answer::Refused(ROW);
     }
     if !subdivide_points::is_paired(np, nq, quads, w) {
-        return Made::Refused(sheet::EDGE);
+        return Answer::Refused(sheet::EDGE);
     }
     put_quads(
         points,
@@ -593,7 +597,7 @@ fn put_sheet(
         new_quads,
         new_labels,
     );
-    tested(b, m, new_points, new_quads, new_labels, w)
+    tested(m, new_points, new_quads, new_labels, w)
 }
 
 // The sheet with rows of a sheet that the tests accept, its masks in the work slice.
@@ -607,15 +611,16 @@ fn rows_tested(
     new_quads: &mut [u32],
     new_labels: &mut [u8],
     w: &mut [u32],
-) -> Made
+) -> Answer
     requires { ⌜ Tested c (now points) (now quads) (now labels) (now w) ⌝ }
-    ensures { λ r. ⌜ Fills (rowed b (sheetOf c (now (points .entry)) (now (quads .entry)) (now (labels .entry)))
-        (length (now («new_points» .entry))) (length (now («new_quads» .entry))) (length (now («new_labels» .entry)))) r
-        (now («new_points» .exit)) (now («new_quads» .exit)) (now («new_labels» .exit)) ⌝ }
+    ensures { λ r. ⌜ Fills (rowed (settingOf b) (sheetOf c (now (points .entry)) (now (quads .entry))
+        (now (labels .entry))) (roomOf (now («new_points» .entry)) (now («new_quads» .entry))
+        (now («new_labels» .entry)))) r (now («new_points» .exit)) (now («new_quads» .exit))
+        (now («new_labels» .exit)) ⌝ }
 {
     let m = gather(quads, labels, c.points, c.quads, w);
     if sheet::is_over(m, new_points.len(), new_quads.len(), new_labels.len()) {
-        return Made::Refused(sheet::SHORT);
+        return Answer::Refused(sheet::SHORT);
     }
     put_sheet(
         b,
@@ -644,20 +649,15 @@ fn rows_or_refusal(
     new_labels: &mut [u8],
     w: &mut [u32],
     floats: usize,
-) -> Made
-    ensures { λ r. ⌜ Fills (rowsRule b c (now (points .entry)) (now (quads .entry)) (now (labels .entry))
-        (length (now (w .entry))) floats (length (now («new_points» .entry))) (length (now («new_quads» .entry)))
-        (length (now («new_labels» .entry)))) r (now («new_points» .exit)) (now («new_quads» .exit))
-        (now («new_labels» .exit)) ⌝ }
+) -> Answer
+    ensures { λ r. ⌜ Fills (rowsRule (settingOf b) (lentOf c (now (points .entry)) (now (quads .entry))
+        (now (labels .entry))) (workWith (length (now (w .entry))) floats) (roomOf (now («new_points» .entry))
+        (now («new_quads» .entry)) (now («new_labels» .entry)))) r (now («new_points» .exit))
+        (now («new_quads» .exit)) (now («new_labels» .exit)) ⌝ }
 {
-    let v = sheet::lent(c, points.len(), quads.len(), labels.len(), w.len(), floats);
+    let v = admission::admit(b, c, points, quads, labels, MASKS, w, floats);
     if let Verdict::Refused(n) = v {
-        return Made::Refused(n);
-    }
-    let m = MASKS * (c.points + c.quads);
-    let t = sheet::constraints(b, c, points, quads, labels, &mut w[m..m + c.points]);
-    if let Verdict::Refused(n) = t {
-        return Made::Refused(n);
+        return Answer::Refused(n);
     }
     rows_tested(
         b,
@@ -685,14 +685,14 @@ pub fn boundary_rows(
     new_labels: &mut [u8],
     work: &mut [u32],
     floats: &mut [f64],
-) -> Made
-    ensures { λ r. ⌜ Leaves (rowsRule b c (now (points .entry)) (now (quads .entry)) (now (labels .entry))
-        (length (now (work .entry))) (length (now (floats .entry))) (length (now («new_points» .entry)))
-        (length (now («new_quads» .entry))) (length (now («new_labels» .entry)))) (length (now («new_points» .entry)))
-        (length (now («new_quads» .entry))) (length (now («new_labels» .entry))) r (now («new_points» .exit))
-        (now («new_quads» .exit)) (now («new_labels» .exit)) ⌝ }
-    ensures { λ _. ⌜ now (work .exit) ≡ replicate (length (now (work .entry))) 0 ⌝ }
-    ensures { λ _. ⌜ now (floats .exit) ≡ replicate (length (now (floats .entry))) zeroF ⌝ }
+) -> Answer
+    ensures sheet { λ r. ⌜ (
+        let x = lentOf c (now (points .entry)) (now (quads .entry)) (now (labels .entry)) in
+        let room = roomOf (now («new_points» .entry)) (now («new_quads» .entry)) (now («new_labels» .entry)) in
+        Makes (rowsRule (settingOf b) x (workOf (now (work .entry)) (now (floats .entry))) room) room r
+        (now («new_points» .exit)) (now («new_quads» .exit)) (now («new_labels» .exit))) ⌝ }
+    ensures cleared { λ _. ⌜ Cleared (now (work .entry)) (now (floats .entry)) (now (work .exit))
+        (now (floats .exit)) ⌝ }
 {
     let r = rows_or_refusal(
         b,

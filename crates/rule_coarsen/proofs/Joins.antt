@@ -9,9 +9,9 @@ use lib.ListN.{length, getD}
 use Rattle.rule_sheet.specs.Quads.{Quad, quad, valence, side, touches}
 use Rattle.rule_sheet.proofs.Sums.{upto}
 use Rattle.rule_sheet.specs.Squared.{sq}
-use Rattle.rule_regularize.specs.Swaps.{turn}
+use Rattle.rule_sheet.specs.Quads.{turn}
 use Rattle.rule_passes.specs.Choices.{noneQuad}
-use Rattle.rule_regularize.proofs.Passes.{Has}
+use Rattle.rule_sheet.specs.Claims.{Has}
 use Rattle.rule_coarsen.specs.Merges.{Slot, out, slot, merged}
 
 -- The sum of (quads there minus 4) squared over the points below n that are in use.

@@ -16,13 +16,13 @@ use Rattle.rule_sheet.proofs.FirstUse.{is-other}
 use Rattle.rule_sheet.proofs.Sums.{upto}
 use Rattle.rule_sheet.specs.Squared.{sq}
 use Rattle.rule_sheet.specs.Claims.{Below, Differ}
-use Rattle.rule_regularize.specs.Swaps.{turn}
+use Rattle.rule_sheet.specs.Quads.{turn}
 use Rattle.rule_passes.specs.Choices.{noneQuad}
 use Rattle.rule_sheet.proofs.Labels.{label-sum-set, label-sum-le, label-sum-add, label-sum-same, label-sum-map}
-use Rattle.rule_regularize.proofs.Passes.{Has}
+use Rattle.rule_sheet.specs.Claims.{Has}
 use Rattle.rule_sheet.proofs.Rings.{zero-or, ring-two}
-use Rattle.rule_regularize.proofs.Swap.{sum-set, sum-at}
-use Rattle.rule_regularize.proofs.SwapPass.{here}
+use Rattle.rule_sheet.proofs.Sums.{sum-set, sum-at}
+use Rattle.rule_sheet.proofs.Weigh.{here}
 use Rattle.rule_sheet.proofs.Weigh.{at-same, at-diff, is-le, at-le, corners-le, side-at-end, flip}
 use Rattle.rule_coarsen.specs.Merges.{rename, renameQuad, Slot, out, slot, live, liveLabels, renameSlot, merged}
 use Rattle.rule_coarsen.specs.Invariants.{weigh, MInv}

@@ -16,7 +16,7 @@ use Rattle.rule_sheet.specs.Sheet.{Sheet}
 use Rattle.rule_sheet.proofs.All.{all-get}
 use Rattle.rule_passes.specs.Choices.{choose, takeOr}
 use Rattle.rule_sheet.proofs.Base.{is-self}
-use Rattle.rule_regularize.proofs.Sweep.{none-some, cond-some, choose-some}
+use Rattle.rule_passes.proofs.Choices.{none-some, cond-some, choose-some}
 use Rattle.rule_coarsen.specs.Merges.{Slot, out, slot, gathered}
 use Rattle.rule_coarsen.specs.Coarse.{MergeState, MergeFits, Position, masksJoin, shareOnly, noFurther, nearFree, sumBefore, sumAfter, mayMerge, mergedState, tryFace, visit, freshMerge, mergePass}
 

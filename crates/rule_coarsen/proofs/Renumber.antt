@@ -19,8 +19,8 @@ use Rattle.rule_sheet.specs.Squared.{sq, squared}
 use Rattle.rule_sheet.specs.Claims.{Below, Differ, All, NoClash}
 use Rattle.rule_sheet.proofs.Base.{eqb-self, is-self, pos-split, cyc-from}
 use Rattle.rule_sheet.proofs.Rings.{zero-or, renamed}
-use Rattle.rule_regularize.proofs.Swap.{sum-at}
-use Rattle.rule_regularize.proofs.SwapPass.{is-pos}
+use Rattle.rule_sheet.proofs.Sums.{sum-at}
+use Rattle.rule_sheet.proofs.FirstUse.{is-pos}
 use Rattle.rule_sheet.proofs.Weigh.{at-same, at-diff, is-le, is-sym, upto-mask, mask, mask-diff}
 use Rattle.rule_coarsen.specs.Merges.{renameQuad, order, renumber}
 use Rattle.rule_coarsen.proofs.Joins.{sqUsed, squaredUsed, inUse}
@@ -28,14 +28,14 @@ use Rattle.rule_coarsen.proofs.OneMerge.{total-zero}
 use Rattle.rule_coarsen.proofs.MergePass.{sq-used-pos}
 use Rattle.lists.specs.Sort.{itself}
 
-unfoldable pub Apart : List ℕ → Type 0
-Apart l = (x : ℕ) → sum (is x) l ≤ 1
+unfoldable pub OnceEach : List ℕ → Type 0
+OnceEach l = (x : ℕ) → sum (is x) l ≤ 1
 
 addNew : ℕ → List ℕ → List ℕ
 addNew x seen = cond (eqb (sum (is x) seen) 0) (seen ++ x ∷ []) seen
 
-add-apart : (x : ℕ) (seen : List ℕ) → Apart seen → Apart (addNew x seen)
-unfolding Apart addNew
+add-apart : (x : ℕ) (seen : List ℕ) → OnceEach seen → OnceEach (addNew x seen)
+unfolding OnceEach addNew
 add-apart x seen a = go (zero-or (sum (is x) seen))
   where
     go : (sum (is x) seen ≡ 0) ⊎ (0 < sum (is x) seen) → (y : ℕ) → sum (is y) (cond (eqb (sum (is x) seen) 0) (seen ++ x ∷ []) seen) ≤ 1
@@ -64,7 +64,7 @@ add-some x seen y = go (zero-or (sum (is x) seen))
             two (inl i) = i
             two (inr i) = subst (λ v. 0 < sum (is v) seen) (sym (is-pos y x i)) h
 
-pub firsts-apart : (l seen : List ℕ) → Apart seen → Apart (firsts seen l)
+pub firsts-apart : (l seen : List ℕ) → OnceEach seen → OnceEach (firsts seen l)
 unfolding addNew
 firsts-apart [] seen a = a
 firsts-apart (x ∷ l) seen a = firsts-apart l (addNew x seen) (add-apart x seen a)
@@ -88,8 +88,8 @@ firsts-some y (x ∷ l) seen = go (firsts-some y l (addNew x seen)) (add-some x 
         two (inr h) = omega arith
 
 -- the number at a place
-pub at-place : (l : List ℕ) → Apart l → (u : ℕ) → u < length l → place (getD l u 0) l ≡ u
-unfolding Apart
+pub at-place : (l : List ℕ) → OnceEach l → (u : ℕ) → u < length l → place (getD l u 0) l ≡ u
+unfolding OnceEach
 at-place [] a u h = absurd (omega arith)
 at-place (y ∷ l) a zero h = rw (eqb-self y) refl
 at-place (y ∷ l) a (suc u) h = rw (ne-eqb (getD l u 0) y (λ e. omega (arith, a y, is-self y, sum-at (is y) l u 0 (omega arith), ap (is y) e))) (ap suc (at-place l (λ x. omega (arith, a x)) u (omega arith)))
@@ -290,8 +290,8 @@ valence-list v (quad a b c d ∷ S) = omega (arith, one a, one b, one c, one d, 
         num-pick false = refl
 
 module _ (S : List Quad) where
-  order-apart : Apart (order S)
-  unfolding order Apart
+  order-apart : OnceEach (order S)
+  unfolding order OnceEach
   order-apart = firsts-apart (flatQuads S) [] (λ x. omega arith)
 
   in-order : (v : ℕ) → 0 < valence S v → 0 < sum (is v) (order S)
@@ -304,7 +304,7 @@ module _ (S : List Quad) where
 
   -- A sum over the points in use is one over the list of them.
   by-order : (n : ℕ) → Below n S → (h : ℕ → ℕ) → h 0 ≡ 0 → sum (λ v. h (valence S v)) (order S) ≡ upto n (λ v. h (valence S v))
-  unfolding Below Apart
+  unfolding Below OnceEach
   by-order n b h z = sum-by-point n (λ v. h (valence S v)) (order S) (λ x k. b x (of-order x k)) ∙ upto-ext _ (λ v. h (valence S v)) n (λ v l. go v (zero-or (valence S v)))
     where
       go : (v : ℕ) → (valence S v ≡ 0) ⊎ (0 < valence S v) → sum (λ x. cond (eqb v x) (h (valence S v)) 0) (order S) ≡ h (valence S v)

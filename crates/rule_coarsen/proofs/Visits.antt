@@ -14,15 +14,16 @@ use Rattle.rule_sheet.specs.Quads.{uses, isEdge, hasLabel, Quad, quad, is, sum,
 use Rattle.rule_sheet.specs.Sheet.{Sheet}
 use Rattle.rule_sheet.specs.Claims.{Low, Below, Differ}
 use Rattle.rule_passes.specs.Choices.{choose, takeOr, noneQuad}
-use Rattle.rule_regularize.specs.Swaps.{turn}
-use Rattle.rule_regularize.proofs.Passes.{Has}
-use Rattle.rule_regularize.proofs.Swap.{sum-at}
-use Rattle.rule_regularize.proofs.Sweep.{no-edge, choose-some, none-some, cond-some, not-true, and-true}
+use Rattle.rule_sheet.specs.Quads.{turn}
+use Rattle.rule_sheet.specs.Claims.{Has}
+use Rattle.rule_sheet.proofs.Sums.{sum-at}
+use Rattle.rule_sheet.proofs.Weigh.{no-edge}
+use Rattle.rule_passes.proofs.Choices.{choose-some, none-some, cond-some, not-true, and-true}
 use Rattle.rule_sheet.proofs.Weigh.{at-point-le, is-le, side-at-end}
 use Rattle.rule_coarsen.specs.Coarse.{MergeFits, Position, shareOnly, noFurther, nearFree, freshMerge, mergedState, hasCorner, MergeState, mark, near, masksJoin, sumBefore, sumAfter, mayMerge, tryFace, visit, mergePass}
 use Rattle.rule_coarsen.specs.Merges.{Slot, out, slot, merged}
 use Rattle.rule_coarsen.specs.Invariants.{MInv, Used}
-use Rattle.rule_coarsen.proofs.MergePass.{Merged, merge-kept, minv-more}
+use Rattle.rule_coarsen.proofs.MergePass.{merge-kept, minv-more}
 use Rattle.rule_coarsen.proofs.Joins.{Mergeable, BarPoints, Merges, done, merge}
 use Rattle.lists.proofs.Every.{or-split, every-at, and-left}
 

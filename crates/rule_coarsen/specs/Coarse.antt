@@ -11,7 +11,8 @@ use Rattle.points.specs.declared.Point.{Point}
 use Rattle.rule_sheet.specs.Quads.{Quad, quad, sum, uses, valence, isEdge, hasLabel}
 use Rattle.rule_sheet.specs.Sheet.{Sheet}
 use Rattle.rule_sheet.specs.Squared.{sq}
-use Rattle.rule_passes.specs.Runs.{Answer, run}
+use Rattle.rule_sheet.specs.Outcomes.{RunEnd}
+use Rattle.rule_passes.specs.Runs.{run}
 use Rattle.rule_passes.specs.Choices.{noneQuad, choose, takeOr}
 use Rattle.rule_coarsen.specs.Merges.{Slot, out, slot, live, liveLabels, merged, order, renumber, gathered}
 
@@ -136,5 +137,5 @@ abbrev pub nextSheet : (Sheet → MergeState) → Sheet → Sheet
 nextSheet step s = compact ((step s) .slots) (s .labels) ((step s) .points)
 
 -- at most k passes: the sheet that is left, and the merges made in all of them
-abbrev pub coarseRun : (Sheet → MergeFits) → (Sheet → Position) → ℕ → Sheet → Answer Sheet
+abbrev pub coarseRun : (Sheet → MergeFits) → (Sheet → Position) → ℕ → Sheet → RunEnd Sheet
 coarseRun fits position k s = run (λ t. (mergePass fits position t) .count) (nextSheet (mergePass fits position)) k s 0

@@ -9,7 +9,7 @@ use Rattle.lists.specs.Every.{every}
 use Rattle.points.specs.declared.Point.{Point}
 use Rattle.points.specs.Points.{halfwayP, pointIn}
 use Rattle.field.specs.declared.Field.{Field}
-use Rattle.band.specs.declared.Band.{Band}
+use Rattle.setting.specs.Settings.{Setting, bandIn, domainIn}
 use Rattle.band.specs.Bands.{lengthOf, normalWith}
 use Rattle.projection.specs.declared.Projected.{Projected}
 use Rattle.projection.specs.declared.Projected.the-variants.{Onto, Refused}
@@ -27,8 +27,8 @@ unfoldable pub joinedMask : List Quad → List ℕ → ℕ → ℕ → ℕ
 joinedMask S labels a c = pack (λ l. hasLabel S labels a l || hasLabel S labels c l)
 
 -- the projection of the halfway point of a and c, with the joined mask of the sheet at the pass's start
-unfoldable pub movedTo : Band → Sheet → List Point → ℕ → ℕ → Projected
-movedTo b s ps a c = projectOf b (halfwayP (pointIn ps a) (pointIn ps c)) (joinedMask (s .quads) (s .labels) a c)
+unfoldable pub movedTo : Setting → Sheet → List Point → ℕ → ℕ → Projected
+movedTo w s ps a c = projectOf w (halfwayP (pointIn ps a) (pointIn ps c)) (joinedMask (s .quads) (s .labels) a c)
 
 -- the places with the merged point in place of both
 unfoldable pub movedAt : (ℕ → Point) → Merge → ℕ → Point
@@ -42,8 +42,9 @@ quadStays f len at l q m =
     noWorse (quadShape (movedAt at m) n q) (quadShape at n q)
 
 -- "No other quad at either": quad j is the merge's own, or is at neither point, or stays
-abbrev pub otherStays : Band → Sheet → List Point → Merge → ℕ → Bool
-otherStays b s ps m j =
+abbrev pub otherStays : Setting → Sheet → List Point → Merge → ℕ → Bool
+otherStays w s ps m j =
+    let b = bandIn (domainIn w) in
     eqb j (m .face) || not (hasCorner (getD (s .quads) j noneQuad) (m .a)
     || hasCorner (getD (s .quads) j noneQuad) (m .c))
     || quadStays (b .field) (lengthOf b) (pointIn ps) (getD (s .labels) j 0) (getD (s .quads) j noneQuad) m
@@ -53,14 +54,14 @@ abbrev pub mergeAt : ℕ → ℕ → ℕ → Point → Merge
 mergeAt f a c p = record { face = f; a = a; c = c; to = p }
 
 -- "If projecting the halfway point is refused, that diagonal is passed over."
-abbrev pub fitsAt : Band → Sheet → List Point → ℕ → ℕ → ℕ → Projected → Bool
-fitsAt b s ps f a c (Onto p) = every (otherStays b s ps (mergeAt f a c p)) (length (s .quads))
-fitsAt b s ps f a c Refused = false
+abbrev pub fitsAt : Setting → Sheet → List Point → ℕ → ℕ → ℕ → Projected → Bool
+fitsAt w s ps f a c (Onto p) = every (otherStays w s ps (mergeAt f a c p)) (length (s .quads))
+fitsAt w s ps f a c Refused = false
 
 -- the part of the merges' rule that reads the points
-unfoldable pub mergeFits : Band → Sheet → MergeFits
-mergeFits b s ps S f a c = fitsAt b s ps f a c (movedTo b s ps a c)
+unfoldable pub mergeFits : Setting → Sheet → MergeFits
+mergeFits w s ps S f a c = fitsAt w s ps f a c (movedTo w s ps a c)
 
 -- the position of the merged point
-unfoldable pub mergePosition : Band → Sheet → Position
-mergePosition b s ps a c = ontoOf (movedTo b s ps a c)
+unfoldable pub mergePosition : Setting → Sheet → Position
+mergePosition w s ps a c = ontoOf (movedTo w s ps a c)

@@ -1,28 +1,62 @@
--- What the exports say in numbers: the number of a refusal, 0 if accepted, and the counts in the answer slice.
+-- What the exports on sheets show: a number, 0 if accepted, and four numbers in the answer slice.
 use Prim.Native.Nat.{ℕ}
 use mathlib.Core.Path.{_≡_}
-use mathlib.Core.Bool.{cond}
+use mathlib.Core.Bool.{Bool, cond}
 use mathlib.Core.List.{List}
 use lib.Dec.{ltb}
 use lib.Ieee.{Float}
-use lib.ListN.{length}
+use lib.ListN.{length, set}
+use Rattle.rule_sheet.specs.declared.Answer.{Answer}
+use Rattle.rule_sheet.specs.declared.Answer.the-variants as answers
+use Rattle.rule_sheet.specs.declared.Verdict.the-variants.{Accepted, Refused}
+use Rattle.rule_sheet.specs.Numbers.{short}
 use Rattle.rule_sheet.specs.Sheet.{Sheet}
-use Rattle.rule_sheet.specs.declared.Made.{Made}
-use Rattle.rule_sheet.specs.declared.Made.the-variants.{Done, Refused}
-use Rattle.rule_exports.specs.Answers.{answered}
-use Rattle.rule_sheet.specs.Outcomes.{Outcome}
-use Rattle.rule_sheet.specs.Results.{answerOf, shownCounts, Leaves}
+use Rattle.rule_sheet.specs.Lent.{Lent, Room}
+use Rattle.rule_sheet.specs.Outcomes.{Outcome, RunEnd, afterTest}
+use Rattle.rule_sheet.specs.Results.{answerOf, made, shownCounts, Makes, Alters, AltersQuads}
+
+-- an answer slice is too short: it has fewer than 4 elements
+abbrev pub isShortAnswer : List ℕ → Bool
+isShortAnswer l = ltb (length l) 4
+
+-- an operation that is told no band: 13 of its answer slice comes first
+abbrev pub withAnswer : {A : Type 0} → List ℕ → Outcome A → Outcome A
+withAnswer l o = afterTest (cond (isShortAnswer l) (Refused short) Accepted) o
 
 -- the number that an export returns: 0 if accepted
-unfoldable pub madeNumber : Made → ℕ
-madeNumber (Done c) = 0
-madeNumber (Refused n) = n
+unfoldable pub answerNumber : Answer → ℕ
+answerNumber (answers.Done t) = 0
+answerNumber (answers.Refused n) = n
 
--- the number and the result slices, of p, q and l elements, of an export that makes a sheet
-pub record Exports (o : Outcome Sheet) (p q l r : ℕ) (P : List Float) (Q labels : List ℕ) : Type 0 where
-  pub number : r ≡ madeNumber (answerOf o)
-  pub leaves : Leaves o p q l (answerOf o) P Q labels
+-- the count that it shows: 0 if refused
+unfoldable pub answerCount : Answer → ℕ
+answerCount (answers.Done t) = t .count
+answerCount (answers.Refused n) = 0
 
--- the answer slice l after an export that makes a sheet: untouched if it is too short
-unfoldable pub answerLeft : Outcome Sheet → List ℕ → List ℕ
-answerLeft o l = cond (ltb (length l) 4) l (answered 0 (shownCounts (answerOf o)) l)
+-- the answer slice l at its end: the count and the counts of the sheet in its front; untouched if it is too short
+unfoldable pub answerLeft : Answer → List ℕ → List ℕ
+answerLeft r l =
+    let c = shownCounts r in
+    cond (isShortAnswer l) l (set (set (set (set l 0 (answerCount r)) 1 (c .points)) 2 (c .quads)) 3 (c .labels))
+
+-- the number n of an export with the answer r, and its answer slice l′ at its end, l at its start
+pub record Shows (r : Answer) (l : List ℕ) (n : ℕ) (l′ : List ℕ) : Type 0 where
+  pub number : n ≡ answerNumber r
+  pub answer : l′ ≡ answerLeft r l
+
+-- an export that makes a sheet; l, P, Q, L and l′ as above
+pub record ExportMakes (o : Outcome Sheet) (room : Room) (l : List ℕ) (n : ℕ) (P : List Float) (Q L l′ : List ℕ)
+    : Type 0 where
+  pub shows : Shows (answerOf (made o)) l n l′
+  pub makes : Makes o room (answerOf (made o)) P Q L
+
+-- one that alters the sheet x
+pub record ExportAlters (o : Outcome (RunEnd Sheet)) (x : Lent) (l : List ℕ) (n : ℕ) (P : List Float) (Q L l′ : List ℕ)
+    : Type 0 where
+  pub shows : Shows (answerOf o) l n l′
+  pub alters : Alters o x (answerOf o) P Q L
+
+-- one that alters its quads alone
+pub record ExportAltersQuads (o : Outcome (RunEnd Sheet)) (x : Lent) (l : List ℕ) (n : ℕ) (Q l′ : List ℕ) : Type 0 where
+  pub shows : Shows (answerOf o) l n l′
+  pub alters : AltersQuads o x (answerOf o) Q

@@ -1,8 +1,4 @@
-pub mod Given
-pub mod Answers
+pub mod Told
 pub mod Exports
-pub mod Making
-pub mod Assessments
-pub mod Cleanings
-pub mod Coarsenings
-pub mod Extraction
+pub mod Measured
+pub mod Refusals

@@ -9,7 +9,7 @@ use lib.Ieee.{binary64, div}
 use Rattle.numeric.specs.Num.{finiteOf, float}
 use Rattle.points.specs.declared.Point.{Point}
 use Rattle.points.specs.Points.{one, addP, mulP, origin}
-use Rattle.band.specs.declared.Band.{Band}
+use Rattle.setting.specs.Settings.{Domain, bandIn}
 use Rattle.band.specs.Bands.{validOf}
 use Rattle.lists.specs.Sort.{tabulate, itself, consIf, keep}
 use Rattle.lists.specs.Every.{every}
@@ -17,9 +17,9 @@ use Rattle.rule_sheet.specs.Quads.{Quad, quad}
 use Rattle.rule_sheet.specs.Edges.{joinTo}
 use Rattle.rule_sheet.specs.Tests.{goodMasks}
 use Rattle.rule_sheet.specs.Numbers.{box, bare, clash, short}
-use Rattle.rule_sheet.specs.Sheet.{Sheet, isBare}
+use Rattle.rule_sheet.specs.Sheet.{Sheet, countsOf, isBare}
+use Rattle.rule_sheet.specs.Lent.{Work, Room}
 use Rattle.rule_sheet.specs.Outcomes.{Outcome, refuses, gives, withRoom}
-use Rattle.rule_sheet.specs.Results.{countsOf}
 use Rattle.rule_extract.specs.declared.Grid.{Grid}
 use Rattle.rule_extract.specs.declared.Site.{Site}
 use Rattle.rule_extract.specs.Grids.{gridOf}
@@ -150,9 +150,10 @@ abbrev pub goodCells : ℕ → Bool
 goodCells cells = leb 4 cells && leb cells 128
 
 -- "for extraction (cells + 3)³ f64 and 12 × (cells + 2)³ u32"
-abbrev pub shortWork : ℕ → ℕ → ℕ → Bool
-shortWork cells w f =
-    ltb f ((cells + 3) * (cells + 3) * (cells + 3)) || ltb w (12 * ((cells + 2) * (cells + 2) * (cells + 2)))
+abbrev pub shortWork : ℕ → Work → Bool
+shortWork cells w =
+    ltb (w .floats) ((cells + 3) * (cells + 3) * (cells + 3))
+    || ltb (w .numbers) (12 * ((cells + 2) * (cells + 2) * (cells + 2)))
 
 -- "a grid sample not finite"
 abbrev pub finiteSample : Grid → ℕ → ℕ → Bool
@@ -162,18 +163,17 @@ abbrev pub finiteSamples : Grid → ℕ → Bool
 finiteSamples g m = every (finiteSample g m) (m * m * m)
 
 -- 13 (result), 5, 7
-abbrev pub drawnOr : Sheet → ℕ → ℕ → ℕ → Outcome Sheet
-drawnOr s p q l =
-    withRoom (countsOf s) p q l (cond (isBare s) (refuses bare)
+abbrev pub drawnOr : Sheet → Room → Outcome Sheet
+drawnOr s room =
+    withRoom (countsOf s) room (cond (isBare s) (refuses bare)
     (cond (goodMasks (length (s .points)) (s .quads) (s .labels)) (gives s) (refuses clash)))
 
--- `extract_candidate` with work of w and f elements into result slices of p, q and l elements: "1, 2, 3, 13 (work),
--- 4, 13 (result), 5, 7"
-unfoldable pub extractRule : Band → ℕ → ℕ → ℕ → ℕ → ℕ → ℕ → Outcome Sheet
-extractRule b cells w f p q l =
-    cond (not (validOf b)) (refuses box)
-    (cond (not (finiteOf (b .lower))) (refuses bottomless)
+-- `extract_candidate` into result slices: "1, 2, 3, 13 (work), 4, 13 (result), 5, 7"
+unfoldable pub extractRule : Domain → ℕ → Work → Room → Outcome Sheet
+extractRule d cells w room =
+    cond (not (validOf (bandIn d))) (refuses box)
+    (cond (not (finiteOf (bandIn d .lower))) (refuses bottomless)
     (cond (not (goodCells cells)) (refuses cellsNumber)
-    (cond (shortWork cells w f) (refuses short)
-    (cond (not (finiteSamples (gridOf b cells) (cells + 3))) (refuses samplesNumber)
-    (drawnOr (drawnSheet (gridOf b cells) (cells + 2)) p q l)))))
+    (cond (shortWork cells w) (refuses short)
+    (cond (not (finiteSamples (gridOf d cells) (cells + 3))) (refuses samplesNumber)
+    (drawnOr (drawnSheet (gridOf d cells) (cells + 2)) room)))))

@@ -6,7 +6,7 @@ use lib.Ieee.{Float, binary64, div, ofBits}
 use Rattle.numeric.specs.Num.{half, float}
 use Rattle.points.specs.declared.Point.{Point}
 use Rattle.points.specs.Points.{_⊕_, _⊖_, _⊗_}
-use Rattle.band.specs.declared.Band.{Band}
+use Rattle.setting.specs.Settings.{Domain, bandIn}
 use Rattle.band.specs.Bands.{lengthOf}
 use Rattle.rule_extract.specs.declared.Grid.{Grid}
 use Rattle.rule_extract.specs.declared.Site.{Site}
@@ -24,8 +24,8 @@ unfoldable pub startOf : Float → Float → Float
 startOf lo h = lo ⊖ below ⊗ h
 
 -- the scale of the levels: their distance over the length of the box diagonal
-unfoldable pub scaleOf : Band → Float
-scaleOf b = div binary64 (b .upper ⊖ b .lower) (lengthOf b)
+unfoldable pub scaleOf : Domain → Float
+scaleOf d = let b = bandIn d in div binary64 (b .upper ⊖ b .lower) (lengthOf b)
 
 -- the steps along the three axes
 unfoldable pub stepsOf : Point → Point → ℕ → Point
@@ -41,15 +41,15 @@ stepsOf low high cells =
 unfoldable pub startsOf : Point → Point → Point
 startsOf low h = record { x = startOf (low .x) (h .x); y = startOf (low .y) (h .y); z = startOf (low .z) (h .z) }
 
--- the grid of a band
-unfoldable pub gridOf : Band → ℕ → Grid
-gridOf b cells = record {
+-- the grid of a domain
+unfoldable pub gridOf : Domain → ℕ → Grid
+gridOf d cells = let b = bandIn d in record {
   field = b .field;
   low = b .low;
   high = b .high;
   lower = b .lower;
   upper = b .upper;
-  scale = scaleOf b;
+  scale = scaleOf d;
   start = startsOf (b .low) (stepsOf (b .low) (b .high) cells);
   step = stepsOf (b .low) (b .high) cells;
 }

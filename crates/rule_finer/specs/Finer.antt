@@ -5,17 +5,15 @@ use mathlib.Core.Bool.{cond}
 use mathlib.Core.List.{List, [], _∷_, _++_, map}
 use lib.Dec.{eqb}
 use lib.ListN.{length}
-use lib.Ieee.{Float}
 use Rattle.points.specs.declared.Point.{Point}
 use Rattle.points.specs.Points.{halfwayP, centreP, pointIn}
-use Rattle.rule_sheet.specs.declared.Counts.{Counts}
 use Rattle.rule_sheet.specs.Quads.{Quad, quad, is, sum, all}
 use Rattle.rule_sheet.specs.FirstUse.{firsts, place}
 use Rattle.rule_sheet.specs.Tests.{inRange}
-use Rattle.rule_sheet.specs.Numbers.{bare, corner}
-use Rattle.rule_sheet.specs.Sheet.{Sheet, sheetOf, lentVerdict}
+use Rattle.rule_sheet.specs.Numbers.{bare, cornerNumber}
+use Rattle.rule_sheet.specs.Sheet.{Sheet, countsOf}
+use Rattle.rule_sheet.specs.Lent.{Lent, Work, Room, held, roomIn, lentVerdict}
 use Rattle.rule_sheet.specs.Outcomes.{Outcome, refuses, gives, afterTest, withRoom}
-use Rattle.rule_sheet.specs.Results.{countsOf}
 
 -- ---- the quads and labels
 
@@ -105,18 +103,16 @@ finerSheet s = record {
 }
 
 -- the sheet that is made, or 13
-abbrev pub madeOrShort : Sheet → ℕ → ℕ → ℕ → Outcome Sheet
-madeOrShort t p q l = withRoom (countsOf t) p q l (gives t)
+abbrev pub madeOrShort : Sheet → Room → Outcome Sheet
+madeOrShort t room = withRoom (countsOf t) room (gives t)
 
 -- "refine: label count only" is 5, "refine: range only" is 6
-unfoldable pub refined : Sheet → ℕ → ℕ → ℕ → Outcome Sheet
-refined s p q l =
+unfoldable pub refined : Sheet → Room → Outcome Sheet
+refined s room =
     cond (eqb (length (s .labels)) (length (s .quads)))
-    (cond (all (inRange (length (s .points))) (s .quads)) (madeOrShort (finerSheet s) p q l) (refuses corner))
+    (cond (all (inRange (length (s .points))) (s .quads)) (madeOrShort (finerSheet s) room) (refuses cornerNumber))
     (refuses bare)
 
--- `refine` of the sheet in lent slices, with work of w and f elements, into result slices of p, q and l elements:
--- 12, 13, 5, 6, 13
-unfoldable pub refineRule : Counts → List Float → List ℕ → List ℕ → ℕ → ℕ → ℕ → ℕ → ℕ → Outcome Sheet
-refineRule c P Q labels w f p q l =
-    afterTest (lentVerdict c (length P) (length Q) (length labels) w f) (refined (sheetOf c P Q labels) p q l)
+-- `refine` of the sheet in lent slices, into result slices: 12, 13, 5, 6, 13
+unfoldable pub refineRule : Lent → Work → Room → Outcome Sheet
+refineRule x w room = afterTest (lentVerdict (x .counts) (roomIn x) w) (refined (held x) room)

@@ -2,14 +2,10 @@
 use Prim.Native.Nat.{ℕ, zero, suc, _+_, min}
 use mathlib.Core.Bool.{true, false}
 use lib.Dec.{eqb}
-
--- what is left after some passes, and what was counted in all of them
-pub record Answer (A : Type 0) : Type 0 where
-  pub left : A
-  pub count : ℕ
+use Rattle.rule_sheet.specs.Outcomes.{RunEnd}
 
 -- at most k passes, each of which counts what it changes and leaves the next; they end where one counts 0
-abbrev pub run : {A : Type 0} → (A → ℕ) → (A → A) → ℕ → A → ℕ → Answer A
+abbrev pub run : {A : Type 0} → (A → ℕ) → (A → A) → ℕ → A → ℕ → RunEnd A
 run count next zero x c = record { left = x; count = c }
 run count next (suc k) x c =
     elim (eqb (count x) 0) [ true ↦ record { left = x; count = c } | false ↦ run count next k (next x) (c + count x) ]

@@ -7,7 +7,7 @@ use lib.Ieee.{Float, nan, binary64, div, lt, le, ofBits}
 use Rattle.numeric.specs.Num.{zeroF, twentieth, half, float, minOf, floorOf}
 use Rattle.points.specs.declared.Point.{Point}
 use Rattle.points.specs.Points.{_⊕_, _⊖_, _⊗_, one, negZero, normP, centreP, finiteP}
-use Rattle.band.specs.declared.Band.{Band}
+use Rattle.setting.specs.Settings.{Domain, bandIn}
 use Rattle.band.specs.Bands.{normalOf}
 use Rattle.rule_sheet.specs.Quads.{Quad, quad, num, sum, all}
 use Rattle.rule_sheet.specs.Sheet.{Sheet}
@@ -39,12 +39,12 @@ pub record Cell : Type 0 where
   pub normal : Point
 
 -- the cell of a quad with the label l
-abbrev pub cellOf : Band → List Point → Quad → ℕ → Cell
-cellOf b P q l = record { corners = cornersOf P q; normal = normalOf b (centreOf (cornersOf P q)) l }
+abbrev pub cellOf : Domain → List Point → Quad → ℕ → Cell
+cellOf d P q l = record { corners = cornersOf P q; normal = normalOf (bandIn d) (centreOf (cornersOf P q)) l }
 
 -- the cells of a sheet, in the order of its quads
-unfoldable pub cellsOf : Band → Sheet → List Cell
-cellsOf b s = zipWith (cellOf b (s .points)) (s .quads) (s .labels)
+unfoldable pub cellsOf : Domain → Sheet → List Cell
+cellsOf d s = zipWith (cellOf d (s .points)) (s .quads) (s .labels)
 
 -- a normal that is finite and not shorter than 0.5
 unfoldable pub goodNormal : Point → Bool
@@ -135,9 +135,9 @@ measuresOf cells =
     (sortFloats (scoresOf (map cellShape cells) (map cellArea cells)))
 
 -- 11, normal: "quality: normal not finite or shorter than 0.5"
-abbrev pub normal : ℕ
-normal = 11
+abbrev pub normalNumber : ℕ
+normalNumber = 11
 
 -- 11 where a quad's normal is not finite or shorter than 0.5, else the five values
-unfoldable pub measureRule : Band → Sheet → Measured
-measureRule b s = cond (all hasNormal (cellsOf b s)) (Done (measuresOf (cellsOf b s))) (Refused normal)
+unfoldable pub measureRule : Domain → Sheet → Measured
+measureRule d s = cond (all hasNormal (cellsOf d s)) (Done (measuresOf (cellsOf d s))) (Refused normalNumber)

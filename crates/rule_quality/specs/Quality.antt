@@ -4,14 +4,12 @@ use mathlib.Core.Bool.{Bool, _&&_}
 use mathlib.Core.List.{List}
 use lib.Dec.{eqb}
 use lib.ListN.{length}
-use lib.Ieee.{Float}
 use Rattle.numeric.specs.Num.{finiteOf}
-use Rattle.band.specs.declared.Band.{Band}
-use Rattle.rule_sheet.specs.declared.Counts.{Counts}
-use Rattle.rule_sheet.specs.declared.Verdict.{Verdict}
-use Rattle.rule_sheet.specs.declared.Verdict.the-variants as verdict
+use Rattle.setting.specs.Settings.{Domain}
 use Rattle.rule_sheet.specs.Quads.{Quad}
-use Rattle.rule_sheet.specs.Sheet.{Sheet, sheetOf, lentVerdict, sheetVerdict}
+use Rattle.rule_sheet.specs.Lent.{Lent, Work, held}
+use Rattle.rule_sheet.specs.Outcomes.{Outcome, refuses, gives, afterTest}
+use Rattle.rule_admission.specs.Admission.{measurable}
 use Rattle.rule_quality.specs.Census.{irregular, badLinks, duplicateFaces, tight}
 use Rattle.rule_sheet.specs.Edges.{boundaryEdges, nonmanifoldEdges, orientationErrors}
 use Rattle.rule_quality.specs.declared.Measures.{Measures}
@@ -51,22 +49,22 @@ qualityOf n S m = record {
   «invalid_cells» = m .«invalid_cells»;
 }
 
--- the record with "tight is a yes if every edge has exactly two quads that run opposite ways" beside it, or the
--- refusal of a normal
-abbrev pub withCounts : ℕ → List Quad → Measured → Assessed
-withCounts n S (measured.Done m) = Done (qualityOf n S m) (tight n S)
-withCounts n S (measured.Refused k) = Refused k
+-- the record, and beside it "tight is a yes if every edge has exactly two quads that run opposite ways"
+pub record Assessment : Type 0 where
+  pub quality : Quality
+  pub isTight : Bool
 
--- what follows on tests that find nothing
-abbrev pub afterTests : Verdict → Assessed → Assessed
-afterTests verdict.Accepted a = a
-afterTests (verdict.Refused k) a = Refused k
+-- the same with the counts, or the refusal of a normal
+abbrev pub withCounts : ℕ → List Quad → Measured → Outcome Assessment
+withCounts n S (measured.Done m) = gives (record { quality = qualityOf n S m; isTight = tight n S })
+withCounts n S (measured.Refused k) = refuses k
 
--- `quality` of a sheet: 1, 5, 6, 7, 11
-unfoldable pub assessed : Band → Sheet → Assessed
-assessed b s = afterTests (sheetVerdict b s) (withCounts (length (s .points)) (s .quads) (measureRule b s))
+-- `quality` of the sheet in lent slices: 12, 13, 1, 5, 6, 7, 11
+unfoldable pub qualityRule : Domain → Lent → Work → Outcome Assessment
+qualityRule d x w =
+    afterTest (measurable d x w) (withCounts (length (held x .points)) (held x .quads) (measureRule d (held x)))
 
--- `quality` of the sheet in lent slices, with work of w and f elements: 12, 13, 1, 5, 6, 7, 11
-unfoldable pub qualityRule : Band → Counts → List Float → List ℕ → List ℕ → ℕ → ℕ → Assessed
-qualityRule b c P Q labels w f =
-    afterTests (lentVerdict c (length P) (length Q) (length labels) w f) (assessed b (sheetOf c P Q labels))
+-- the answer of an outcome
+abbrev pub assessedOf : Outcome Assessment → Assessed
+assessedOf (refuses n) = Refused n
+assessedOf (gives a) = Done (a .quality) (a .isTight)

@@ -22,7 +22,7 @@ pub struct Quality {
 impl Quality {
     // Closed manifold connectivity and positive Jacobians.
     pub fn is_valid(self) -> bool
-        ensures { λ r. ⌜ r ≡ isValid self ⌝ }
+        ensures answer { λ r. ⌜ r ≡ isValid self ⌝ }
     {
         (self.boundary_edges == 0)
             & (self.nonmanifold_edges == 0)

@@ -1,10 +1,9 @@
 -- `Bound` has the bound of valences, `Passes` the swaps as relations, `Surgery` and `Swap` one swap, `SwapPass` a pass of swaps, `Sweep` the rule's own
--- passes, `Runs` passes one after the other, `Tests` what the tests of a sheet say.
+-- passes, `Tests` what the tests of a sheet say.
 pub mod Bound
 pub mod Passes
 pub mod Surgery
 pub mod Swap
 pub mod SwapPass
 pub mod Sweep
-pub mod Runs
 pub mod Tests

@@ -1,11 +1,13 @@
 -- The swaps that the rule allows, as relations: the swaps of a pass, without their order and without the points. Assumes nothing.
 use mathlib.Core.Path.{_≡_}
 use mathlib.Core.Logic.{_⊎_, _≢_}
-use Prim.Native.Nat.{ℕ, suc, _+_, _≤_, _<_}
+use Prim.Native.Nat.{ℕ, suc, _+_, _≤_}
 use mathlib.Core.List.{List}
 use lib.ListN.{getD}
-use Rattle.rule_sheet.specs.Quads.{Quad, quad, uses, valence, side}
-use Rattle.rule_regularize.specs.Swaps.{turn, swapOne, swapTwo}
+use Rattle.rule_sheet.specs.Quads.{Quad, quad, valence, side}
+use Rattle.rule_sheet.specs.Claims.{Has}
+use Rattle.rule_regularize.specs.Swaps.{swapOne, swapTwo}
+use Rattle.rule_sheet.specs.Quads.{turn}
 use Rattle.rule_passes.specs.Choices.{noneQuad}
 
 -- The six corners differ.
@@ -25,10 +27,6 @@ pub record Six (h0 h1 h2 h3 h4 h5 : ℕ) : Type 0 where
   pub n34 : h3 ≢ h4
   pub n35 : h3 ≢ h5
   pub n45 : h4 ≢ h5
-
--- A quad has v for a corner.
-abbrev pub Has : Quad → ℕ → Type 0
-Has q v = 0 < uses v q
 
 -- v is one of the six corners.
 pub data OneOf (v h0 h1 h2 h3 h4 h5 : ℕ) : Type 0 where

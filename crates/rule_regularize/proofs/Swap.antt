@@ -1,35 +1,19 @@
 -- One swap on the list of quads is an exchange of corners. Assumes nothing.
-use mathlib.Core.Path.{_≡_, refl, ap, sym}
+use mathlib.Core.Path.{_≡_, ap, sym}
 use mathlib.Core.Logic.{_≢_}
-use Prim.Native.Nat.{ℕ, zero, suc, _+_, _-_, _≤_, _<_}
-use mathlib.Core.List.{List, [], _∷_}
+use Prim.Native.Nat.{ℕ, _+_, _-_, _<_}
+use mathlib.Core.List.{List}
 use native.Mathlib.Omega.{arith}
 use lib.ListN.{length, set, getD, length-set}
 use lib.Seq.{getD-set-other}
 use Rattle.rule_sheet.specs.Quads.{Quad, quad, sum, corners, total}
-use Rattle.rule_regularize.specs.Swaps.{turn, swapOne, swapTwo}
+use Rattle.rule_regularize.specs.Swaps.{swapOne, swapTwo}
 use Rattle.rule_passes.specs.Choices.{noneQuad}
+use Rattle.rule_sheet.proofs.Sums.{sum-set}
 use Rattle.rule_regularize.proofs.Passes.{Six}
 use Rattle.rule_regularize.proofs.Surgery.{Exchange}
 
--- A quad read from another corner has the same corners.
-pub corners-turn : (f : ℕ → ℕ → ℕ → ℕ) (k : ℕ) (q : Quad) → corners f (turn k q) ≡ corners f q
-corners-turn f zero (quad a b c d) = refl
-corners-turn f (suc k) (quad a b c d) = omega (arith, corners-turn f k (quad b c d a))
-
 module _ {A : Type 0} where
-  -- One place of a list replaced.
-  pub sum-set : (h : A → ℕ) (l : List A) (i : ℕ) (a d : A) → i < length l → sum h (set l i a) + h (getD l i d) ≡ sum h l + h a
-  sum-set h [] i a d k = absurd (omega arith)
-  sum-set h (x ∷ l) zero a d k = omega arith
-  sum-set h (x ∷ l) (suc i) a d k = omega (arith, sum-set h l i a d (omega arith))
-
-  -- One place is part of the sum.
-  pub sum-at : (h : A → ℕ) (l : List A) (i : ℕ) (d : A) → i < length l → h (getD l i d) ≤ sum h l
-  sum-at h [] i d k = absurd (omega arith)
-  sum-at h (x ∷ l) zero d k = omega arith
-  sum-at h (x ∷ l) (suc i) d k = omega (arith, sum-at h l i d (omega arith))
-
   pub sum-set-two : (h : A → ℕ) (l : List A) (i j : ℕ) (a b d : A) → i < length l → j < length l → i ≢ j
       → sum h (set (set l i a) j b) + (h (getD l i d) + h (getD l j d)) ≡ sum h l + (h a + h b)
   sum-set-two h l i j a b d li lj ij =

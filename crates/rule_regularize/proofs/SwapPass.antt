@@ -12,18 +12,21 @@ use lib.ListN.{length, set, getD, length-set, List·getD-eq-default}
 use lib.Seq.{getD-set-other}
 use Rattle.rule_sheet.specs.Closed.{atPoint, Rings}
 use Rattle.rule_sheet.specs.Quads.{Quad, quad, is, corners, total, at, valence, side, touches}
-use Rattle.rule_sheet.proofs.FirstUse.{is-other}
+use Rattle.rule_sheet.proofs.FirstUse.{is-other, is-pos}
 use Rattle.rule_sheet.proofs.Sums.{sum-tab}
 use Rattle.rule_sheet.specs.Squared.{sq, squared}
 use Rattle.rule_sheet.specs.Claims.{Below, Differ, All, NoClash}
-use Rattle.rule_regularize.specs.Swaps.{turn, swapOne, swapTwo}
+use Rattle.rule_regularize.specs.Swaps.{swapOne, swapTwo}
 use Rattle.rule_passes.specs.Choices.{noneQuad}
 use Rattle.rule_sheet.proofs.Base.{is-self, pos-split}
 use Rattle.rule_sheet.proofs.Labels.{label-sum-set, label-sum-at, no-new-clash}
-use Rattle.rule_regularize.proofs.Passes.{Six, Has, OneOf, is0, is1, is2, is4, is5, Hexagon, Bar, Pass, stop, one, two}
+use Rattle.rule_regularize.proofs.Passes.{Six, OneOf, is0, is1, is2, is4, is5, Hexagon, Bar, Pass, stop, one, two}
+use Rattle.rule_sheet.specs.Claims.{Has}
 use Rattle.rule_sheet.proofs.Rings.{zero-or, ring-two}
 use Rattle.rule_regularize.proofs.Surgery.{Exchange, ring-kept, squared-falls, at-a, at-b, at-c, at-d, at-other}
-use Rattle.rule_regularize.proofs.Swap.{corners-turn, sum-at, exchange-one, exchange-two}
+use Rattle.rule_regularize.proofs.Swap.{exchange-one, exchange-two}
+use Rattle.rule_sheet.proofs.Weigh.{here}
+use Rattle.rule_sheet.proofs.Sums.{sum-at}
 use Rattle.rule_sheet.proofs.Weigh.{at-same, at-diff, side-at-end, is-le}
 use Rattle.lists.specs.Sort.{itself}
 
@@ -34,19 +37,9 @@ pub record Inv (S0 S : List Quad) (B : ℕ → Type 0) : Type 0 where
   pub old-edge : (u v : ℕ) → 0 < side S u v → (0 < side S0 u v) ⊎ ((i : ℕ) → Has (getD S0 i noneQuad) u → B i)
 
 -- the corners of a quad that was turned
-pub here : (k : ℕ) (q : Quad) (a b c d : ℕ) → turn k q ≡ quad a b c d → (f : ℕ → ℕ → ℕ → ℕ) → corners f q ≡ corners f (quad a b c d)
-here k q a b c d e f = sym (corners-turn f k q) ∙ ap (corners f) e
-
 -- A corner of a quad is in use.
 pub quad-in : (S : List Quad) (i : ℕ) → i < length S → (v : ℕ) → Has (getD S i noneQuad) v → 0 < valence S v
 quad-in S i l v h = omega (arith, sum-at (corners (at v (λ p n. 1))) S i noneQuad l)
-
-pub is-pos : (x y : ℕ) → 0 < is x y → x ≡ y
-is-pos x y h = go (ℕ-discrete x y)
-  where
-    go : Dec (x ≡ y) → x ≡ y
-    go (yes p) = p
-    go (no n) = absurd (omega (arith, is-other x y n))
 
 -- the quad that stands for none has no different corners
 in-list : (S : List Quad) (i : ℕ) (a b c d : ℕ) → a ≢ b → ((f : ℕ → ℕ → ℕ → ℕ) → corners f (getD S i noneQuad) ≡ corners f (quad a b c d)) → i < length S
@@ -258,7 +251,7 @@ module _ (labels : List ℕ) (S0 S : List Quad) (B : ℕ → Type 0) (i j h0 h1 
   }
 
 -- What a pass of swaps keeps.
-pub record Kept (labels : List ℕ) (n w : ℕ) (S S′ : List Quad) : Type 0 where
+pub record SwapsKeep (labels : List ℕ) (n w : ℕ) (S S′ : List Quad) : Type 0 where
   pub clash : NoClash S′ labels
   pub used : (v : ℕ) → 0 < valence S v → 0 < valence S′ v
   pub four : All Differ S′
@@ -269,7 +262,7 @@ pub record Kept (labels : List ℕ) (n w : ℕ) (S S′ : List Quad) : Type 0 wh
 
 -- one more swap in front
 then : (labels : List ℕ) (n m c : ℕ) (S S₁ S′ : List Quad) → ((v : ℕ) → 0 < valence S v → 0 < valence S₁ v) → (va vb vc vd : ℕ) → length S₁ ≡ length S → squared n S₁ + 2 * (va + vb) ≡ squared n S + (2 * (vc + vd) + 4)
-    → vc + vd + 2 + m ≤ va + vb → Kept labels n (2 * (c * m)) S₁ S′ → Kept labels n (2 * (suc c * m)) S S′
+    → vc + vd + 2 + m ≤ va + vb → SwapsKeep labels n (2 * (c * m)) S₁ S′ → SwapsKeep labels n (2 * (suc c * m)) S S′
 then labels n m c S S₁ S′ u va vb vc vd l e g k = record {
   clash = k .clash;
   used = λ v h. k .used v (u v h);
@@ -324,7 +317,7 @@ inv-more S0 S B B₁ f inv = record { len = inv .len; kept = λ i n. inv .kept i
     go u v (inl h) = inl h
     go u v (inr h) = inr (λ i k. f i (h i k))
 
-pub pass-kept : (S0 : List Quad) (labels : List ℕ) (m n : ℕ) (S : List Quad) (B : ℕ → Type 0) (S′ : List Quad) (c : ℕ) → Pass S0 labels m S B S′ c → Inv S0 S B → length labels ≡ length S → NoClash S labels → All Differ S → Rings S → Below n S → Kept labels n (2 * (c * m)) S S′
+pub pass-kept : (S0 : List Quad) (labels : List ℕ) (m n : ℕ) (S : List Quad) (B : ℕ → Type 0) (S′ : List Quad) (c : ℕ) → Pass S0 labels m S B S′ c → Inv S0 S B → length labels ≡ length S → NoClash S labels → All Differ S → Rings S → Below n S → SwapsKeep labels n (2 * (c * m)) S S′
 pass-kept S0 labels m n S B S′ c stop inv ll nc fo r b = record { clash = nc; used = λ v h. h; four = fo; rings = r; below = b; len = refl; falls = omega (arith, zero-mul m) }
 pass-kept S0 labels m n S B S′ c (one {B₁ = B₁} {c = k} i j h0 h1 h2 h3 h4 h5 hx op g more rest) inv ll nc fo r b =
     let t : Stepped labels S0 S (swapOne S i j h0 h1 h2 h3 h4 h5) (Bar S0 B h0 h1 h2 h3 h4 h5) h0 h3 h1 h4 = step-one labels S0 S B i j h0 h1 h2 h3 h4 h5 hx inv op in

@@ -2,36 +2,25 @@
 use mathlib.Core.Path.{_≡_, refl, ap, ap₂, sym, _∙_, subst}
 use mathlib.Core.Logic.{_⊎_, inl, inr, _≢_}
 use mathlib.Core.Option.{Option, none, some}
-use mathlib.Core.Bool.{Bool, true, false, _&&_, _||_, not, true≢false, cond}
+use mathlib.Core.Bool.{Bool, true, false, _&&_, _||_, not, true≢false}
 use Prim.Native.Nat.{ℕ, zero, suc, _+_, _-_, _<_}
 use mathlib.Core.List.{List, [], _∷_, _++_, List·Memᴰ, List·Memᴰ·head, List·Memᴰ·not-nil, List·Memᴰ·cases-cons, Memᴰ·append-left, Memᴰ·append-right}
 use native.Mathlib.Omega.{arith}
 use native.Mathlib.Decide.{ℕ-discrete}
 use lib.Dec.{eqb, leb, ltb}
 use lib.ListN.{length, getD, replicate, length-replicate}
-use borrow.Author.Tests.{eqb-true, leb-true, ltb-false, lt-ltb, le-leb}
+use borrow.Author.Tests.{eqb-true, leb-true, lt-ltb, le-leb}
 use Rattle.rule_sheet.specs.Edges.{joinTo, edgesFrom, edgeIf, Pair, pair, edgesOf}
-use Rattle.rule_sheet.specs.Quads.{uses, Quad, quad, num, is, valence, side, isEdge}
-use Rattle.rule_regularize.specs.Swaps.{Fits, hex, fresh, turn, swapOne, swapTwo, Place, places, State, meets, barList, sixDiffer, may, swapQuads, tryPlaces, tryEdge, sweep, swapPass, NoSwap}
+use Rattle.rule_sheet.specs.Quads.{uses, Quad, quad, is, valence, side, isEdge}
+use Rattle.rule_regularize.specs.Swaps.{Fits, hex, fresh, swapOne, swapTwo, Place, places, State, meets, barList, sixDiffer, may, swapQuads, tryPlaces, tryEdge, sweep, swapPass, NoSwap}
+use Rattle.rule_sheet.specs.Quads.{turn}
 use Rattle.rule_passes.specs.Choices.{noneQuad, choose, takeOr}
 use Rattle.rule_sheet.proofs.Base.{is-self}
-use Rattle.rule_regularize.proofs.Passes.{Six, Has, OneOf, is0, is1, is2, is3, is4, is5, Hexagon, Bar, Pass, stop, one, two}
+use Rattle.rule_regularize.proofs.Passes.{Six, OneOf, is0, is1, is2, is3, is4, is5, Hexagon, Bar, Pass, stop, one, two}
+use Rattle.rule_sheet.specs.Claims.{Has}
 use Rattle.lists.specs.Sort.{consIf}
-use Rattle.lists.proofs.Every.{and-left, and-right}
-
-pub and-true : (a b : Bool) → (a && b) ≡ true → (a ≡ true) × (b ≡ true)
-and-true a b e = (and-left a b e, and-right a b e)
-
-pub not-true : (b : Bool) → not b ≡ true → b ≡ true → ⊥
-not-true true e f = let z : _≡_ {A = ℕ} 0 1 = ap num e in omega arith
-not-true false e f = let z : _≡_ {A = ℕ} 0 1 = ap num f in omega arith
-
-pub not-false : (b : Bool) → not b ≡ true → b ≡ false
-not-false true e = sym e
-not-false false e = refl
-
-pub no-edge : (S : List Quad) (a b : ℕ) → not (isEdge S a b) ≡ true → side S a b + side S b a ≡ 0
-no-edge S a b e = let l = ltb-false 0 (side S a b + side S b a) (not-false (isEdge S a b) e) in omega arith
+use Rattle.rule_sheet.proofs.Weigh.{no-edge}
+use Rattle.rule_passes.proofs.Choices.{and-true, not-true, none-some, cond-some, choose-some}
 
 pub six-of : (a b c d e f : ℕ) → sixDiffer a b c d e f ≡ true → Six a b c d e f
 six-of a b c d e f h = let z : is a b + (is a c + (is a d + (is a e + (is a f + (is b c + (is b d + (is b e + (is b f + (is c d + (is c e + (is c f + (is d e + (is d f + (is e f)))))))))))))) ≡ 0 = eqb-true (is a b + (is a c + (is a d + (is a e + (is a f + (is b c + (is b d + (is b e + (is b f + (is c d + (is c e + (is c f + (is d e + (is d f + (is e f))))))))))))))) 0 h in record {
@@ -96,29 +85,6 @@ and6 a b c d e f h =
     let y = and-true (a && b && c) d (x4 .0) in
     let z = and3 a b c (y .0) in
     (z .0, z .1, z .2, y .1, x4 .1, x5 .1)
-
-module _ {A : Type 0} where
-  isSome : Option A → ℕ
-  isSome none = 0
-  isSome (some t) = 1
-
-  pub none-some : {t : A} → _≡_ {A = Option A} none (some t) → ⊥
-  unfolding isSome
-  none-some e = let z : _≡_ {A = ℕ} 0 1 = ap isSome e in omega arith
-
-  pub some-inj : {s t : A} → _≡_ {A = Option A} (some s) (some t) → s ≡ t
-  some-inj {s} {t} e = cc
-
-  pub cond-some : {t : A} (b : Bool) (x : Option A) → cond b x none ≡ some t → (b ≡ true) × (x ≡ some t)
-  cond-some true x e = (refl, e)
-  cond-some false x e = absurd (none-some e)
-
-  pub choose-some : (a b c : Bool) (x y t : A) → choose a b c x y ≡ some t → ((a ≡ true) × (x ≡ t)) ⊎ ((b ≡ true) × (y ≡ t))
-  choose-some true true true x y t e = inr (refl, some-inj e)
-  choose-some true true false x y t e = inl (refl, some-inj e)
-  choose-some true false c x y t e = inl (refl, some-inj e)
-  choose-some false true c x y t e = inr (refl, some-inj e)
-  choose-some false false c x y t e = absurd (none-some e)
 
 module _ (S0 : List Quad) (labels : List ℕ) (m : ℕ) (fits : Fits) where
   -- a step of a pass, as Pass has it

@@ -10,7 +10,7 @@ use Rattle.lists.proofs.Every.{and-left, and-right}
 use Rattle.rule_sheet.specs.Quads.{Quad, quad, all}
 use Rattle.rule_sheet.specs.Tests.{distinct, lowLabel}
 use Rattle.rule_sheet.specs.Claims.{Low, Differ}
-use Rattle.rule_regularize.proofs.Sweep.{not-true}
+use Rattle.rule_passes.proofs.Choices.{not-true}
 
 -- the labels are low
 pub low-of : (labels : List ℕ) → all lowLabel labels ≡ true → Low labels

@@ -9,7 +9,7 @@ use Rattle.numeric.specs.Num.{minOf}
 use Rattle.points.specs.declared.Point.{Point}
 use Rattle.points.specs.Points.{_⊕_, one, addP, mulP, origin, pointIn}
 use Rattle.field.specs.declared.Field.{Field}
-use Rattle.band.specs.declared.Band.{Band}
+use Rattle.setting.specs.Settings.{Setting, bandIn, domainIn}
 use Rattle.band.specs.Bands.{lengthOf, normalWith}
 use Rattle.rule_sheet.specs.Quads.{Quad, quad}
 use Rattle.rule_regularize.specs.Swaps.{Hex, Fits}
@@ -61,6 +61,6 @@ fitsWith f len ps labels S i j h k positive =
     nextFits (pointIn ps) h k (heldOf f len (pointIn ps) (getD labels i 0) (getD S i noneQuad) (getD S j noneQuad) h)
     positive
 
--- the same by the band
-unfoldable pub swapFits : Band → List Point → List ℕ → Fits
-swapFits b ps labels = fitsWith (b .field) (lengthOf b) ps labels
+-- the same by what a call brings
+unfoldable pub swapFits : Setting → List Point → List ℕ → Fits
+swapFits s ps labels = let b = bandIn (domainIn s) in fitsWith (b .field) (lengthOf b) ps labels

@@ -1,6 +1,6 @@
 -- The swapped sheet: the passes of `regularize` and `improve_layout` as functions of the quads. Document 01, "The
 -- swapped sheet". What the rule reads of the points is the test `fits`.
-use Prim.Native.Nat.{ℕ, zero, suc, _+_, _<_}
+use Prim.Native.Nat.{ℕ, suc, _+_, _<_}
 use mathlib.Core.Path.{_≡_}
 use mathlib.Core.Option.{Option, none}
 use mathlib.Core.Bool.{Bool, true, false, cond, _&&_, _||_, not}
@@ -8,15 +8,11 @@ use mathlib.Core.List.{List, [], _∷_}
 use lib.Dec.{eqb, leb, ltb}
 use lib.ListN.{length, getD, set, replicate}
 use Rattle.lists.specs.Sort.{consIf}
-use Rattle.rule_sheet.specs.Quads.{Quad, quad, is, uses, valence, side, isEdge}
+use Rattle.rule_sheet.specs.Quads.{Quad, quad, turn, is, uses, valence, side, isEdge}
 use Rattle.rule_sheet.specs.Edges.{Pair, pair, edgesOf}
-use Rattle.rule_passes.specs.Runs.{Answer, run}
+use Rattle.rule_sheet.specs.Outcomes.{RunEnd}
+use Rattle.rule_passes.specs.Runs.{run}
 use Rattle.rule_passes.specs.Choices.{noneQuad, choose, takeOr}
-
--- a quad read from its k-th corner on
-abbrev pub turn : ℕ → Quad → Quad
-turn zero q = q
-turn (suc k) (quad a b c d) = turn k (quad b c d a)
 
 -- ---- the edge map
 
@@ -149,7 +145,7 @@ unfoldable pub swapPass : ℕ → List ℕ → ℕ → Fits → List Quad → St
 swapPass n labels m fits S = sweep S labels m fits (fresh S) (edgesOf n S)
 
 -- at most k passes: the quads that are left, and "the swaps made in all its passes"
-abbrev pub swapRun : ℕ → List ℕ → ℕ → Fits → ℕ → List Quad → Answer (List Quad)
+abbrev pub swapRun : ℕ → List ℕ → ℕ → Fits → ℕ → List Quad → RunEnd (List Quad)
 swapRun n labels m fits k S =
     run (λ T. (swapPass n labels m fits T) .count) (λ T. (swapPass n labels m fits T) .quads) k S 0
 

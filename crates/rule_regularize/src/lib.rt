@@ -7,9 +7,3 @@ pub struct Held {
     pub normal: Point,
     pub old: f64,
 }
-
-// What a clean-up answers: the swaps made in all its passes, or the number of a refusal.
-pub enum Cleaned {
-    Done(usize),
-    Refused(u32),
-}

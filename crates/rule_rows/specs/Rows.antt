@@ -11,17 +11,17 @@ use Rattle.lists.specs.Every.{countTo}
 use Rattle.numeric.specs.Num.{half}
 use Rattle.points.specs.declared.Point.{Point}
 use Rattle.points.specs.Points.{_⊗_, addP, subP, mulP}
-use Rattle.band.specs.declared.Band.{Band}
+use Rattle.setting.specs.Settings.{Setting}
 use Rattle.projection.specs.declared.Projected.{Projected}
 use Rattle.projection.specs.declared.Projected.the-variants.{Onto, Refused}
 use Rattle.projection.specs.Project.{projectOf, isOnto, ontoOf}
-use Rattle.rule_sheet.specs.declared.Counts.{Counts}
 use Rattle.rule_sheet.specs.Quads.{Quad, quad, all, hasLabel}
 use Rattle.rule_sheet.specs.Edges.{Pair, joinTo, joinOf, edgesOf}
-use Rattle.rule_sheet.specs.Numbers.{edge}
-use Rattle.rule_sheet.specs.Sheet.{Sheet, sheetOf, lentVerdict, sheetVerdict}
+use Rattle.rule_sheet.specs.Numbers.{edgeNumber}
+use Rattle.rule_sheet.specs.Sheet.{Sheet, countsOf, sheetVerdict}
+use Rattle.rule_sheet.specs.Lent.{Lent, Work, Room, held}
 use Rattle.rule_sheet.specs.Outcomes.{Outcome, refuses, gives, afterTest, withRoom}
-use Rattle.rule_sheet.specs.Results.{countsOf}
+use Rattle.rule_admission.specs.Admission.{admits}
 use Rattle.smoothing.specs.Smooth.{mean, sumOf}
 use Rattle.smoothing.specs.Rounded.{pointwise}
 use Rattle.rule_finer.specs.Smoothed.{those, pointQuads, paired, labelCount, pointOf, centreAt}
@@ -36,15 +36,15 @@ row = 10
 abbrev pub keyOf : ℕ → ℕ → ℕ
 keyOf v l = 8 * v + l
 
-abbrev pub pointIn : ℕ → ℕ
-pointIn k = k / 8
+abbrev pub keyPoint : ℕ → ℕ
+keyPoint k = k / 8
 
-abbrev pub labelIn : ℕ → ℕ
-labelIn k = k % 8
+abbrev pub keyLabel : ℕ → ℕ
+keyLabel k = k % 8
 
 -- "a copy per (point, label) where a mask has two or more bits"
 unfoldable pub isCopied : Sheet → ℕ → Bool
-isCopied s k = ltb 1 (labelCount s (pointIn k)) && hasLabel (s .quads) (s .labels) (pointIn k) (labelIn k)
+isCopied s k = ltb 1 (labelCount s (keyPoint k)) && hasLabel (s .quads) (s .labels) (keyPoint k) (keyLabel k)
 
 -- the keys of all copies, "in ascending order"
 unfoldable pub copies : Sheet → List ℕ
@@ -82,13 +82,14 @@ orElse (Onto p) r = Onto p
 orElse Refused r = r
 
 -- n tries are left: the first projection that succeeds of p + d × step, p + d × step / 2, ..
-unfoldable pub tryFrom : ℕ → Band → Point → Point → ℕ → Float → Projected
-tryFrom zero b p d mask step = Refused
-tryFrom (suc n) b p d mask step = orElse (projectOf b (addP p (mulP d step)) mask) (tryFrom n b p d mask (step ⊗ half))
+unfoldable pub tryFrom : ℕ → Setting → Point → Point → ℕ → Float → Projected
+tryFrom zero s p d mask step = Refused
+tryFrom (suc n) s p d mask step = orElse (projectOf s (addP p (mulP d step)) mask) (tryFrom n s p d mask (step ⊗ half))
 
 -- the copy of a key: "trying steps 0.7, 0.35 and so on, twenty in all", onto its label alone
-unfoldable pub copyOf : Band → Sheet → ℕ → Projected
-copyOf b s k = tryFrom tryCount b (pointOf s (pointIn k)) (inward s (pointIn k) (labelIn k)) (2 ^ labelIn k) firstStep
+unfoldable pub copyOf : Setting → Sheet → ℕ → Projected
+copyOf w s k =
+    let v = keyPoint k in let l = keyLabel k in tryFrom tryCount w (pointOf s v) (inward s v l) (2 ^ l) firstStep
 
 -- ---- the copied quads
 
@@ -157,29 +158,26 @@ stripAt s x =
 -- ---- the sheet with rows and the rule
 
 -- the points and their copies; "The strip quads stand behind the copied quads in the lent result."
-unfoldable pub rowsSheet : Band → Sheet → Sheet
-rowsSheet b s = record {
-  points = s .points ++ map (λ k. ontoOf (copyOf b s k)) (copies s);
+unfoldable pub rowsSheet : Setting → Sheet → Sheet
+rowsSheet w s = record {
+  points = s .points ++ map (λ k. ontoOf (copyOf w s k)) (copies s);
   quads = copiedQuads s ++ map (stripAt s) (rowSides s);
   labels = s .labels ++ map labelOf (rowSides s);
 }
 
 -- "boundary_rows 10, 8, 7": the sheet with rows is tested as the lent one was, as in 000; of these tests only 7 can
 -- fail
-unfoldable pub rowsMade : Band → Sheet → Outcome Sheet
-rowsMade b s =
-    let t = rowsSheet b s in
-    cond (all (λ k. isOnto (copyOf b s k)) (copies s))
-    (cond (paired (length (s .points)) (s .quads)) (afterTest (sheetVerdict b t) (gives t)) (refuses edge))
+unfoldable pub rowsMade : Setting → Sheet → Outcome Sheet
+rowsMade w s =
+    let t = rowsSheet w s in
+    cond (all (λ k. isOnto (copyOf w s k)) (copies s))
+    (cond (paired (length (s .points)) (s .quads)) (afterTest (sheetVerdict t) (gives t)) (refuses edgeNumber))
     (refuses row)
 
 -- 13 (result), 10, 8, 7
-unfoldable pub rowed : Band → Sheet → ℕ → ℕ → ℕ → Outcome Sheet
-rowed b s p q l = withRoom (countsOf (rowsSheet b s)) p q l (rowsMade b s)
+unfoldable pub rowed : Setting → Sheet → Room → Outcome Sheet
+rowed w s room = withRoom (countsOf (rowsSheet w s)) room (rowsMade w s)
 
--- `boundary_rows` of the sheet in lent slices, with work of w and f elements, into result slices of p, q and l
--- elements: 12, 13, 1, 5, 6, 7, 13, 10, 8, 7
-unfoldable pub rowsRule : Band → Counts → List Float → List ℕ → List ℕ → ℕ → ℕ → ℕ → ℕ → ℕ → Outcome Sheet
-rowsRule b c P Q labels w f p q l =
-    let s = sheetOf c P Q labels in
-    afterTest (lentVerdict c (length P) (length Q) (length labels) w f) (afterTest (sheetVerdict b s) (rowed b s p q l))
+-- `boundary_rows` of the sheet in lent slices, into result slices: 12, 13, 1, 5, 6, 7, 13, 10, 8, 7
+unfoldable pub rowsRule : Setting → Lent → Work → Room → Outcome Sheet
+rowsRule s x w room = afterTest (admits s x w) (rowed s (held x) room)

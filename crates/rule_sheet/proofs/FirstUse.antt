@@ -5,6 +5,7 @@ use mathlib.Core.Path.{_≡_, refl, sym, ap, _∙_}
 use mathlib.Core.Bool.{Bool, true, false, cond}
 use mathlib.Core.List.{List, [], _∷_, _++_}
 use native.Mathlib.Omega.{arith}
+use native.Mathlib.Decide.{ℕ-discrete}
 use native.Mathlib.Numerals.{add-one}
 use lib.ListN.{length, getD, length-append}
 use lib.Dec.{eqb}
@@ -206,3 +207,11 @@ module _ (key : ℕ → ℕ) where
             let b : s < n = omega (arith, A .le, ne) in
             let e = earlier s (ih s b) (some-used n s b) in
             rw q (rw (A .same, first-first n (omega arith)) at e)
+
+-- numbers whose indicator is not 0 are equal
+pub is-pos : (x y : ℕ) → 0 < is x y → x ≡ y
+is-pos x y h = go (ℕ-discrete x y)
+  where
+    go : Dec (x ≡ y) → x ≡ y
+    go (yes p) = p
+    go (no n) = absurd (omega (arith, is-other x y n))

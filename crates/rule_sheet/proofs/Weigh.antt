@@ -4,13 +4,13 @@ use mathlib.Core.Logic.{_⊎_, inl, inr, _≢_}
 use Prim.Native.Nat.{ℕ, zero, suc, _+_, _*_, _-_, _≤_, _<_}
 use native.Mathlib.Nat.{mul-suc, suc-mul}
 use mathlib.Core.List.{List, [], _∷_}
-use mathlib.Core.Bool.{Bool, true, false, cond}
+use mathlib.Core.Bool.{Bool, true, false, not, cond}
 use native.Mathlib.Omega.{arith}
 use native.Mathlib.Decide.{ℕ-discrete}
 use lib.Dec.{eqb}
-use borrow.Author.Tests.{ne-eqb}
+use borrow.Author.Tests.{ne-eqb, ltb-false}
 use Rattle.rule_sheet.specs.Closed.{atPoint, Ring, Rings, Closed}
-use Rattle.rule_sheet.specs.Quads.{Quad, quad, num, is, sum, corners, total, at, valence, side}
+use Rattle.rule_sheet.specs.Quads.{Quad, quad, turn, num, is, sum, corners, total, at, valence, side, isEdge}
 use Rattle.rule_sheet.proofs.FirstUse.{is-other}
 use Rattle.rule_sheet.proofs.Sums.{upto-ext, upto}
 use Rattle.rule_sheet.specs.Squared.{sq}
@@ -154,3 +154,21 @@ upto-four n f g a b c d la lb lc ld ab ac ad bc bd cd h =
       upto-ext (mask d (mask c (mask b (mask a f)))) (mask d (mask c (mask b (mask a g)))) n
           (λ v l. mask-ext d (mask c (mask b (mask a f))) (mask c (mask b (mask a g))) v (λ nd. mask-ext c (mask b (mask a f)) (mask b (mask a g)) v (λ nc. mask-ext b (mask a f) (mask a g) v (λ nb. mask-ext a f g v (λ na. h v na nb nc nd))))),
     )
+
+-- ---- a quad read from another corner
+
+-- A quad read from another corner has the same corners.
+pub corners-turn : (f : ℕ → ℕ → ℕ → ℕ) (k : ℕ) (q : Quad) → corners f (turn k q) ≡ corners f q
+corners-turn f zero (quad a b c d) = refl
+corners-turn f (suc k) (quad a b c d) = omega (arith, corners-turn f k (quad b c d a))
+
+pub here : (k : ℕ) (q : Quad) (a b c d : ℕ) → turn k q ≡ quad a b c d → (f : ℕ → ℕ → ℕ → ℕ) → corners f q ≡ corners f (quad a b c d)
+here k q a b c d e f = sym (corners-turn f k q) ∙ ap (corners f) e
+
+-- what is no edge has no side
+pub no-edge : (S : List Quad) (a b : ℕ) → not (isEdge S a b) ≡ true → side S a b + side S b a ≡ 0
+no-edge S a b e = let l = ltb-false 0 (side S a b + side S b a) (go (isEdge S a b) e) in omega arith
+  where
+    go : (b : Bool) → not b ≡ true → b ≡ false
+    go true k = sym k
+    go false k = refl

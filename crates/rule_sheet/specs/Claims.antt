@@ -3,7 +3,7 @@ use Prim.Native.Nat.{ℕ, _+_, _*_, _≤_, _<_}
 use mathlib.Core.Path.{_≡_}
 use mathlib.Core.Logic.{_≢_}
 use mathlib.Core.List.{List, [], _∷_}
-use Rattle.rule_sheet.specs.Quads.{Quad, quad, valence, touches}
+use Rattle.rule_sheet.specs.Quads.{Quad, quad, uses, valence, touches}
 
 -- every corner is a number of the n points
 unfoldable pub Below : ℕ → List Quad → Type 0
@@ -26,3 +26,7 @@ NoClash S labels = (v j : ℕ) → 0 < touches S labels v (2 * j) → touches S 
 unfoldable pub Low : List ℕ → Type 0
 Low [] = Unit {0}
 Low (l ∷ labels) = (l ≤ 7) × Low labels
+
+-- a quad has v for a corner
+abbrev pub Has : Quad → ℕ → Type 0
+Has q v = 0 < uses v q

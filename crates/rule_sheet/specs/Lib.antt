@@ -4,8 +4,10 @@ pub mod Edges
 pub mod Tests
 pub mod Numbers
 pub mod Sheet
+pub mod Lent
 pub mod Places
 pub mod Closed
+pub mod Sound
 pub mod FirstUse
 pub mod Outcomes
 pub mod Results

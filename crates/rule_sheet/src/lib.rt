@@ -14,8 +14,14 @@ pub enum Verdict {
     Refused(u32),
 }
 
-// The answer of an operation that makes a sheet: its counts, or the number of a refusal.
-pub enum Made {
-    Done(Counts),
+// What an operation did: the swaps or merges that it made, 0 of one that makes a sheet, and the counts of its sheet.
+pub struct Tally {
+    pub count: usize,
+    pub sheet: Counts,
+}
+
+// What an operation on a sheet answers.
+pub enum Answer {
+    Done(Tally),
     Refused(u32),
 }

@@ -15,8 +15,8 @@ use Rattle.rule_regularize.specs.Swaps.{swapOne, swapTwo, Fits, swapPass, swapR
 use Rattle.rule_regularize.proofs.Passes.{Bar, Pass, stop, one, two}
 use Rattle.rule_regularize.proofs.SwapPass.{Inv, inv-more, inv-start, Stepped, step-one, step-two}
 use Rattle.rule_regularize.proofs.Sweep.{Barred, pass-made}
-use Rattle.rule_regularize.proofs.Runs.{Ran, run-keeps, capped-small}
-use Rattle.safety_rules.specs.Clean.{Accepted}
+use Rattle.rule_passes.proofs.Runs.{Ran, run-keeps, capped-small}
+use Rattle.rule_sheet.specs.Sound.{AcceptedSheet}
 use Rattle.safety_rules.proofs.Fine.{Fine, fine-of}
 use Rattle.safety_rules.proofs.Caps.{squared-le, product-le}
 
@@ -70,7 +70,7 @@ module _ (n : ℕ) (labels : List ℕ) (m : ℕ) (fits : Fits) where
       go : Ran count next Proper Falls S 0 (run count next k S 0) → Falls S (run count next k S 0 .left) (run count next k S 0 .count)
       go r = (r .kept .0, omega (arith, r .kept .1, ap (λ c. c * m) (r .counts)))
 
-pub uncapped : (s : Sheet) (fits : Fits) (k : ℕ) → Accepted s
+pub uncapped : (s : Sheet) (fits : Fits) (k : ℕ) → AcceptedSheet s
     → capped (swapRun (length (s .points)) (s .labels) 1 fits k (s .quads) .count) ≡ swapRun (length (s .points)) (s .labels) 1 fits k (s .quads) .count
 uncapped s fits k a =
     let f : Fine s = fine-of s a in

@@ -11,11 +11,12 @@ use Rattle.lists.proofs.Laws.{length-tab}
 use Rattle.lists.proofs.Every.{every-at, every-each}
 use Rattle.points.specs.declared.Point.{Point}
 use Rattle.points.specs.Points.{finiteP, pointIn}
-use Rattle.band.specs.declared.Band.{Band}
+use Rattle.setting.specs.Settings.{Setting}
 use Rattle.rule_sheet.specs.Quads.{Quad, all, maskOf}
-use Rattle.rule_sheet.specs.Sheet.{Sheet, isLarge}
+use Rattle.rule_sheet.specs.Sheet.{Sheet}
+use Rattle.rule_sheet.specs.Lent.{isLarge}
 use Rattle.sheet.proofs.Tests.{few-of, all-tab}
-use Rattle.rule_sheet.specs.Results.{countsOf}
+use Rattle.rule_sheet.specs.Sheet.{countsOf}
 use Rattle.rule_finer.specs.Finer.{asked, finer, fourLabels, finerSheet, newPoints, positionOf, made, requests}
 use Rattle.refine.specs.Finer.{finerCount, keyOf}
 use Rattle.refine.proofs.Requests.{asked-made}
@@ -23,11 +24,18 @@ use Rattle.rule_finer.specs.Smoothed.{oldPoint, newPlace, pointOf, smoothSheet}
 use Rattle.rule_finer.specs.Subdivide.{landing, landsAt, projectedSheet}
 use Rattle.projection.specs.Project.{ontoOf}
 use Rattle.projection.proofs.Finite.{onto-finite}
-use Rattle.safety_rules.specs.Clean.{refined}
+use Rattle.safety_rules.specs.Commands.{refined}
 use Rattle.safety_rules.proofs.Numbers.{finer-length}
 use Rattle.safety_rules.proofs.Demand.{Good, Keeps, finer-kept}
 
-module _ (b : Band) (s : Sheet) where
+-- how many points the smoothed sheet has
+pub smooth-count : (s : Sheet) → length (smoothSheet s .points) ≡ finerCount (length (s .points)) (s .quads)
+unfolding smoothSheet finerCount
+smooth-count s =
+    let n = length (s .points) in
+    length-append (tabulate (oldPoint s) n) (map (newPlace s) (asked n (s .quads))) ∙ rw (length-tab (oldPoint s) n, length-map (asked n (s .quads)) (newPlace s))
+
+module _ (b : Setting) (s : Sheet) where
   abbrev n : ℕ
   n = length (s .points)
 
@@ -38,10 +46,6 @@ module _ (b : Band) (s : Sheet) where
   abbrev placed : ℕ → Point
   placed v = ontoOf (landing b (smoothSheet s) v)
 
-  pub smooth-count : length (smoothSheet s .points) ≡ finerCount n S
-  unfolding smoothSheet finerCount
-  smooth-count = length-append (tabulate (oldPoint s) n) (map (newPlace s) (asked n S)) ∙ rw (length-tab (oldPoint s) n, length-map (asked n S) (newPlace s))
-
   finer-count : length (finerSheet s .points) ≡ finerCount n S
   unfolding finerSheet newPoints finerCount
   finer-count =
@@ -50,14 +54,14 @@ module _ (b : Band) (s : Sheet) where
 
   made-is : projectedSheet b (smoothSheet s) ≡ refined s placed
   unfolding projectedSheet smoothSheet finerSheet
-  made-is = ap {B = Sheet} (λ (k : ℕ). record { points = tabulate placed k; quads = finer n S; labels = fourLabels (s .labels) }) smooth-count
+  made-is = ap {B = Sheet} (λ (k : ℕ). record { points = tabulate placed k; quads = finer n S; labels = fourLabels (s .labels) }) (smooth-count s)
 
   made-finite : every (landsAt b (smoothSheet s)) (length (smoothSheet s .points)) ≡ true → all finiteP (refined s placed .points) ≡ true
   unfolding landing
   made-finite e =
       all-tab finiteP placed (finerCount n S)
       ∙ every-each (λ v. finiteP (placed v)) (finerCount n S)
-      (λ v l. onto-finite b (pointOf (smoothSheet s) v) (maskOf (smoothSheet s .quads) (smoothSheet s .labels) v) (every-at (landsAt b (smoothSheet s)) _ v e (omega (arith, smooth-count))))
+      (λ v l. onto-finite b (pointOf (smoothSheet s) v) (maskOf (smoothSheet s .quads) (smoothSheet s .labels) v) (every-at (landsAt b (smoothSheet s)) _ v e (omega (arith, smooth-count s))))
 
   pub made-kept : Good s → isLarge (countsOf (finerSheet s)) ≡ false → every (landsAt b (smoothSheet s)) (length (smoothSheet s .points)) ≡ true → Keeps s (projectedSheet b (smoothSheet s)) 0
   unfolding finerSheet

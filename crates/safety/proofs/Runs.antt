@@ -6,62 +6,48 @@ use mathlib.Core.List.{List, [], _∷_}
 use native.Mathlib.Omega.{arith}
 use borrow.Author.Tests.{lt-ltb}
 use Rattle.numeric.specs.Num.{zeroF}
-use Rattle.band.specs.declared.Band.{Band}
+use Rattle.setting.specs.Settings.{Setting}
 use Rattle.rule_sheet.specs.declared.Counts.{Counts}
-use Rattle.rule_sheet.specs.Quads.{Quad}
 use Rattle.rule_sheet.specs.Flat.{flatQuads}
-use Rattle.rule_sheet.specs.Sheet.{Sheet, flatPoints, isShort}
-use Rattle.rule_sheet.specs.Outcomes.{Outcome}
-use Rattle.rule_sheet.specs.Results as results
-use Rattle.rule_sheet.specs.Results.{countsOf, padded}
+use Rattle.rule_sheet.specs.Sheet.{Sheet, flatPoints, countsOf}
+use Rattle.rule_sheet.specs.Lent.{Lent, Work, Room, held, isShort}
+use Rattle.rule_sheet.specs.Sound.{Sound}
+use Rattle.rule_sheet.specs.Results.{answerOf, made, shown, padded, pointsLeft, quadsLeft, labelsLeft}
 use Rattle.rule_finer.specs.Subdivide.{subdivideRule}
-use Rattle.rule_passes.specs.Runs.{Answer}
-use Rattle.rule_regularize.specs.Rule as regularize
-use Rattle.safety_rules.specs.Clean.{Sound}
+use Rattle.rule_regularize.specs.Rule.{regularizeRule, improveRule}
+use Rattle.rule_coarsen.specs.Rule.{coarsenRule}
 use Rattle.safety_rules.proofs.Stars.{cubeSheet, cube-sound}
-use Rattle.rule_coarsen.specs.Rule as coarsen
-use Rattle.safety.specs.Calls.{Lent, held, holds, Call, regularizeCall, improveCall, coarsenCall, subdivideCall, Contract, lent, left, next, Run, Demand3}
+use Rattle.safety.specs.Calls.{holds, Call, regularizeCall, improveCall, coarsenCall, subdivideCall, Contract, lent, left, next, Run, Demand3}
 use Rattle.safety.proofs.Slices.{held-padded}
 use Rattle.safety.proofs.Calls.{untouched, demand3}
 
 -- what a caller brings to a call beside the sheet
 pub data Ask : Type 0 where
-  regularizeAsk : (b : Band) (passes w f : ℕ) → Ask
-  improveAsk : (b : Band) (passes w f : ℕ) → Ask
-  coarsenAsk : (b : Band) (passes w f : ℕ) → Ask
-  subdivideAsk : (b : Band) (w f p q l : ℕ) → Ask
-
--- the outcomes of its call on the slices x
-abbrev swapped : ℕ → Band → ℕ → Lent → ℕ → ℕ → Outcome (Answer (List Quad))
-swapped m b k x w f = regularize.cleanRule m b k (x .counts) (x .points) (x .quads) (x .labels) w f
-
-abbrev merged : Band → ℕ → Lent → ℕ → ℕ → Outcome (Answer Sheet)
-merged b k x w f = coarsen.coarsenRule b k (x .counts) (x .points) (x .quads) (x .labels) w f
-
-abbrev made : Band → Lent → ℕ → ℕ → ℕ → ℕ → ℕ → Outcome Sheet
-made b x w f p q l = subdivideRule b (x .counts) (x .points) (x .quads) (x .labels) w f p q l
+  regularizeAsk : (s : Setting) (passes : ℕ) (w : Work) → Ask
+  improveAsk : (s : Setting) (passes : ℕ) (w : Work) → Ask
+  coarsenAsk : (s : Setting) (passes : ℕ) (w : Work) → Ask
+  subdivideAsk : (s : Setting) (w : Work) (room : Room) → Ask
 
 -- the call with its answer
 abbrev pub answered : Lent → Ask → Call
-answered x (regularizeAsk b k w f) = let o = swapped 1 b k x w f in regularizeCall b k x w f (regularize.answerOf o) (regularize.quadsLeft o (x .quads))
-answered x (improveAsk b k w f) = let o = swapped 0 b k x w f in improveCall b k x w f (regularize.answerOf o) (regularize.quadsLeft o (x .quads))
-answered x (coarsenAsk b k w f) =
-    let o = merged b k x w f in coarsenCall b k x w f (coarsen.answerOf o) (coarsen.pointsLeft o (x .points)) (coarsen.quadsLeft o (x .quads)) (coarsen.labelsLeft o (x .labels))
-answered x (subdivideAsk b w f p q l) =
-    let o = made b x w f p q l in
-    subdivideCall b x w f p q l (results.answerOf o) (padded zeroF p (flatPoints (results.shown o .points))) (padded 0 q (flatQuads (results.shown o .quads))) (padded 0 l (results.shown o .labels))
+answered x (regularizeAsk s k w) = let o = regularizeRule s k x w in regularizeCall s k x w (answerOf o) (quadsLeft o (x .quads))
+answered x (improveAsk s k w) = let o = improveRule s k x w in improveCall s k x w (answerOf o) (quadsLeft o (x .quads))
+answered x (coarsenAsk s k w) = let o = coarsenRule s k x w in coarsenCall s k x w (answerOf o) (pointsLeft o (x .points)) (quadsLeft o (x .quads)) (labelsLeft o (x .labels))
+answered x (subdivideAsk s w room) =
+    let o = subdivideRule s x w room in
+    subdivideCall s x w room (answerOf (made o)) (padded zeroF (room .points) (flatPoints (shown o .points))) (padded 0 (room .quads) (flatQuads (shown o .quads))) (padded 0 (room .labels) (shown o .labels))
 
 answered-lent : (x : Lent) (a : Ask) → lent (answered x a) ≡ x
-answered-lent x (regularizeAsk b k w f) = refl
-answered-lent x (improveAsk b k w f) = refl
-answered-lent x (coarsenAsk b k w f) = refl
-answered-lent x (subdivideAsk b w f p q l) = refl
+answered-lent x (regularizeAsk s k w) = refl
+answered-lent x (improveAsk s k w) = refl
+answered-lent x (coarsenAsk s k w) = refl
+answered-lent x (subdivideAsk s w room) = refl
 
 answered-meets : (x : Lent) (a : Ask) → Contract (answered x a)
-answered-meets x (regularizeAsk b k w f) = record { answer = refl; quads = refl }
-answered-meets x (improveAsk b k w f) = record { answer = refl; quads = refl }
-answered-meets x (coarsenAsk b k w f) = record { answer = refl; points = refl; quads = refl; labelled = refl }
-answered-meets x (subdivideAsk b w f p q l) = record { answer = refl; points = refl; quads = refl; labelled = refl }
+answered-meets x (regularizeAsk s k w) = record { answer = refl; quads = refl }
+answered-meets x (improveAsk s k w) = record { answer = refl; quads = refl }
+answered-meets x (coarsenAsk s k w) = record { answer = refl; points = refl; quads = refl; labelled = refl }
+answered-meets x (subdivideAsk s w room) = record { answer = refl; points = refl; quads = refl; labelled = refl }
 
 -- a turn of the caller: a call on the slices where the sheet stands, or on slices too short for their counts
 pub data Turn : Type 0 where

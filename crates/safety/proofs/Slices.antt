@@ -9,7 +9,8 @@ use Rattle.numeric.specs.Num.{zeroF}
 use Rattle.rule_sheet.specs.Quads.{Quad}
 use Rattle.rule_sheet.specs.Flat.{quadsOf, flatQuads}
 use Rattle.rule_sheet.specs.Sheet.{Sheet, sheetOf, flatPoints}
-use Rattle.rule_sheet.specs.Results.{padded, countsOf}
+use Rattle.rule_sheet.specs.Results.{padded}
+use Rattle.rule_sheet.specs.Sheet.{countsOf}
 use Rattle.sheet.specs.Results.{Front}
 use Rattle.sheet.proofs.Fronts.{points-front, quads-front}
 

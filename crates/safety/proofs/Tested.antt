@@ -1,70 +1,74 @@
 -- An accepted call of `regularize` was lent an accepted sheet, and its answer is the number of its swaps. Assumes nothing.
 use Prim.Native.Nat.{ℕ}
-use mathlib.Core.Bool.{true}
-use mathlib.Core.Path.{_≡_, refl, _∙_}
+use mathlib.Core.Path.{_≡_, refl, ap, _∙_}
+use mathlib.Core.Bool.{false}
 use mathlib.Core.List.{List}
 use native.Mathlib.Omega.{arith}
 use lib.ListN.{length}
 use lib.Seq.{length-take-le}
 use borrow.Author.Tests.{le-ltb}
-use Rattle.band.specs.declared.Band.{Band}
-use Rattle.band.specs.Bands.{validOf}
+use Rattle.setting.specs.Settings.{Setting}
+use Rattle.rule_sheet.specs.declared.Counts.{Counts}
+use Rattle.rule_sheet.specs.declared.Tally.{Tally}
 use Rattle.rule_sheet.specs.declared.Verdict.{Verdict}
 use Rattle.rule_sheet.specs.declared.Verdict.the-variants.{Accepted, Refused}
-use Rattle.rule_sheet.specs.Sheet.{Sheet, limit, isLarge, lentVerdict, sheetVerdict}
-use Rattle.sheet.proofs.Flat.{length-quads}
-use Rattle.sheet.proofs.Tests.{lent-is, length-points, tested, tests-accept}
+use Rattle.rule_sheet.specs.declared.Answer.the-variants.{Done}
+use Rattle.rule_sheet.specs.Sheet.{Sheet, sheetVerdict, countsOf}
+use Rattle.rule_sheet.specs.Lent.{Lent, Work, held, limit, isLarge}
+use Rattle.rule_sheet.specs.Sound.{AcceptedSheet}
 use Rattle.rule_sheet.specs.Outcomes.{gives, afterTest}
+use Rattle.rule_sheet.specs.Results.{AltersQuads}
+use Rattle.rule_admission.specs.Admission.{settingVerdict, admits}
+use Rattle.sheet.specs.Sheet.{Few, LentSheet}
+use Rattle.sheet.proofs.Flat.{length-quads}
+use Rattle.sheet.proofs.Tests.{length-points, tested, tests-accept}
+use Rattle.admission.proofs.Admitted.{Admitted, admitted}
+use Rattle.rule_regularize.specs.Swaps.{swapRun}
 use Rattle.rule_regularize.specs.SwapFits.{swapFits}
-use Rattle.rule_regularize.specs.declared.Cleaned.the-variants as cleaned
-use Rattle.rule_regularize.specs.Rule.{Leaves, swapSheet, cleanRule}
-use Rattle.safety_rules.specs.Clean as closed
-use Rattle.safety.specs.Calls.{Lent, held, Contract, regularizeCall}
+use Rattle.rule_regularize.specs.Rule.{swapSheet, swapRule}
+use Rattle.safety.specs.Calls.{Contract, regularizeCall}
 use Rattle.safety.proofs.Caps.{uncapped}
 
--- 12 and 13
-abbrev pub lengthsVerdict : Lent → ℕ → ℕ → Verdict
-lengthsVerdict x w f = lentVerdict (x .counts) (length (x .points)) (length (x .quads)) (length (x .labels)) w f
+-- what 5, 6 and 7 accept passes their tests
+pub passes : (s : Sheet) → AcceptedSheet s → sheetVerdict s ≡ Accepted
+passes s a = tests-accept s (record { not-bare = a .not-bare; corners = a .corners; masks = a .masks })
 
--- what 5, 6 and 7 accept passes the tests with a valid band
-pub passes : (b : Band) (s : Sheet) → validOf b ≡ true → closed.Accepted s → sheetVerdict b s ≡ Accepted
-passes b s v a = tests-accept b s (record { valid = v; not-bare = a .not-bare; corners = a .corners; masks = a .masks })
+-- the counts of the sheet that slices hold
+pub counts-held : (x : Lent) → LentSheet (x .counts) (length (x .points)) (length (x .quads)) (length (x .labels)) → countsOf (held x) ≡ x .counts
+counts-held x L = rw (length-points (x .counts .points) (x .points), length-quads (x .counts .quads) (x .quads), length-take-le (x .counts .labels) (x .labels) (L .labels))
 
-module _ (b : Band) (k : ℕ) (x : Lent) (w f n : ℕ) (Q : List ℕ) (C : Contract (regularizeCall b k x w f (cleaned.Done n) Q)) where
+few-large : {c : Counts} → Few c → isLarge c ≡ false
+unfolding isLarge
+few-large {c} f = rw (le-ltb limit (c .points) (f .points≤), le-ltb limit (c .quads) (f .quads≤), le-ltb limit (c .labels) (f .labels≤))
+
+module _ (s : Setting) (k : ℕ) (x : Lent) (w : Work) (t : Tally) (Q : List ℕ) (C : Contract (regularizeCall s k x w (Done t) Q)) where
   -- the call passed its tests
-  pub done-tested : (lengthsVerdict x w f ≡ Accepted) × (sheetVerdict b (held x) ≡ Accepted)
-  unfolding cleanRule
-  done-tested = go _ refl _ refl C
+  pub done-tested : admits s x w ≡ Accepted
+  unfolding swapRule
+  done-tested = go _ refl C
     where
-      go : (u : Verdict) → lengthsVerdict x w f ≡ u → (v : Verdict) → sheetVerdict b (held x) ≡ v → Leaves (afterTest u (afterTest v (gives (swapSheet 1 b k (held x))))) (x .quads) (cleaned.Done n) Q
-          → (lengthsVerdict x w f ≡ Accepted) × (sheetVerdict b (held x) ≡ Accepted)
-      go (Refused i) eu v ev L = absurd (let z : _≡_ {A = ℕ} 0 1 = cc (L .answer) in omega arith)
-      go Accepted eu (Refused i) ev L = absurd (let z : _≡_ {A = ℕ} 0 1 = cc (L .answer) in omega arith)
-      go Accepted eu Accepted ev L = (eu, ev)
+      go : (u : Verdict) → admits s x w ≡ u → AltersQuads (afterTest u (gives (swapSheet 1 s k (held x)))) x (Done t) Q → admits s x w ≡ Accepted
+      go (Refused i) e L = absurd (let z : _≡_ {A = ℕ} 0 1 = cc (L .answer) in omega arith)
+      go Accepted e L = e
 
-  done-accepted : closed.Accepted (held x)
-  unfolding isLarge
+  abbrev pub done-admitted : Admitted (settingVerdict s) x w
+  done-admitted = admitted (settingVerdict s) x w done-tested
+
+  done-accepted : AcceptedSheet (held x)
   done-accepted =
-      let T = tested b (held x) (done-tested .1) in
-      let L = lent-is (x .counts) (length (x .points)) (length (x .quads)) (length (x .labels)) w f (done-tested .0) .0 in
+      let A = done-admitted in
+      let T = tested (held x) (A .accepted) in
       record {
-        not-large = rw (
-          length-points (x .counts .points) (x .points),
-          length-quads (x .counts .quads) (x .quads),
-          length-take-le (x .counts .labels) (x .labels) (L .labels),
-          le-ltb limit (x .counts .points) (L .few .points≤),
-          le-ltb limit (x .counts .quads) (L .few .quads≤),
-          le-ltb limit (x .counts .labels) (L .few .labels≤),
-        );
+        not-large = ap isLarge (counts-held x (A .sheet)) ∙ few-large (A .sheet .few);
         not-bare = T .not-bare;
         corners = T .corners;
         masks = T .masks;
       }
 
   -- "Regularize's count is the swaps made in all its passes", on every accepted sheet
-  pub done-count : n ≡ swapSheet 1 b k (held x) .count
-  unfolding cleanRule
+  pub done-count : t .count ≡ swapRun (length (held x .points)) (held x .labels) 1 (swapFits s (held x .points) (held x .labels)) k (held x .quads) .count
+  unfolding swapRule
   done-count =
-      let A : Leaves (gives (swapSheet 1 b k (held x))) (x .quads) (cleaned.Done n) Q = rw (done-tested .0, done-tested .1) at C in
-      let e : cleaned.Done n ≡ cleaned.Done (swapSheet 1 b k (held x) .count) = A .answer ∙ rw (uncapped (held x) (swapFits b (held x .points) (held x .labels)) k done-accepted) in
-      cc
+      let A : AltersQuads (gives (swapSheet 1 s k (held x))) x (Done t) Q = rw done-tested at C in
+      let e : t .count ≡ swapSheet 1 s k (held x) .count = cc (A .answer) in
+      e ∙ uncapped (held x) (swapFits s (held x .points) (held x .labels)) k done-accepted

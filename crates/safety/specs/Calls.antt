@@ -7,101 +7,84 @@ use mathlib.Core.Path.{_≡_}
 use mathlib.Core.List.{List, [], _∷_}
 use lib.ListN.{length}
 use lib.Ieee.{Float}
-use Rattle.band.specs.declared.Band.{Band}
+use Rattle.setting.specs.Settings.{Setting}
 use Rattle.rule_sheet.specs.declared.Counts.{Counts}
+use Rattle.rule_sheet.specs.declared.Tally.{Tally}
+use Rattle.rule_sheet.specs.declared.Answer.{Answer}
+use Rattle.rule_sheet.specs.declared.Answer.the-variants.{Done, Refused}
 use Rattle.rule_sheet.specs.Quads.{maskOf}
-use Rattle.rule_sheet.specs.Sheet.{Sheet, sheetOf, isShort}
-use Rattle.rule_sheet.specs.declared.Made.{Made}
-use Rattle.rule_sheet.specs.declared.Made.the-variants as made
-use Rattle.rule_sheet.specs.Results as results
+use Rattle.rule_sheet.specs.Sheet.{Sheet}
+use Rattle.rule_sheet.specs.Lent.{Lent, Work, Room, lentOf, held, roomIn, isShort}
+use Rattle.rule_sheet.specs.Sound.{Sound, SameEuler, squaredOf}
+use Rattle.rule_sheet.specs.Results.{Makes, Alters, AltersQuads}
 use Rattle.rule_finer.specs.Subdivide.{subdivideRule}
 use Rattle.rule_regularize.specs.Swaps.{NoSwap}
 use Rattle.rule_regularize.specs.SwapFits.{swapFits}
-use Rattle.rule_regularize.specs.declared.Cleaned.{Cleaned}
-use Rattle.rule_regularize.specs.declared.Cleaned.the-variants as cleaned
-use Rattle.rule_regularize.specs.Rule as regularize
-use Rattle.safety_rules.specs.Clean.{Sound, SameEuler, squaredOf}
-use Rattle.rule_coarsen.specs.declared.Coarsened.{Coarsened}
-use Rattle.rule_coarsen.specs.declared.Coarsened.the-variants as coarsened
-use Rattle.rule_coarsen.specs.Rule as coarsen
+use Rattle.rule_regularize.specs.Rule.{regularizeRule, improveRule}
+use Rattle.rule_coarsen.specs.Rule.{coarsenRule}
 
 -- ---- one call
 
--- a sheet in lent slices, by its counts
-pub record Lent : Type 0 where
-  pub counts : Counts
-  pub points : List Float
-  pub quads : List ℕ
-  pub labels : List ℕ
-
--- the sheet that they hold
-abbrev pub held : Lent → Sheet
-held x = sheetOf (x .counts) (x .points) (x .quads) (x .labels)
-
 -- the slices hold as much as the counts say: where they do not, 13 refuses, or 12 before it
 abbrev pub holds : Lent → Bool
-holds x = not (isShort (x .counts) (length (x .points)) (length (x .quads)) (length (x .labels)))
+holds x = not (isShort (x .counts) (roomIn x))
 
--- A call that was made: its band b ("each call may bring its own field and band") and passes, the sheet x that it
--- was lent, work slices of w and f elements, its answer r, and at its end the slices that it may write; those of
--- `subdivide` are result slices of p, q and l elements.
+-- A call that was made: what it brought ("each call may bring its own field and band") and its passes, the sheet x that
+-- it was lent, its work slices w, its answer r, and at its end the slices that it may write; those of `subdivide` are
+-- result slices.
 pub data Call : Type 0 where
-  regularizeCall : (b : Band) (passes : ℕ) (x : Lent) (w f : ℕ) (r : Cleaned) (quads : List ℕ) → Call
-  improveCall : (b : Band) (passes : ℕ) (x : Lent) (w f : ℕ) (r : Cleaned) (quads : List ℕ) → Call
-  coarsenCall : (b : Band) (passes : ℕ) (x : Lent) (w f : ℕ) (r : Coarsened) (points : List Float)
+  regularizeCall : (s : Setting) (passes : ℕ) (x : Lent) (w : Work) (r : Answer) (quads : List ℕ) → Call
+  improveCall : (s : Setting) (passes : ℕ) (x : Lent) (w : Work) (r : Answer) (quads : List ℕ) → Call
+  coarsenCall : (s : Setting) (passes : ℕ) (x : Lent) (w : Work) (r : Answer) (points : List Float)
       (quads labels : List ℕ) → Call
-  subdivideCall : (b : Band) (x : Lent) (w f p q l : ℕ) (r : Made) (points : List Float) (quads labels : List ℕ) → Call
+  subdivideCall : (s : Setting) (x : Lent) (w : Work) (room : Room) (r : Answer) (points : List Float)
+      (quads labels : List ℕ) → Call
 
 -- all that is known of a call: the contract of its operation, as the function states it
 abbrev pub Contract : Call → Type 0
-Contract (regularizeCall b k x w f r Q) =
-    regularize.Leaves (regularize.regularizeRule b k (x .counts) (x .points) (x .quads) (x .labels) w f) (x .quads) r Q
-Contract (improveCall b k x w f r Q) =
-    regularize.Leaves (regularize.improveRule b k (x .counts) (x .points) (x .quads) (x .labels) w f) (x .quads) r Q
-Contract (coarsenCall b k x w f r P Q L) =
-    coarsen.Leaves (coarsen.coarsenRule b k (x .counts) (x .points) (x .quads) (x .labels) w f) (x .points) (x .quads)
-    (x .labels) r P Q L
-Contract (subdivideCall b x w f p q l r P Q L) =
-    results.Leaves (subdivideRule b (x .counts) (x .points) (x .quads) (x .labels) w f p q l) p q l r P Q L
+Contract (regularizeCall s k x w r Q) = AltersQuads (regularizeRule s k x w) x r Q
+Contract (improveCall s k x w r Q) = AltersQuads (improveRule s k x w) x r Q
+Contract (coarsenCall s k x w r P Q L) = Alters (coarsenRule s k x w) x r P Q L
+Contract (subdivideCall s x w room r P Q L) = Makes (subdivideRule s x w room) room r P Q L
 
 -- the sheet that a call was lent
 abbrev pub lent : Call → Lent
-lent (regularizeCall b k x w f r Q) = x
-lent (improveCall b k x w f r Q) = x
-lent (coarsenCall b k x w f r P Q L) = x
-lent (subdivideCall b x w f p q l r P Q L) = x
+lent (regularizeCall s k x w r Q) = x
+lent (improveCall s k x w r Q) = x
+lent (coarsenCall s k x w r P Q L) = x
+lent (subdivideCall s x w room r P Q L) = x
 
 -- `regularize` and `improve_layout` leave other quads in the slice
-abbrev pub withQuads : Lent → List ℕ → Lent
-withQuads x Q = record { counts = x .counts; points = x .points; quads = Q; labels = x .labels }
+abbrev pub lentQuads : Lent → List ℕ → Lent
+lentQuads x Q = lentOf (x .counts) (x .points) Q (x .labels)
 
 -- `coarsen` answers the counts of the sheet that it leaves
-abbrev pub mergedCounts : Coarsened → Counts → Counts
-mergedCounts (coarsened.Done m) c = m .sheet
-mergedCounts (coarsened.Refused n) c = c
+abbrev pub countsOr : Answer → Counts → Counts
+countsOr (Done t) c = t .sheet
+countsOr (Refused n) c = c
 
 -- "the result of an accepted `subdivide` is the sheet of the next call, after a refusal the sheet before it"
-abbrev pub resultOr : Made → Lent → List Float → List ℕ → List ℕ → Lent
-resultOr (made.Done c) x P Q L = record { counts = c; points = P; quads = Q; labels = L }
-resultOr (made.Refused n) x P Q L = x
+abbrev pub resultOr : Answer → Lent → List Float → List ℕ → List ℕ → Lent
+resultOr (Done t) x P Q L = lentOf (t .sheet) P Q L
+resultOr (Refused n) x P Q L = x
 
 -- the sheet that a call left
 abbrev pub left : Call → Lent
-left (regularizeCall b k x w f r Q) = withQuads x Q
-left (improveCall b k x w f r Q) = withQuads x Q
-left (coarsenCall b k x w f r P Q L) = record { counts = mergedCounts r (x .counts); points = P; quads = Q; labels = L }
-left (subdivideCall b x w f p q l r P Q L) = resultOr r x P Q L
+left (regularizeCall s k x w r Q) = lentQuads x Q
+left (improveCall s k x w r Q) = lentQuads x Q
+left (coarsenCall s k x w r P Q L) = lentOf (countsOr r (x .counts)) P Q L
+left (subdivideCall s x w room r P Q L) = resultOr r x P Q L
 
 -- "Regularize's count is the swaps made in all its passes; a refused call adds 0."
-abbrev pub countIn : Cleaned → ℕ
-countIn (cleaned.Done n) = n
-countIn (cleaned.Refused n) = 0
+abbrev pub countIn : Answer → ℕ
+countIn (Done t) = t .count
+countIn (Refused n) = 0
 
 abbrev pub swapsIn : Call → ℕ
-swapsIn (regularizeCall b k x w f r Q) = countIn r
-swapsIn (improveCall b k x w f r Q) = 0
-swapsIn (coarsenCall b k x w f r P Q L) = 0
-swapsIn (subdivideCall b x w f p q l r P Q L) = 0
+swapsIn (regularizeCall s k x w r Q) = countIn r
+swapsIn (improveCall s k x w r Q) = 0
+swapsIn (coarsenCall s k x w r P Q L) = 0
+swapsIn (subdivideCall s x w room r P Q L) = 0
 
 -- ---- a list of calls
 
@@ -138,8 +121,8 @@ abbrev pub Touches : Sheet → ℕ → ℕ → Type 0
 Touches s v l = maskOf (s .quads) (s .labels) v / 2 ^ l % 2 ≡ 1
 
 -- no point touches both levels, labels 0 and 1, or two opposite faces, 2 and 3, 4 and 5, or 6 and 7
-unfoldable pub Apart : Sheet → Type 0
-Apart s = (v j : ℕ) → j < 4 → Touches s v (2 * j) → Touches s v (2 * j + 1) → ⊥
+unfoldable pub SkinsApart : Sheet → Type 0
+SkinsApart s = (v j : ℕ) → j < 4 → Touches s v (2 * j) → Touches s v (2 * j + 1) → ⊥
 
 -- each call that was lent slices too short for their counts left them as they came, and made no swap: "A sheet
 -- altered in its own slices stays unchanged", "a refused call adds 0"
@@ -150,18 +133,18 @@ Untouched (c ∷ cs) = (holds (lent c) ≡ false → (left c ≡ lent c) × (swa
 -- "No swap is left if, on the sheet left with nothing barred, no edge meets regularize's rule with what that call
 -- brought: the same call once more counts 0 and changes nothing."
 -- x is what the call left.
-pub record NoneLeft (b : Band) (k : ℕ) (x : Lent) (w f : ℕ) : Type 0 where
-  pub no-swap : NoSwap (length (held x .points)) (held x .labels) 1 (swapFits b (held x .points) (held x .labels))
+pub record NoneLeft (s : Setting) (k : ℕ) (x : Lent) (w : Work) : Type 0 where
+  pub no-swap : NoSwap (length (held x .points)) (held x .labels) 1 (swapFits s (held x .points) (held x .labels))
       (held x .quads)
-  pub again : (r : Cleaned) (Q : List ℕ) → Contract (regularizeCall b k x w f r Q) → (r ≡ cleaned.Done 0)
-      × (Q ≡ x .quads)
+  pub again : (r : Answer) (Q : List ℕ) → Contract (regularizeCall s k x w r Q)
+      → (r ≡ Done (record { count = 0; sheet = x .counts })) × (Q ≡ x .quads)
 
 -- demand 3 of a list of calls from the sheet s on
 pub record Demand3 (s : Sheet) (cs : List Call) : Type 0 where
   -- the sheet after it is what s was: accepted, closed, and at each point one ring
   pub sound : Sound (after s cs)
   -- and no level or face is joined to its opposite
-  pub apart : Apart (after s cs)
+  pub apart : SkinsApart (after s cs)
   -- points minus edges plus quads is kept
   pub euler : SameEuler s (after s cs)
   -- the sum of (quads at a point minus 4) squared never rises, and falls by 2 for each swap of `regularize`
@@ -169,5 +152,5 @@ pub record Demand3 (s : Sheet) (cs : List Call) : Type 0 where
   -- a call that was lent slices too short for their counts leaves them as they came
   pub short : Untouched cs
   -- one more call, an accepted `regularize` with more passes than half that sum, leaves no swap
-  pub last : (b : Band) (k : ℕ) (x : Lent) (w f n : ℕ) (Q : List ℕ) → held x ≡ after s cs → squaredOf (held x) < 2 * k
-      → Contract (regularizeCall b k x w f (cleaned.Done n) Q) → NoneLeft b k (withQuads x Q) w f
+  pub last : (v : Setting) (k : ℕ) (x : Lent) (w : Work) (t : Tally) (Q : List ℕ) → held x ≡ after s cs
+      → squaredOf (held x) < 2 * k → Contract (regularizeCall v k x w (Done t) Q) → NoneLeft v k (lentQuads x Q) w

@@ -6,7 +6,7 @@ use native.Mathlib.Omega.{arith}
 use lib.ListN.{length}
 use Rattle.lists.specs.Sort.{itself}
 use Rattle.rule_sheet.specs.Quads.{Quad, valence}
-use Rattle.rule_sheet.specs.Sheet.{limit}
+use Rattle.rule_sheet.specs.Lent.{limit}
 use Rattle.rule_sheet.proofs.Sums.{upto, sum-tab}
 use Rattle.rule_sheet.specs.Squared.{sq, squared}
 use Rattle.rule_sheet.specs.Claims.{Differ, All}

@@ -13,7 +13,8 @@ use Rattle.lists.proofs.Laws.{length-tab}
 use Rattle.points.specs.declared.Point.{Point}
 use Rattle.points.specs.Points.{finiteP, origin}
 use Rattle.rule_sheet.specs.Quads.{Quad, all, uses, valence, touches}
-use Rattle.rule_sheet.specs.Sheet.{Sheet, limit}
+use Rattle.rule_sheet.specs.Sheet.{Sheet}
+use Rattle.rule_sheet.specs.Lent.{limit}
 use Rattle.rule_sheet.specs.Closed.{Rings}
 use Rattle.rule_sheet.proofs.Sums.{upto, upto-ext, sum-tab}
 use Rattle.rule_finer.specs.Finer.{fourLabels, finer}
@@ -28,7 +29,7 @@ use Rattle.rule_sheet.proofs.Labels.{label-sum-map}
 use Rattle.rule_regularize.proofs.Passes.{Pass}
 use Rattle.rule_regularize.proofs.SwapPass.{pass-kept, inv-start}
 use Rattle.rule_regularize.proofs.Sweep.{Barred, pass-made, pass-none}
-use Rattle.rule_regularize.proofs.Runs.{Ran, run-keeps, run-ends, run-again}
+use Rattle.rule_passes.proofs.Runs.{Ran, run-keeps, run-ends, run-again}
 use Rattle.rule_coarsen.specs.Merges.{Slot, out, slot, live, liveLabels, order, renumber, gathered}
 use Rattle.rule_coarsen.specs.Coarse.{MergeFits, Position, mergePass, compact, nextSheet, coarseRun}
 use Rattle.rule_coarsen.proofs.Joins.{sqUsed, squaredUsed, inUse, Merges}
@@ -38,7 +39,9 @@ use Rattle.rule_coarsen.proofs.Renumber.{renumber-rings, renumber-proper, renum
 use Rattle.rule_coarsen.proofs.Visits.{pass-merges}
 use Rattle.rule_coarsen.proofs.Points.{all-gathered, pass-placed}
 use Rattle.rule_coarsen.proofs.Slots.{slot-at, inv-fresh}
-use Rattle.safety_rules.specs.Clean.{SameEuler, squaredOf, withQuads, refined}
+use Rattle.safety_rules.specs.Commands.{refined}
+use Rattle.rule_sheet.specs.Sheet.{withQuads}
+use Rattle.rule_sheet.specs.Sound.{SameEuler, squaredOf}
 use Rattle.safety_rules.proofs.Finer.{all-at}
 use Rattle.safety_rules.proofs.Numbers.{finer-rings, finer-below, finer-used, finer-squared, finer-more, finer-proper, finer-length, finer-clash}
 use Rattle.safety_rules.proofs.Edges.{edges-closed}
@@ -84,7 +87,7 @@ pub one-pass : (m : ℕ) (s : Sheet) (S : List Quad) (B : ℕ → Type 0) (c : �
 one-pass m s S B c p a =
     go (pass-kept (s .quads) (s .labels) m (length (s .points)) (s .quads) B S c p (inv-start (s .quads) B) (a .fine .labelled) (a .fine .no-clash) (a .fine .differ) (a .rings) (a .fine .in-range))
   where
-    go : SwapPass.Kept (s .labels) (length (s .points)) (2 * (c * m)) (s .quads) S → Swapped s S (2 * (c * m))
+    go : SwapPass.SwapsKeep (s .labels) (length (s .points)) (2 * (c * m)) (s .quads) S → Swapped s S (2 * (c * m))
     go k = record {
       good = record {
         fine = record {

@@ -13,17 +13,18 @@ use Rattle.lists.proofs.Every.{and-left, and-right, every-at, every-each}
 use Rattle.points.specs.Points.{finiteP}
 use Rattle.rule_sheet.specs.Quads.{Quad, quad, num, all, at, uses, valence, touches, packTo, pack, hasLabel, maskOf}
 use Rattle.rule_sheet.specs.Tests.{inRange, distinct, proper, lowLabel, goodCorners, goodMask, goodPoint, goodMasks}
-use Rattle.rule_sheet.specs.Sheet.{Sheet, limit, isLarge}
+use Rattle.rule_sheet.specs.Sheet.{Sheet}
+use Rattle.rule_sheet.specs.Lent.{limit, isLarge}
 use Rattle.sheet.proofs.Masks.{below8, bit-pack, clash-0, clash-1, clash-2, clash-3}
 use Rattle.sheet.proofs.Tests.{few-of, lows-of, proper-of, whole-of, bare-finite}
-use Rattle.rule_sheet.specs.Results.{countsOf}
+use Rattle.rule_sheet.specs.Sheet.{countsOf}
 use Rattle.rule_sheet.specs.Claims.{Below, Differ, All, NoClash, Low}
 use Rattle.rule_sheet.proofs.Weigh.{at-same, at-diff}
 use Rattle.rule_sheet.proofs.Rings.{zero-or}
-use Rattle.rule_regularize.proofs.Sweep.{not-false}
+use Rattle.rule_passes.proofs.Choices.{not-false}
 use Rattle.rule_regularize.proofs.Tests.{low-of, apart, differ-of}
 use Rattle.rule_coarsen.proofs.Visits.{high-none}
-use Rattle.safety_rules.specs.Clean.{Accepted}
+use Rattle.rule_sheet.specs.Sound.{AcceptedSheet}
 use Rattle.safety_rules.proofs.Finer.{label-sum-sum}
 
 -- an accepted sheet
@@ -262,7 +263,7 @@ module _ (n : ℕ) (S : List Quad) (labels : List ℕ) where
 
 -- ---- the sheet
 
-pub fine-of : (s : Sheet) → Accepted s → Fine s
+pub fine-of : (s : Sheet) → AcceptedSheet s → Fine s
 fine-of s a =
     let few = few-of (countsOf s) (a .not-large) in
     let whole = whole-of s (a .not-bare) in
@@ -284,7 +285,7 @@ fine-of s a =
 pub passing : (s : Sheet) → Fine s → Passing (length (s .points)) (s .quads) (s .labels)
 passing s f = record { labelled = f .labelled; labels-low = f .labels-low; in-range = f .in-range; differ = f .differ; in-use = f .in-use; no-clash = f .no-clash }
 
-pub accepted-of : (s : Sheet) → Fine s → Accepted s
+pub accepted-of : (s : Sheet) → Fine s → AcceptedSheet s
 unfolding isLarge Below
 accepted-of s f =
     let p = passing-good (length (s .points)) (s .quads) (s .labels) (passing s f) in

@@ -21,8 +21,8 @@ use Rattle.rule_sheet.specs.Claims.{Below, Differ, All, NoClash}
 use Rattle.rule_passes.specs.Choices.{noneQuad}
 use Rattle.rule_sheet.proofs.Base.{eqb-self, is-self, pos-split, cyc-from, cyc-to}
 use Rattle.rule_sheet.proofs.Rings.{zero-or, renamed, ring-same}
-use Rattle.rule_regularize.proofs.Swap.{sum-at}
-use Rattle.rule_regularize.proofs.SwapPass.{is-pos}
+use Rattle.rule_sheet.proofs.Sums.{sum-at}
+use Rattle.rule_sheet.proofs.FirstUse.{is-pos}
 use Rattle.rule_sheet.proofs.Weigh.{at-same, at-diff, is-le, is-sym, side-at-end, rings-closed, at-point-le}
 use Rattle.rule_coarsen.proofs.OneMerge.{total-zero}
 use Rattle.rule_coarsen.proofs.MergePass.{sum-zero, no-loop}

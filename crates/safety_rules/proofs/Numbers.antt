@@ -16,10 +16,10 @@ use Rattle.refine.specs.Finer.{finerCount}
 use Rattle.rule_sheet.specs.Squared.{squared}
 use Rattle.rule_sheet.specs.Claims.{Below, Differ, All, NoClash}
 use Rattle.rule_sheet.proofs.Base.{is-self, pos-split}
-use Rattle.rule_regularize.proofs.Swap.{sum-at}
-use Rattle.rule_regularize.proofs.SwapPass.{is-pos}
+use Rattle.rule_sheet.proofs.Sums.{sum-at}
+use Rattle.rule_sheet.proofs.FirstUse.{is-pos}
 use Rattle.rule_sheet.proofs.Weigh.{is-le, side-at-end, at-point-le}
-use Rattle.rule_coarsen.proofs.Renumber.{Apart, firsts-apart, firsts-some, at-place}
+use Rattle.rule_coarsen.proofs.Renumber.{OnceEach, firsts-apart, firsts-some, at-place}
 use Rattle.safety_rules.proofs.Finer.{alongQuad, sidesOf, along-hit, Side4, which, side-one, split-below, split-rings, split-used, split-squared, split-points, split-proper, split-length, split-clash}
 
 -- a pair of numbers below n is known by its key
@@ -124,8 +124,8 @@ centre-asked n i (suc j) (quad a b c d ∷ Q) l = omega (arith, subst (λ k. 0 <
     same i j = omega arith
 
 module _ (n : ℕ) (S : List Quad) (below : Below n S) (pr : All Differ S) where
-  asked-apart : Apart (asked n S)
-  unfolding asked Apart
+  asked-apart : OnceEach (asked n S)
+  unfolding asked OnceEach
   asked-apart = firsts-apart (keys n 0 S) [] (λ x. omega arith)
 
   was-asked : (y : ℕ) → 0 < sum (is y) (keys n 0 S) → 0 < sum (is y) (asked n S)

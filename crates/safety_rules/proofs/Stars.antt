@@ -15,7 +15,8 @@ use Rattle.points.specs.declared.Point.{Point}
 use Rattle.rule_sheet.specs.Closed.{atPoint, Ring, Rings}
 use Rattle.rule_sheet.specs.Edges.{edgesOf, joinTo}
 use Rattle.rule_sheet.specs.Quads.{maskOf, packTo, Quad, quad, is, corners}
-use Rattle.rule_sheet.specs.Sheet.{isLarge, isBare, Sheet}
+use Rattle.rule_sheet.specs.Sheet.{isBare, Sheet}
+use Rattle.rule_sheet.specs.Lent.{isLarge}
 use Rattle.rule_sheet.specs.Tests.{goodCorners, goodMasks, inRange, distinct, goodMask}
 use Rattle.rule_sheet.proofs.FirstUse.{is-other}
 use Rattle.rule_finer.specs.Finer.{finer, asked, midOf, cenOf}
@@ -23,9 +24,9 @@ use Rattle.refine.specs.Finer.{finerCount}
 use Rattle.rule_sheet.specs.Squared.{squared, sq}
 use Rattle.rule_sheet.specs.Claims.{Below}
 use Rattle.rule_sheet.proofs.Rings.{zero-or}
-use Rattle.rule_regularize.proofs.SwapPass.{is-pos}
+use Rattle.rule_sheet.proofs.FirstUse.{is-pos}
 use Rattle.rule_sheet.proofs.Weigh.{is-le, rings-closed}
-use Rattle.safety_rules.specs.Clean.{Accepted, Sound}
+use Rattle.rule_sheet.specs.Sound.{AcceptedSheet, Sound}
 use Rattle.safety_rules.proofs.Fine.{fine-of}
 use Rattle.lists.specs.Every.{every}
 use Rattle.lists.specs.Sort.{tabulate}
@@ -92,17 +93,17 @@ cube-ring : (R : (ℕ → ℕ → ℕ) → ℕ) (a b c : ℕ) → a ≢ b → a 
 cube-ring R a b c ab ac bc e = record { round = a ∷ b ∷ c ∷ []; two = omega arith; apart = three-apart a b c ab ac bc; same = e }
 
 -- the point with the coordinates x, y and z
-abbrev corner : Float → Float → Float → Point
-corner a b c = record { x = a; y = b; z = c }
+abbrev cubeCorner : Float → Float → Float → Point
+cubeCorner a b c = record { x = a; y = b; z = c }
 
 pub cubeSheet : Sheet
 cubeSheet = record {
-  points = corner zeroF zeroF zeroF ∷ corner one zeroF zeroF ∷ corner zeroF one zeroF ∷ corner one one zeroF ∷ corner zeroF zeroF one ∷ corner one zeroF one ∷ corner zeroF one one ∷ corner one one one ∷ [];
+  points = cubeCorner zeroF zeroF zeroF ∷ cubeCorner one zeroF zeroF ∷ cubeCorner zeroF one zeroF ∷ cubeCorner one one zeroF ∷ cubeCorner zeroF zeroF one ∷ cubeCorner one zeroF one ∷ cubeCorner zeroF one one ∷ cubeCorner one one one ∷ [];
   quads = cube;
   labels = 2 ∷ 3 ∷ 4 ∷ 5 ∷ 6 ∷ 7 ∷ [];
 }
 
-pub cube-accepted : Accepted cubeSheet
+pub cube-accepted : AcceptedSheet cubeSheet
 unfolding cubeSheet cube isLarge isBare goodCorners goodMasks inRange distinct goodMask maskOf packTo every finiteP ofBits
 cube-accepted = record { not-large = refl; not-bare = refl; corners = refl; masks = refl }
 

@@ -1,2 +1,1 @@
-pub mod Clean
-pub mod Demand3
+pub mod Commands

@@ -14,11 +14,12 @@ use Rattle.rule_sheet.specs.declared.Counts.{Counts}
 use Rattle.rule_sheet.specs.Quads.{Quad, quad}
 use Rattle.rule_sheet.specs.Flat.{flatQuads}
 use Rattle.rule_sheet.specs.Sheet.{Sheet, flatPoints}
-use Rattle.rule_sheet.specs.declared.Made.{Made}
-use Rattle.rule_sheet.specs.declared.Made.the-variants.{Refused}
+use Rattle.rule_sheet.specs.declared.Answer.{Answer}
+use Rattle.rule_sheet.specs.declared.Answer.the-variants.{Refused}
 use Rattle.rule_sheet.specs.Outcomes.{Outcome, refuses, gives}
-use Rattle.sheet.specs.Results.{cleared, Room, Front, Fills}
-use Rattle.rule_sheet.specs.Results.{shownCounts, answerOf, shown, padded, Leaves}
+use Rattle.rule_sheet.specs.Lent.{roomWith, roomOf}
+use Rattle.sheet.specs.Results.{cleared, HoldsCounts, Front, Fills}
+use Rattle.rule_sheet.specs.Results.{shownCounts, answerOf, made, shown, padded, Makes}
 
 -- `clear(&mut s[n..])`
 pub behind : {A : Type 0} (x : A) (n : ℕ) (s z : List A) → n ≤ length s → z ≡ replicate (length (midOf n (length s - n) s)) x → putMid n (length s - n) s z ≡ cleared x n s
@@ -40,13 +41,13 @@ unfolding cleared padded
 pad x n l s F e = rw (e, F .is)
 
 -- what an answer shows is what its outcome shows
-pub shown-is : (o : Outcome Sheet) → shownCounts (answerOf o) ≡ record { points = length (shown o .points); quads = length (shown o .quads); labels = length (shown o .labels) }
+pub shown-is : (o : Outcome Sheet) → shownCounts (answerOf (made o)) ≡ record { points = length (shown o .points); quads = length (shown o .quads); labels = length (shown o .labels) }
 unfolding shownCounts
 shown-is (refuses n) = refl
 shown-is (gives s) = refl
 
 -- the slices have room for what the answer shows
-pub fills-room : {o : Outcome Sheet} {r : Made} {P : List Float} {Q labels : List ℕ} → Fills o r P Q labels → Room (shownCounts r) (length P) (length Q) (length labels)
+pub fills-room : {o : Outcome Sheet} {r : Answer} {P : List Float} {Q labels : List ℕ} → Fills o r P Q labels → HoldsCounts (shownCounts r) (length P) (length Q) (length labels)
 fills-room {o} F =
     rw (F .answer, shown-is o) (record {
       points = omega (arith, F .points .fits, length-flat-points (shown o .points));
@@ -55,8 +56,8 @@ fills-room {o} F =
     })
 
 -- the slices once they are cleared
-pub fills-leaves : {o : Outcome Sheet} {r : Made} {P : List Float} {Q labels : List ℕ} → Fills o r P Q labels
-    → Leaves o (length P) (length Q) (length labels) r (cleared zeroF (3 * shownCounts r .points) P) (cleared 0 (4 * shownCounts r .quads) Q) (cleared 0 (shownCounts r .labels) labels)
+pub fills-leaves : {o : Outcome Sheet} {r : Answer} {P : List Float} {Q labels : List ℕ} → Fills o r P Q labels
+    → Makes o (roomOf P Q labels) r (cleared zeroF (3 * shownCounts r .points) P) (cleared 0 (4 * shownCounts r .quads) Q) (cleared 0 (shownCounts r .labels) labels)
 fills-leaves {o} {r} {P} {Q} {labels} F =
     let e : shownCounts r ≡ record { points = length (shown o .points); quads = length (shown o .quads); labels = length (shown o .labels) } = ap shownCounts (F .answer) ∙ shown-is o in
     record {
@@ -67,12 +68,12 @@ fills-leaves {o} {r} {P} {Q} {labels} F =
     }
 
 -- the same, by the counts that are shown
-pub shown-room : {o : Outcome Sheet} {r : Made} {P : List Float} {Q labels : List ℕ} {k : Counts} → Fills o r P Q labels → k ≡ shownCounts r → Room k (length P) (length Q) (length labels)
+pub shown-room : {o : Outcome Sheet} {r : Answer} {P : List Float} {Q labels : List ℕ} {k : Counts} → Fills o r P Q labels → k ≡ shownCounts r → HoldsCounts k (length P) (length Q) (length labels)
 shown-room F e = rw e (fills-room F)
 
-pub leaves-of : {o : Outcome Sheet} {r : Made} {P A : List Float} {Q labels B D : List ℕ} {k : Counts} (p q l : ℕ) → Fills o r P Q labels → k ≡ shownCounts r
+pub leaves-of : {o : Outcome Sheet} {r : Answer} {P A : List Float} {Q labels B D : List ℕ} {k : Counts} (p q l : ℕ) → Fills o r P Q labels → k ≡ shownCounts r
     → length P ≡ p → length Q ≡ q → length labels ≡ l
-    → (A ≡ cleared zeroF (3 * k .points) P) × ((B ≡ cleared 0 (4 * k .quads) Q) × (D ≡ cleared 0 (k .labels) labels)) → Leaves o p q l r A B D
+    → (A ≡ cleared zeroF (3 * k .points) P) × ((B ≡ cleared 0 (4 * k .quads) Q) × (D ≡ cleared 0 (k .labels) labels)) → Makes o (roomWith p q l) r A B D
 leaves-of {o} {r} {P} {A} {Q} {labels} {B} {D} {k} p q l F e ep eq el E = rw (← ep, ← eq, ← el, E .0, E .1 .0, E .1 .1, e) (fills-leaves F)
 
 -- a refusal shows nothing, whatever the slices hold

@@ -18,15 +18,14 @@ use Rattle.points.specs.Points.{pointAt, finiteP}
 use Rattle.rule_sheet.specs.declared.Counts.{Counts}
 use Rattle.rule_sheet.specs.declared.Verdict.{Verdict}
 use Rattle.rule_sheet.specs.declared.Verdict.the-variants.{Accepted, Refused}
-use Rattle.band.specs.declared.Band.{Band}
-use Rattle.band.specs.Bands.{validOf}
-use Rattle.rule_sheet.specs.Numbers.{box, bare, large, short, corner, clash}
+use Rattle.rule_sheet.specs.Numbers.{bare, large, short, cornerNumber, clash}
 use Rattle.rule_sheet.specs.Quads.{Quad, all}
 use Rattle.rule_sheet.specs.Flat.{quadAt, quadsOf}
 use Rattle.sheet.specs.Flat.{maskIn, Holds}
 use Rattle.rule_sheet.specs.Tests.{proper, lowLabel, goodCorners, goodMask, goodPoint, goodMasks}
 use Rattle.sheet.specs.Tests.{goodQuadAt, goodMaskAt}
-use Rattle.rule_sheet.specs.Sheet.{Sheet, sheetOf, sheetVerdict, pointsOf, isLarge, isShort, isShortWork, lentVerdict, isBare, quadsVerdict}
+use Rattle.rule_sheet.specs.Sheet.{Sheet, sheetOf, sheetVerdict, pointsOf, isBare, quadsVerdict}
+use Rattle.rule_sheet.specs.Lent.{isLarge, isShort, isShortWork, lentVerdict, roomWith, workWith}
 use Rattle.sheet.specs.Sheet.{Few, bareBy, LentSheet, LentWork, masksOf, MasksIf}
 use Rattle.sheet.proofs.Flat.{length-quads}
 use Rattle.rule_sheet.proofs.All.{all-append}
@@ -49,7 +48,7 @@ few-of c e = record {
   labels≤ = ltb-false _ _ (search (or-left, or-right));
 }
 
-pub holds-of : (c : Counts) (p q l : ℕ) → isLarge c ≡ false → isShort c p q l ≡ false → LentSheet c p q l
+pub holds-of : (c : Counts) (p q l : ℕ) → isLarge c ≡ false → isShort c (roomWith p q l) ≡ false → LentSheet c p q l
 unfolding isShort
 holds-of c p q l e s = record {
   few = few-of c e;
@@ -59,13 +58,13 @@ holds-of c p q l e s = record {
 }
 
 -- more than the slices or the limit hold
-pub over-large : (c : Counts) (p q l : ℕ) → isLarge c ≡ true → true ≡ (isLarge c || isShort c p q l)
+pub over-large : (c : Counts) (p q l : ℕ) → isLarge c ≡ true → true ≡ (isLarge c || isShort c (roomWith p q l))
 over-large c p q l e = rw e
 
-pub over-short : (c : Counts) (p q l : ℕ) (r : Bool) → isLarge c ≡ false → r ≡ isShort c p q l → r ≡ (isLarge c || isShort c p q l)
+pub over-short : (c : Counts) (p q l : ℕ) (r : Bool) → isLarge c ≡ false → r ≡ isShort c (roomWith p q l) → r ≡ (isLarge c || isShort c (roomWith p q l))
 over-short c p q l r e s = rw e s
 
-work-of : (c : Counts) (w f : ℕ) → isShortWork c w f ≡ false → LentWork c w f
+work-of : (c : Counts) (w f : ℕ) → isShortWork c (workWith w f) ≡ false → LentWork c w f
 unfolding isShortWork
 work-of c w f e = record { work = ltb-false _ _ (search (or-left)); floats = ltb-false _ _ (search (or-right)) }
 
@@ -75,11 +74,11 @@ numberOf Accepted = 0
 numberOf (Refused n) = n
 
 -- a lent sheet that 12 and 13 accept
-pub lent-is : (c : Counts) (p q l w f : ℕ) → lentVerdict c p q l w f ≡ Accepted → LentSheet c p q l × LentWork c w f
+pub lent-is : (c : Counts) (p q l w f : ℕ) → lentVerdict c (roomWith p q l) (workWith w f) ≡ Accepted → LentSheet c p q l × LentWork c w f
 unfolding lentVerdict
-lent-is c p q l w f = go (isLarge c) refl (isShort c p q l) refl (isShortWork c w f) refl
+lent-is c p q l w f = go (isLarge c) refl (isShort c (roomWith p q l)) refl (isShortWork c (workWith w f)) refl
   where
-    go : (a : Bool) → isLarge c ≡ a → (b : Bool) → isShort c p q l ≡ b → (d : Bool) → isShortWork c w f ≡ d
+    go : (a : Bool) → isLarge c ≡ a → (b : Bool) → isShort c (roomWith p q l) ≡ b → (d : Bool) → isShortWork c (workWith w f) ≡ d
         → cond a (Refused large) (cond b (Refused short) (cond d (Refused short) Accepted)) ≡ Accepted → LentSheet c p q l × LentWork c w f
     go true ea b eb d ed h = absurd (let z : _≡_ {A = ℕ} 0 1 = cc in omega arith)
     go false ea true eb d ed h = absurd (let z : _≡_ {A = ℕ} 0 1 = cc in omega arith)
@@ -130,7 +129,7 @@ masks-tested np nq Q labels w e =
     rw l (every-ext (goodMaskAt w) (goodPoint (quadsOf nq Q) (take nq labels)) np (λ v h. ap goodMask (rw e (getD-tab _ np v 0 h))))
 
 module _ (n : ℕ) (S : List Quad) (labels : List ℕ) where
-  pub verdict-corner : goodCorners n S labels ≡ false → Refused corner ≡ quadsVerdict n S labels
+  pub verdict-corner : goodCorners n S labels ≡ false → Refused cornerNumber ≡ quadsVerdict n S labels
   unfolding quadsVerdict
   verdict-corner e = rw e
 
@@ -142,20 +141,16 @@ module _ (n : ℕ) (S : List Quad) (labels : List ℕ) where
   unfolding quadsVerdict
   verdict-accepted e f = rw (e, f)
 
--- ---- 1 and 5, and then 6 and 7
+-- ---- 5, and then 6 and 7
 
-module _ (b : Band) (s : Sheet) where
-  pub verdict-box : validOf b ≡ false → Refused box ≡ sheetVerdict b s
+module _ (s : Sheet) where
+  pub verdict-bare : isBare s ≡ true → Refused bare ≡ sheetVerdict s
   unfolding sheetVerdict
-  verdict-box e = rw e
+  verdict-bare e = rw e
 
-  pub verdict-bare : validOf b ≡ true → isBare s ≡ true → Refused bare ≡ sheetVerdict b s
+  pub verdict-quads : isBare s ≡ false → quadsVerdict (length (s .points)) (s .quads) (s .labels) ≡ sheetVerdict s
   unfolding sheetVerdict
-  verdict-bare e f = rw (e, f)
-
-  pub verdict-quads : validOf b ≡ true → isBare s ≡ false → quadsVerdict (length (s .points)) (s .quads) (s .labels) ≡ sheetVerdict b s
-  unfolding sheetVerdict
-  verdict-quads e f = rw (e, f)
+  verdict-quads e = rw e
 
 -- the label count is the quad count where 5 finds nothing
 pub labels-match : (c : Counts) (P : List Float) → bareBy c P ≡ false → c .labels ≡ c .quads
@@ -167,41 +162,39 @@ holds-quads c P Q labels p L e =
     let m = labels-match c P e in
     record { quads = L .quads; labels≤ = omega (arith, L .labels) }
 
--- the answer of a sheet that 1 and 5 accept is that of its quads
-pub quads-decide : (b : Band) (c : Counts) (P : List Float) (Q labels : List ℕ) (n : ℕ) (r : Verdict) (w : List ℕ) → validOf b ≡ true → bareBy c P ≡ false → c .labels ≤ length labels → n ≡ c .points
+-- the answer of a sheet that 5 accepts is that of its quads
+pub quads-decide : (c : Counts) (P : List Float) (Q labels : List ℕ) (n : ℕ) (r : Verdict) (w : List ℕ) → bareBy c P ≡ false → c .labels ≤ length labels → n ≡ c .points
     → r ≡ quadsVerdict n (quadsOf (c .quads) Q) (take (c .quads) labels) → MasksIf r (masksOf n (quadsOf (c .quads) Q) (take (c .quads) labels)) w
-    → (r ≡ sheetVerdict b (sheetOf c P Q labels)) × MasksIf r (masksOf (c .points) (quadsOf (c .quads) Q) (take (c .labels) labels)) w
-quads-decide b c P Q labels n r w v e h en er m =
+    → (r ≡ sheetVerdict (sheetOf c P Q labels)) × MasksIf r (masksOf (c .points) (quadsOf (c .quads) Q) (take (c .labels) labels)) w
+quads-decide c P Q labels n r w e h en er m =
     let k = labels-match c P e in
     let same : quadsVerdict n (quadsOf (c .quads) Q) (take (c .quads) labels) ≡ quadsVerdict (length (pointsOf (c .points) P)) (quadsOf (c .quads) Q) (take (c .labels) labels) =
     rw (length-points (c .points) P, k, en) in
-    (er ∙ same ∙ verdict-quads b (sheetOf c P Q labels) v (sym (bare-is c P Q labels h) ∙ e), rw (k, ← en) m)
+    (er ∙ same ∙ verdict-quads (sheetOf c P Q labels) (sym (bare-is c P Q labels h) ∙ e), rw (k, ← en) m)
 
 -- ---- what an accepted sheet has
 
--- 1, 5, 6 and 7 find nothing
-pub record Tested (b : Band) (s : Sheet) : Type 0 where
-  pub valid : validOf b ≡ true
+-- 5, 6 and 7 find nothing
+pub record Tested (s : Sheet) : Type 0 where
   pub not-bare : isBare s ≡ false
   pub corners : goodCorners (length (s .points)) (s .quads) (s .labels) ≡ true
   pub masks : goodMasks (length (s .points)) (s .quads) (s .labels) ≡ true
 
-pub tested : (b : Band) (s : Sheet) → sheetVerdict b s ≡ Accepted → Tested b s
+pub tested : (s : Sheet) → sheetVerdict s ≡ Accepted → Tested s
 unfolding sheetVerdict quadsVerdict
-tested b s = go (validOf b) refl (isBare s) refl (goodCorners (length (s .points)) (s .quads) (s .labels)) refl (goodMasks (length (s .points)) (s .quads) (s .labels)) refl
+tested s = go (isBare s) refl (goodCorners (length (s .points)) (s .quads) (s .labels)) refl (goodMasks (length (s .points)) (s .quads) (s .labels)) refl
   where
-    go : (v : Bool) → validOf b ≡ v → (x : Bool) → isBare s ≡ x → (g : Bool) → goodCorners (length (s .points)) (s .quads) (s .labels) ≡ g → (m : Bool) → goodMasks (length (s .points)) (s .quads) (s .labels) ≡ m
-        → cond v (cond x (Refused bare) (cond g (cond m Accepted (Refused clash)) (Refused corner))) (Refused box) ≡ Accepted → Tested b s
-    go false ev x ex g eg m em h = absurd (let z : _≡_ {A = ℕ} 0 1 = cc in omega arith)
-    go true ev true ex g eg m em h = absurd (let z : _≡_ {A = ℕ} 0 1 = cc in omega arith)
-    go true ev false ex false eg m em h = absurd (let z : _≡_ {A = ℕ} 0 1 = cc in omega arith)
-    go true ev false ex true eg false em h = absurd (let z : _≡_ {A = ℕ} 0 1 = cc in omega arith)
-    go true ev false ex true eg true em h = record { valid = ev; not-bare = ex; corners = eg; masks = em }
+    go : (x : Bool) → isBare s ≡ x → (g : Bool) → goodCorners (length (s .points)) (s .quads) (s .labels) ≡ g → (m : Bool) → goodMasks (length (s .points)) (s .quads) (s .labels) ≡ m
+        → cond x (Refused bare) (cond g (cond m Accepted (Refused clash)) (Refused cornerNumber)) ≡ Accepted → Tested s
+    go true ex g eg m em h = absurd (let z : _≡_ {A = ℕ} 0 1 = cc in omega arith)
+    go false ex false eg m em h = absurd (let z : _≡_ {A = ℕ} 0 1 = cc in omega arith)
+    go false ex true eg false em h = absurd (let z : _≡_ {A = ℕ} 0 1 = cc in omega arith)
+    go false ex true eg true em h = record { not-bare = ex; corners = eg; masks = em }
 
 -- and the other way round
-pub tests-accept : (b : Band) (s : Sheet) → Tested b s → sheetVerdict b s ≡ Accepted
+pub tests-accept : (s : Sheet) → Tested s → sheetVerdict s ≡ Accepted
 unfolding sheetVerdict quadsVerdict
-tests-accept b s t = rw (t .valid, t .not-bare, t .corners, t .masks)
+tests-accept s t = rw (t .not-bare, t .corners, t .masks)
 
 -- what 5 asks
 pub record Whole (s : Sheet) : Type 0 where

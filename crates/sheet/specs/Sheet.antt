@@ -12,7 +12,7 @@ use Rattle.rule_sheet.specs.declared.Counts.{Counts}
 use Rattle.rule_sheet.specs.declared.Verdict.{Verdict}
 use Rattle.rule_sheet.specs.declared.Verdict.the-variants.{Accepted, Refused}
 use Rattle.rule_sheet.specs.Quads.{Quad, maskOf}
-use Rattle.rule_sheet.specs.Sheet.{limit}
+use Rattle.rule_sheet.specs.Lent.{limit}
 
 -- what 12 leaves: small counts
 pub record Few (c : Counts) : Type 0 where

@@ -1,34 +1,31 @@
-// A lent sheet: its counts and limits, and the tests 12, 13, 1, 5, 6 and 7 with the masks of its points.
+// A lent sheet: its counts and limits, and the tests 12, 13, 5, 6 and 7 with the masks of its points.
 
-use band::Band;
+use rule_sheet::Answer;
 use rule_sheet::Counts;
-use rule_sheet::Made;
 use rule_sheet::Verdict;
 ghost use mathlib.Core.Path.{_≡_};
-ghost use mathlib.Core.Bool.{Bool, true, false, _||_};
-ghost use Prim.Native.Nat.{ℕ, _+_, _*_, _<_, _≤_};
+ghost use mathlib.Core.Bool.{true, false, _||_};
+ghost use Prim.Native.Nat.{_+_, _*_, _<_, _≤_};
 ghost use lib.ListN.{length, getD, take, replicate};
 ghost use Rattle.lists.specs.Every.{every};
 ghost use Rattle.lists.specs.Sort.{tabulate};
-ghost use Rattle.points.specs.Points.{pointAt, finiteP};
 ghost use Rattle.rule_sheet.specs.Quads.{num, quad};
 ghost use Rattle.rule_sheet.specs.Flat.{corner, quadsOf};
 ghost use Rattle.sheet.specs.Flat.{maskIn, Holds, withQuad};
 ghost use Rattle.rule_sheet.specs.Tests.{inRange, distinct, goodMask};
 ghost use Rattle.sheet.specs.Tests.{goodQuadAt, goodMaskAt, withBit, marked};
-ghost use Rattle.rule_sheet.specs.Sheet.{sheetOf, isLarge, isShort, isShortWork, lentVerdict, quadsVerdict};
+ghost use Rattle.rule_sheet.specs.Sheet.{sheetOf, quadsVerdict};
+ghost use Rattle.rule_sheet.specs.Lent.{isLarge, isShort, isShortWork, lentVerdict, roomWith, workWith};
 ghost use Rattle.rule_sheet.specs.Sheet.{sheetVerdict};
 ghost use Rattle.sheet.specs.Sheet.{Few, masksOf, MasksIf, LentSheet, finiteAt, bareBy};
 ghost use Rattle.numeric.specs.Num.{zeroF};
-ghost use Rattle.sheet.specs.Results.{cleared, Room};
-ghost use Rattle.rule_sheet.specs.Results.{shownCounts};
+ghost use Rattle.sheet.specs.Results.{cleared, HoldsCounts};
+ghost use Rattle.rule_sheet.specs.Results.{shownCounts, Cleared};
 
 // The most points, quads or labels of a sheet.
 pub const LIMIT: usize = 1048576;
 
 // The numbers of refusals.
-pub const BOX: u32 = 1;
-
 pub const BARE: u32 = 5;
 
 pub const CORNER: u32 = 6;
@@ -51,14 +48,14 @@ pub fn is_large(c: Counts) -> bool
 // 13: slices of these lengths hold less than the counts say.
 pub fn is_short(c: Counts, points: usize, quads: usize, labels: usize) -> bool
     requires { ⌜ Few c ⌝ }
-    ensures { λ r. ⌜ r ≡ isShort c points quads labels ⌝ }
+    ensures { λ r. ⌜ r ≡ isShort c (roomWith points quads labels) ⌝ }
 {
     (points < 3 * c.points) | (quads < 4 * c.quads) | (labels < c.labels)
 }
 
 // 13, of a made sheet: more than slices of these lengths or the limit hold.
 pub fn is_over(c: Counts, points: usize, quads: usize, labels: usize) -> bool
-    ensures { λ r. ⌜ r ≡ (isLarge c || isShort c points quads labels) ⌝ }
+    ensures { λ r. ⌜ r ≡ (isLarge c || isShort c (roomWith points quads labels)) ⌝ }
 {
     if is_large(c) {
         return true;
@@ -69,7 +66,7 @@ pub fn is_over(c: Counts, points: usize, quads: usize, labels: usize) -> bool
 // 13: too little work.
 pub fn is_short_work(c: Counts, work: usize, floats: usize) -> bool
     requires { ⌜ Few c ⌝ }
-    ensures { λ r. ⌜ r ≡ isShortWork c work floats ⌝ }
+    ensures { λ r. ⌜ r ≡ isShortWork c (workWith work floats) ⌝ }
 {
     let n = c.points + c.quads;
     (work < 64 * n) | (floats < 16 * n)
@@ -84,7 +81,7 @@ pub fn lent(
     work: usize,
     floats: usize,
 ) -> Verdict
-    ensures { λ r. ⌜ r ≡ lentVerdict c points quads labels work floats ⌝ }
+    ensures { λ r. ⌜ r ≡ lentVerdict c (roomWith points quads labels) (workWith work floats) ⌝ }
 {
     if is_large(c) {
         return Verdict::Refused(LARGE);
@@ -275,9 +272,8 @@ fn quads_tested(nq: usize, quads: &[u32], labels: &[u8], masks: &mut [u32]) -> V
     Verdict::Refused(CORNER)
 }
 
-// 1, 5, 6 and 7, of a sheet that its slices hold; the masks of an accepted one go to the lent slice.
+// 5, 6 and 7, of a sheet that its slices hold; the masks of an accepted one go to the lent slice.
 pub fn constraints(
-    b: Band,
     c: Counts,
     points: &[f64],
     quads: &[u32],
@@ -286,29 +282,25 @@ pub fn constraints(
 ) -> Verdict
     requires { ⌜ LentSheet c (length (now points)) (length (now quads)) (length (now labels)) ⌝ }
     requires { ⌜ length (now masks) ≡ c .points ⌝ }
-    ensures { λ r. ⌜ r ≡ sheetVerdict b (sheetOf c (now (points .entry)) (now (quads .entry)) (now (labels .entry))) ⌝ }
+    ensures { λ r. ⌜ r ≡ sheetVerdict (sheetOf c (now (points .entry)) (now (quads .entry)) (now (labels .entry))) ⌝ }
     ensures { λ r. ⌜ MasksIf r (masksOf (c .points) (quadsOf (c .quads) (now (quads .entry)))
         (take (c .labels) (now (labels .entry)))) (now (masks .exit)) ⌝ }
 {
-    if band::validate(b) {
-        if is_bare(c, points) {
-            return Verdict::Refused(BARE);
-        }
-        return quads_tested(c.quads, quads, labels, masks);
+    if is_bare(c, points) {
+        return Verdict::Refused(BARE);
     }
-    Verdict::Refused(BOX)
+    quads_tested(c.quads, quads, labels, masks)
 }
 
-// What an operation that makes a sheet leaves behind: its answer, result slices with zeros behind the sheet, work
-// slices of zeros.
+// What an operation leaves behind: its answer, result slices with zeros behind the sheet, work slices of zeros.
 
-// The counts of a made sheet; a refusal shows none.
-pub fn shown_counts(r: Made) -> Counts
+// The counts of the sheet of an answer; a refusal shows none.
+pub fn shown_counts(r: Answer) -> Counts
     ensures { λ c. ⌜ c ≡ shownCounts r ⌝ }
 {
     match r {
-        Made::Done(c) => c,
-        Made::Refused(_) => Counts {
+        Answer::Done(t) => t.sheet,
+        Answer::Refused(_) => Counts {
             points: 0,
             quads: 0,
             labels: 0,
@@ -353,7 +345,7 @@ pub fn clear_behind_u8(n: usize, s: &mut [u8])
 
 // Clears the result slices behind a sheet of these counts.
 pub fn clear_unused(c: Counts, points: &mut [f64], quads: &mut [u32], labels: &mut [u8])
-    requires { ⌜ Room c (length (now points)) (length (now quads)) (length (now labels)) ⌝ }
+    requires { ⌜ HoldsCounts c (length (now points)) (length (now quads)) (length (now labels)) ⌝ }
     ensures { λ _. ⌜ now (points .exit) ≡ cleared zeroF (3 * c .points) (now (points .entry)) ⌝ }
     ensures { λ _. ⌜ now (quads .exit) ≡ cleared 0 (4 * c .quads) (now (quads .entry)) ⌝ }
     ensures { λ _. ⌜ now (labels .exit) ≡ cleared 0 (c .labels) (now (labels .entry)) ⌝ }
@@ -365,8 +357,7 @@ pub fn clear_unused(c: Counts, points: &mut [f64], quads: &mut [u32], labels: &m
 
 // Clears both work slices.
 pub fn clear_work(work: &mut [u32], floats: &mut [f64])
-    ensures { λ _. ⌜ now (work .exit) ≡ replicate (length (now (work .entry))) 0 ⌝ }
-    ensures { λ _. ⌜ now (floats .exit) ≡ replicate (length (now (floats .entry))) zeroF ⌝ }
+    ensures { λ _. ⌜ Cleared (now (work .entry)) (now (floats .entry)) (now (work .exit)) (now (floats .exit)) ⌝ }
 {
     lists::clear(work);
     lists::clear_f64(floats);

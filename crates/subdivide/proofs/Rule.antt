@@ -1,5 +1,5 @@
 -- The stages of `subdivide`, from its tests to the outcome of its rule. Assumes nothing.
-use Prim.Native.Nat.{ℕ, _+_, _-_, _*_, _≤_, _<_}
+use Prim.Native.Nat.{ℕ, _*_, _≤_, _<_}
 use mathlib.Core.Path.{_≡_, sym, ap, _∙_}
 use mathlib.Core.Bool.{Bool, true, false, _||_}
 use mathlib.Core.List.{List, _++_, map}
@@ -7,30 +7,35 @@ use native.Mathlib.Omega.{arith}
 use lib.ListN.{length, getD, take, drop, length-append, length-map}
 use lib.Seq.{length-take-le, take-at}
 use lib.Ieee.{Float}
-use borrow.Rule.Slice.PartMut.{putMid}
 use Rattle.points.specs.Points.{pointAt}
 use Rattle.lists.specs.Sort.{tabulate}
 use Rattle.lists.specs.Every.{every}
 use Rattle.lists.specs.Regions.{Kept}
 use Rattle.lists.proofs.Laws.{length-tab, getD-tab, tab-ext}
 use Rattle.lists.proofs.Every.{every-ext, count-le}
-use Rattle.lists.proofs.Regions.{part-as, part-kept, lent}
+use Rattle.lists.proofs.Regions.{part-kept}
 use Rattle.band.specs.declared.Band.{Band}
+use Rattle.setting.specs.Settings.{settingOf}
 use Rattle.rule_sheet.specs.declared.Counts.{Counts}
+use Rattle.rule_sheet.specs.declared.Answer.{Answer}
+use Rattle.rule_sheet.specs.declared.Answer.the-variants as answers
+use Rattle.rule_sheet.specs.declared.Verdict.{Verdict}
 use Rattle.rule_sheet.specs.declared.Verdict.the-variants.{Accepted, Refused}
 use Rattle.rule_sheet.specs.Quads.{hasLabel, maskOf}
 use Rattle.rule_sheet.specs.Flat.{quadsOf, flatQuads}
 use Rattle.rule_sheet.specs.Tests.{goodCorners}
-use Rattle.rule_sheet.specs.Sheet.{Sheet, sheetOf, pointsOf, flatPoints, isLarge, isShort, lentVerdict, sheetVerdict}
+use Rattle.rule_sheet.specs.Sheet.{Sheet, sheetOf, pointsOf, flatPoints, countsOf, sheetVerdict}
+use Rattle.rule_sheet.specs.Lent.{Room, Work, lentOf, roomWith, isLarge, isShort}
 use Rattle.sheet.specs.Sheet.{masksOf, LentSheet}
 use Rattle.sheet.proofs.Flat.{length-quads}
 use Rattle.sheet.proofs.Masks.{pack-lt}
-use Rattle.sheet.proofs.Tests.{or-left, or-right, holds-of, lent-is, length-points, bare-is, labels-match, tested, some-quad, proper-of}
-use Rattle.rule_sheet.specs.declared.Made.{Made}
-use Rattle.rule_sheet.specs.Outcomes.{Outcome, refuses, afterTest}
-use Rattle.rule_sheet.specs.Results.{answerOf, countsOf}
+use Rattle.sheet.proofs.Tests.{or-left, or-right, holds-of, length-points, bare-is, labels-match, tested, some-quad, proper-of}
+use Rattle.rule_sheet.specs.Outcomes.{Outcome, afterTest}
+use Rattle.rule_admission.specs.Admission.{admits}
 use Rattle.sheet.specs.Results.{Front, Fills}
 use Rattle.sheet.proofs.Results.{refused-fills}
+use Rattle.admission.specs.Contracts.{MasksAt}
+use Rattle.admission.proofs.Admitted.{admitted}
 use Rattle.incidence.proofs.Corners.{cornered}
 use Rattle.rule_finer.specs.Finer.{asked, finerSheet}
 use Rattle.refine.specs.Requests.{firstsOf, own}
@@ -43,18 +48,17 @@ use Rattle.sheet.proofs.Fronts.{front-quads, points-front, quads-front}
 use Rattle.rule_finer.specs.Subdivide.{landing, landsAt, projectedSheet, projected, subdivided, subdivideRule}
 use Rattle.projection.specs.Project.{ontoOf}
 use Rattle.subdivide.specs.Steps.{Masked, landAt, landsOf, landedTo, Tested}
-use Rattle.rule_sheet.specs.declared.Made.the-variants as made
 
 -- ---- the tests and the projection of the smoothed sheet
 
 module _ (b : Band) (c : Counts) (P : List Float) (Q labels : List ℕ) (L : LentSheet c (length P) (length Q) (length labels)) where
   abbrev landed : Outcome Sheet
-  landed = afterTest (sheetVerdict b (sheetOf c P Q labels)) (projected b (sheetOf c P Q labels))
+  landed = afterTest (sheetVerdict (sheetOf c P Q labels)) (projected (settingOf b) (sheetOf c P Q labels))
 
   abbrev masks : List ℕ
   masks = masksOf (c .points) (quadsOf (c .quads) Q) (take (c .labels) labels)
 
-  pub land-refused : (k : ℕ) (A : List Float) (B D : List ℕ) → sheetVerdict b (sheetOf c P Q labels) ≡ Refused k → Fills landed (answerOf (refuses k)) A B D
+  pub land-refused : (k : ℕ) (A : List Float) (B D : List ℕ) → sheetVerdict (sheetOf c P Q labels) ≡ Refused k → Fills landed (answers.Refused k) A B D
   land-refused k A B D e = rw e (refused-fills k A B D)
 
   module _ (y w : List ℕ) (em : y ≡ masks) where
@@ -79,25 +83,25 @@ module _ (b : Band) (c : Counts) (P : List Float) (Q labels : List ℕ) (L : Len
       low = λ v h. rw (mask-at v h) (pack-lt (hasLabel (quadsOf (c .quads) Q) (take (c .labels) labels) v));
     }
 
-    land-same : (v : ℕ) → v < c .points → landing b (sheetOf c P Q labels) v ≡ landAt b P front v
+    land-same : (v : ℕ) → v < c .points → landing (settingOf b) (sheetOf c P Q labels) v ≡ landAt b P front v
     unfolding landing landAt pointsOf
     land-same v h = rw (mask-at v h, getD-tab (pointAt P) (c .points) v _ h)
 
-    lands-same : every (landsAt b (sheetOf c P Q labels)) (length (pointsOf (c .points) P)) ≡ every (landsOf b P front) (c .points)
+    lands-same : every (landsAt (settingOf b) (sheetOf c P Q labels)) (length (pointsOf (c .points) P)) ≡ every (landsOf b P front) (c .points)
     lands-same = rw (length-points (c .points) P) (every-ext _ _ (c .points) (λ v h. rw (land-same v h)))
 
-    module _ (r : Bool) (er : r ≡ every (landsOf b P front) (c .points)) (e : sheetVerdict b (sheetOf c P Q labels) ≡ Accepted) where
-      pub land-astray : (A : List Float) (B D : List ℕ) → r ≡ false → Fills landed (answerOf (refuses 9)) A B D
+    module _ (r : Bool) (er : r ≡ every (landsOf b P front) (c .points)) (e : sheetVerdict (sheetOf c P Q labels) ≡ Accepted) where
+      pub land-astray : (A : List Float) (B D : List ℕ) → r ≡ false → Fills landed (answers.Refused 9) A B D
       unfolding projected
       land-astray A B D f = rw (e, lands-same, ← er, f) (refused-fills 9 A B D)
 
-      pub land-done : (A : List Float) → r ≡ true → (r ≡ true → Front (flatPoints (landedTo b P front (c .points))) A) → Fills landed (made.Done c) A Q labels
+      pub land-done : (A : List Float) → r ≡ true → (r ≡ true → Front (flatPoints (landedTo b P front (c .points))) A) → Fills landed (answers.Done (record { count = 0; sheet = c })) A Q labels
       unfolding projected projectedSheet landedTo
       land-done A t F =
           let k : length (take (c .labels) labels) ≡ c .labels = length-take-le (c .labels) labels (L .labels) in
-          let x : tabulate (λ v. ontoOf (landing b (sheetOf c P Q labels) v)) (c .points) ≡ tabulate (λ v. ontoOf (landAt b P front v)) (c .points) = tab-ext _ _ (c .points) (λ v h. rw (land-same v h)) in
+          let x : tabulate (λ v. ontoOf (landing (settingOf b) (sheetOf c P Q labels) v)) (c .points) ≡ tabulate (λ v. ontoOf (landAt b P front v)) (c .points) = tab-ext _ _ (c .points) (λ v h. rw (land-same v h)) in
           rw (e, lands-same, ← er, t, length-points (c .points) P) (record {
-            answer = rw (length-tab (λ v. ontoOf (landing b (sheetOf c P Q labels) v)) (c .points), length-quads (c .quads) Q, k);
+            answer = rw (length-tab (λ v. ontoOf (landing (settingOf b) (sheetOf c P Q labels) v)) (c .points), length-quads (c .quads) Q, k);
             points = rw x (F t);
             quads = front-quads (c .quads) Q (L .quads);
             labelled = record { fits = omega (arith, k, L .labels); is = rw k };
@@ -115,20 +119,20 @@ module _ (b : Band) (c : Counts) (P : List Float) (Q labels v : List ℕ) (T : T
 
   -- the finer sheet is more than the slices or the limit hold
   abbrev over : Bool
-  over = isLarge (countsAfter c n) || isShort (countsAfter c n) p q l
+  over = isLarge (countsAfter c n) || isShort (countsAfter c n) (roomWith p q l)
 
-  pub tested-over : (A : List Float) (B D : List ℕ) → over ≡ true → Fills (subdivided b lentSheet p q l) (answerOf (refuses 13)) A B D
+  pub tested-over : (A : List Float) (B D : List ℕ) → over ≡ true → Fills (subdivided (settingOf b) lentSheet (roomWith p q l)) (answers.Refused 13) A B D
   unfolding subdivided
   tested-over A B D o = rw (counts-are, o) (refused-fills 13 A B D)
 
   module _ (o : over ≡ false) where
-    pub tested-edge : (A : List Float) (B D : List ℕ) → paired (c .points) (quadsOf (c .quads) Q) ≡ false → Fills (subdivided b lentSheet p q l) (answerOf (refuses 8)) A B D
+    pub tested-edge : (A : List Float) (B D : List ℕ) → paired (c .points) (quadsOf (c .quads) Q) ≡ false → Fills (subdivided (settingOf b) lentSheet (roomWith p q l)) (answers.Refused 8) A B D
     unfolding subdivided
     tested-edge A B D e = rw (counts-are, o, length-points (c .points) P, e) (refused-fills 8 A B D)
 
     module _ {w : List ℕ} (W : Worked (c .points) (c .quads) Q w) (K : Kept (Behind (c .points) (c .quads)) v w) where
       finished : Finished (c .points) (c .quads) P Q labels w p q l
-      finished = tested-finished c P Q labels (length v) (T .refinable) n en p q l w W (or-right (isLarge (countsAfter c n)) (isShort (countsAfter c n) p q l) o)
+      finished = tested-finished c P Q labels (length v) (T .refinable) n en p q l w W (or-right (isLarge (countsAfter c n)) (isShort (countsAfter c n) (roomWith p q l)) o)
 
       pub tested-smoothable : paired (c .points) (quadsOf (c .quads) Q) ≡ true → Smoothable (c .points) (c .quads) P Q labels w p q l
       tested-smoothable e = record {
@@ -144,7 +148,7 @@ module _ (b : Band) (c : Counts) (P : List Float) (Q labels v : List ℕ) (T : T
       -- the result slices and the work slice have room for the smoothed sheet
       pub tested-room : (p′ q′ l′ w′ : ℕ) → p′ ≡ p → q′ ≡ q → l′ ≡ l → w′ ≡ length w → LentSheet (countsAfter c n) p′ q′ l′ × (n ≤ w′)
       tested-room p′ q′ l′ w′ ep eq el ew = rw (ep, eq, el, ew) (
-        holds-of (countsAfter c n) p q l (or-left (isLarge (countsAfter c n)) (isShort (countsAfter c n) p q l) o) (or-right (isLarge (countsAfter c n)) (isShort (countsAfter c n) p q l) o),
+        holds-of (countsAfter c n) p q l (or-left (isLarge (countsAfter c n)) (isShort (countsAfter c n) (roomWith p q l)) o) (or-right (isLarge (countsAfter c n)) (isShort (countsAfter c n) (roomWith p q l)) o),
         omega (arith, en, count-le (own (firstsOf (c .points) (c .quads) Q)) (5 * c .quads), T .refinable .work, K .len),
       )
 
@@ -166,57 +170,44 @@ module _ (b : Band) (c : Counts) (P : List Float) (Q labels v : List ℕ) (T : T
         let z : take (4 * c .quads) D ≡ smoothSheet s .labels = rw (ap (λ (z : Counts). z .labels) k) at (F .1 .1 .is) in
         rw (x, y, z, ← same)
 
-    pub tested-done : {A A′ : List Float} {B D : List ℕ} (r : Made) → paired (c .points) (quadsOf (c .quads) Q) ≡ true
+    pub tested-done : {A A′ : List Float} {B D : List ℕ} (r : Answer) → paired (c .points) (quadsOf (c .quads) Q) ≡ true
         → Front (flatPoints (smoothSheet (flatSheet (c .points) (c .quads) P Q labels) .points)) A
         × (Front (flatQuads (smoothSheet (flatSheet (c .points) (c .quads) P Q labels) .quads)) B × Front (smoothSheet (flatSheet (c .points) (c .quads) P Q labels) .labels) D)
-        → Fills (afterTest (sheetVerdict b (sheetOf (countsAfter c n) A B D)) (projected b (sheetOf (countsAfter c n) A B D))) r A′ B D → Fills (subdivided b lentSheet p q l) r A′ B D
+        → Fills (afterTest (sheetVerdict (sheetOf (countsAfter c n) A B D)) (projected (settingOf b) (sheetOf (countsAfter c n) A B D))) r A′ B D → Fills (subdivided (settingOf b) lentSheet (roomWith p q l)) r A′ B D
     unfolding subdivided
     tested-done {A} {A′} {B} {D} r e F G = rw (counts-are, o, length-points (c .points) P, e) (rw (same-sheet F) at G)
 
 -- ---- the tests before
 
-module _ (b : Band) (c : Counts) (P : List Float) (Q labels : List ℕ) (w f p q l : ℕ) where
-  abbrev Rule : Outcome Sheet
-  Rule = subdivideRule b c P Q labels w f p q l
-
-  pub rule-lent : (n : ℕ) (A : List Float) (B D : List ℕ) → lentVerdict c (length P) (length Q) (length labels) w f ≡ Refused n → Fills Rule (answerOf (refuses n)) A B D
+module _ (b : Band) (c : Counts) (P : List Float) (Q labels : List ℕ) (k : Work) (v : Verdict) (e : v ≡ admits (settingOf b) (lentOf c P Q labels) k) where
+  pub rule-refused : (room : Room) (n : ℕ) (A : List Float) (B D : List ℕ) → v ≡ Refused n → Fills (subdivideRule (settingOf b) (lentOf c P Q labels) k room) (answers.Refused n) A B D
   unfolding subdivideRule
-  rule-lent n A B D e = rw e (refused-fills n A B D)
+  rule-refused room n A B D h = rw (← e, h) (refused-fills n A B D)
 
-  module _ (e : lentVerdict c (length P) (length Q) (length labels) w f ≡ Accepted) where
-    pub rule-sheet : LentSheet c (length P) (length Q) (length labels)
-    rule-sheet = lent-is c (length P) (length Q) (length labels) w f e .0
-
-    pub rule-work : 64 * (c .points + c .quads) ≤ w
-    rule-work = lent-is c (length P) (length Q) (length labels) w f e .1 .work
-
-    pub rule-refused : (n : ℕ) (A : List Float) (B D : List ℕ) → sheetVerdict b (sheetOf c P Q labels) ≡ Refused n → Fills Rule (answerOf (refuses n)) A B D
+  module _ (h : v ≡ Accepted) where
+    pub rule-done : (room : Room) {r : Answer} {A : List Float} {B D : List ℕ} → Fills (subdivided (settingOf b) (sheetOf c P Q labels) room) r A B D
+        → Fills (subdivideRule (settingOf b) (lentOf c P Q labels) k room) r A B D
     unfolding subdivideRule
-    rule-refused n A B D t = rw (e, t) (refused-fills n A B D)
+    rule-done room F = rw (← e, h) F
 
-    pub rule-done : (r : Made) (A : List Float) (B D : List ℕ) → sheetVerdict b (sheetOf c P Q labels) ≡ Accepted → Fills (subdivided b (sheetOf c P Q labels) p q l) r A B D → Fills Rule r A B D
-    unfolding subdivideRule
-    rule-done r A B D t F = rw (e, t) F
-
-    pub rule-tested : (v y : List ℕ) → length v ≡ w → sheetVerdict b (sheetOf c P Q labels) ≡ Accepted → y ≡ masksOf (c .points) (quadsOf (c .quads) Q) (take (c .labels) labels)
-        → Tested c (length P) Q labels (putMid (masksAt (c .points) (c .quads)) (masksAt (c .points) (c .quads) + c .points - masksAt (c .points) (c .quads)) v y)
-    unfolding masksOf
-    rule-tested v y ew t em =
-        let L = rule-sheet in
-        let F = tested b (sheetOf c P Q labels) t in
+    -- the masks stand in the work slice, which is as long as it was
+    pub rule-tested : (w : List ℕ) → length w ≡ k .numbers
+        → MasksAt v (masksAt (c .points) (c .quads)) (c .points) (masksOf (c .points) (quadsOf (c .quads) Q) (take (c .labels) labels)) w → Tested c (length P) Q labels w
+    rule-tested w ew m =
+        let a = admitted _ (lentOf c P Q labels) k (sym e ∙ h) in
+        let L = a .sheet in
+        let F = tested (sheetOf c P Q labels) (a .accepted) in
         let x = bare-is c P Q labels (L .labels) ∙ F .not-bare in
         let same = labels-match c P x in
         let g : goodCorners (c .points) (quadsOf (c .quads) Q) (take (c .labels) labels) ≡ true = rw (length-points (c .points) P) at (F .corners) in
-        let many : length y ≡ c .points = ap length em ∙ length-tab (maskOf (quadsOf (c .quads) Q) (take (c .labels) labels)) (c .points) in
-        let Z = lent (masksAt (c .points) (c .quads)) (c .points) v y (omega (arith, rule-work)) many in
         record {
           refinable = record {
             lent = L;
             same = same;
             cornered = cornered (c .points) (c .quads) Q (take (c .labels) labels) g (L .few .quads≤) (L .quads);
-            work = omega (arith, Z .kept .len, rule-work);
+            work = rw ew (a .work .work);
           };
           some = some-quad c P x;
           good = proper-of (c .points) (quadsOf (c .quads) Q) (take (c .labels) labels) g;
-          masks = part-as (Z .part) (rw same at em);
+          masks = rw (h, same) at m;
         }

@@ -4,19 +4,21 @@ use band::Band;
 use projection::LONGEST_MOVE;
 use projection::LOOKS;
 use projection::Projected;
+use rule_sheet::Answer;
 use rule_sheet::Counts;
-use rule_sheet::Made;
+use rule_sheet::Tally;
 use rule_sheet::Verdict;
 ghost use mathlib.Core.Path.{_≡_};
 ghost use mathlib.Core.Bool.{true};
 ghost use Prim.Native.Nat.{_*_, _≤_};
-ghost use lib.ListN.{length, replicate};
-ghost use Rattle.numeric.specs.Num.{zeroF};
+ghost use lib.ListN.{length};
 ghost use Rattle.lists.specs.Every.{every};
+ghost use Rattle.setting.specs.Settings.{settingOf};
 ghost use Rattle.rule_sheet.specs.Sheet.{flatPoints, sheetOf, sheetVerdict};
+ghost use Rattle.rule_sheet.specs.Lent.{lentOf, roomOf, workOf, workWith};
 ghost use Rattle.sheet.specs.Sheet.{LentSheet};
 ghost use Rattle.rule_sheet.specs.Outcomes.{afterTest};
-ghost use Rattle.rule_sheet.specs.Results.{Leaves};
+ghost use Rattle.rule_sheet.specs.Results.{Makes, Cleared};
 ghost use Rattle.sheet.specs.Results.{Fills, Front};
 ghost use Rattle.rule_finer.specs.Subdivide.{projected, subdivided, subdivideRule};
 ghost use Rattle.subdivide.specs.Steps.{Masked, landsOf, landedTo, Tested};
@@ -54,22 +56,30 @@ fn project_points(b: Band, n: usize, masks: &[u32], points: &mut [f64]) -> bool
 }
 
 // Tests the sheet in the result slices and projects its points.
-fn land(b: Band, c: Counts, points: &mut [f64], quads: &[u32], labels: &[u8], w: &mut [u32]) -> Made
+fn land(
+    b: Band,
+    c: Counts,
+    points: &mut [f64],
+    quads: &[u32],
+    labels: &[u8],
+    w: &mut [u32],
+) -> Answer
     requires { ⌜ LentSheet c (length (now points)) (length (now quads)) (length (now labels)) ⌝ }
     requires { ⌜ c .points ≤ length (now w) ⌝ }
-    ensures { λ r. ⌜ Fills (afterTest (sheetVerdict b (sheetOf c (now (points .entry)) (now (quads .entry))
-        (now (labels .entry)))) (projected b (sheetOf c (now (points .entry)) (now (quads .entry))
-        (now (labels .entry))))) r (now (points .exit)) (now (quads .entry)) (now (labels .entry)) ⌝ }
+    ensures { λ r. ⌜ (
+        let t = sheetOf c (now (points .entry)) (now (quads .entry)) (now (labels .entry)) in
+        Fills (afterTest (sheetVerdict t) (projected (settingOf b) t)) r (now (points .exit)) (now (quads .entry))
+        (now (labels .entry))) ⌝ }
 {
     let n = c.points;
-    let v = sheet::constraints(b, c, points, quads, labels, &mut w[..n]);
+    let v = sheet::constraints(c, points, quads, labels, &mut w[..n]);
     if let Verdict::Refused(k) = v {
-        return Made::Refused(k);
+        return Answer::Refused(k);
     }
     if project_points(b, n, &w[..n], points) {
-        return Made::Done(c);
+        return Answer::Done(Tally { count: 0, sheet: c });
     }
-    Made::Refused(ASTRAY)
+    Answer::Refused(ASTRAY)
 }
 
 // Subdivides a sheet that the tests accept, its masks in the work slice.
@@ -83,11 +93,12 @@ fn subdivide_tested(
     new_quads: &mut [u32],
     new_labels: &mut [u8],
     w: &mut [u32],
-) -> Made
+) -> Answer
     requires { ⌜ Tested c (length (now points)) (now quads) (now labels) (now w) ⌝ }
-    ensures { λ r. ⌜ Fills (subdivided b (sheetOf c (now (points .entry)) (now (quads .entry)) (now (labels .entry)))
-        (length (now («new_points» .entry))) (length (now («new_quads» .entry))) (length (now («new_labels» .entry)))) r
-        (now («new_points» .exit)) (now («new_quads» .exit)) (now («new_labels» .exit)) ⌝ }
+    ensures { λ r. ⌜ Fills (subdivided (settingOf b) (sheetOf c (now (points .entry)) (now (quads .entry))
+        (now (labels .entry))) (roomOf (now («new_points» .entry)) (now («new_quads» .entry))
+        (now («new_labels» .entry)))) r (now («new_points» .exit)) (now («new_quads» .exit))
+        (now («new_labels» .exit)) ⌝ }
 {
     let np = c.points;
     let nq = c.quads;
@@ -97,7 +108,7 @@ fn subdivide_tested(
         labels: 4 * nq,
     };
     if sheet::is_over(made, new_points.len(), new_quads.len(), new_labels.len()) {
-        return Made::Refused(sheet::SHORT);
+        return Answer::Refused(sheet::SHORT);
     }
     if subdivide_points::is_paired(np, nq, quads, w) {
         subdivide_points::put_smoothed(
@@ -113,7 +124,7 @@ fn subdivide_tested(
         );
         return land(b, made, new_points, new_quads, new_labels, w);
     }
-    Made::Refused(sheet::EDGE)
+    Answer::Refused(sheet::EDGE)
 }
 
 // The subdivided sheet, or the first refusal; the slices behind it may hold anything.
@@ -128,20 +139,24 @@ fn subdivide_or_refusal(
     new_labels: &mut [u8],
     w: &mut [u32],
     floats: usize,
-) -> Made
-    ensures { λ r. ⌜ Fills (subdivideRule b c (now (points .entry)) (now (quads .entry)) (now (labels .entry))
-        (length (now (w .entry))) floats (length (now («new_points» .entry))) (length (now («new_quads» .entry)))
-        (length (now («new_labels» .entry)))) r (now («new_points» .exit)) (now («new_quads» .exit))
-        (now («new_labels» .exit)) ⌝ }
+) -> Answer
+    ensures { λ r. ⌜ Fills (subdivideRule (settingOf b) (lentOf c (now (points .entry)) (now (quads .entry))
+        (now (labels .entry))) (workWith (length (now (w .entry))) floats) (roomOf (now («new_points» .entry))
+        (now («new_quads» .entry)) (now («new_labels» .entry)))) r (now («new_points» .exit))
+        (now («new_quads» .exit)) (now («new_labels» .exit)) ⌝ }
 {
-    let v = sheet::lent(c, points.len(), quads.len(), labels.len(), w.len(), floats);
+    let v = admission::admit(
+        b,
+        c,
+        points,
+        quads,
+        labels,
+        subdivide_points::MASKS,
+        w,
+        floats,
+    );
     if let Verdict::Refused(n) = v {
-        return Made::Refused(n);
-    }
-    let m = subdivide_points::MASKS * (c.points + c.quads);
-    let t = sheet::constraints(b, c, points, quads, labels, &mut w[m..m + c.points]);
-    if let Verdict::Refused(n) = t {
-        return Made::Refused(n);
+        return Answer::Refused(n);
     }
     subdivide_tested(
         b,
@@ -169,14 +184,14 @@ pub fn subdivide(
     new_labels: &mut [u8],
     work: &mut [u32],
     floats: &mut [f64],
-) -> Made
-    ensures { λ r. ⌜ Leaves (subdivideRule b c (now (points .entry)) (now (quads .entry)) (now (labels .entry))
-        (length (now (work .entry))) (length (now (floats .entry))) (length (now («new_points» .entry)))
-        (length (now («new_quads» .entry))) (length (now («new_labels» .entry)))) (length (now («new_points» .entry)))
-        (length (now («new_quads» .entry))) (length (now («new_labels» .entry))) r (now («new_points» .exit))
-        (now («new_quads» .exit)) (now («new_labels» .exit)) ⌝ }
-    ensures { λ _. ⌜ now (work .exit) ≡ replicate (length (now (work .entry))) 0 ⌝ }
-    ensures { λ _. ⌜ now (floats .exit) ≡ replicate (length (now (floats .entry))) zeroF ⌝ }
+) -> Answer
+    ensures sheet { λ r. ⌜ (
+        let x = lentOf c (now (points .entry)) (now (quads .entry)) (now (labels .entry)) in
+        let room = roomOf (now («new_points» .entry)) (now («new_quads» .entry)) (now («new_labels» .entry)) in
+        Makes (subdivideRule (settingOf b) x (workOf (now (work .entry)) (now (floats .entry))) room) room r
+        (now («new_points» .exit)) (now («new_quads» .exit)) (now («new_labels» .exit))) ⌝ }
+    ensures cleared { λ _. ⌜ Cleared (now (work .entry)) (now (floats .entry)) (now (work .exit))
+        (now (floats .exit)) ⌝ }
 {
     let r = subdivide_or_refusal(
         b,

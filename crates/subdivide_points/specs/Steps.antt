@@ -7,6 +7,7 @@ use mathlib.Core.List.{List, map}
 use lib.Dec.{eqb}
 use lib.ListN.{length, getD, take}
 use lib.Ieee.{Float}
+use Rattle.rule_sheet.specs.Lent.{limit}
 use Rattle.lists.specs.Regions.{part, Part, Apart}
 use Rattle.points.specs.declared.Point.{Point}
 use Rattle.points.specs.Points.{pointAt}
@@ -49,7 +50,7 @@ Ends nq Q E H = (i : ℕ) → i < 4 * nq → getD H i 0 ≡ endAt Q E i
 
 -- E has the corners of nq quads, each once
 pub record Corners (nq : ℕ) (E : List ℕ) : Type 0 where
-  pub few : nq ≤ 1048576
+  pub few : nq ≤ limit
   pub low : (i : ℕ) → i < 4 * nq → getD E i 0 < 4 * nq
   pub once : (i j : ℕ) → i < j → j < 4 * nq → getD E i 0 ≡ getD E j 0 → ⊥
 
@@ -202,7 +203,7 @@ pub record Placing (np nq : ℕ) (P : List Float) (Q labels : List ℕ) (first n
 -- each, and the masks are known
 pub record Smoothable (np nq : ℕ) (P : List Float) (Q labels w : List ℕ) (p q l : ℕ) : Type 0 where
   pub finished : Finished np nq P Q labels w p q l
-  pub few : np ≤ 1048576
+  pub few : np ≤ limit
   pub some : 0 < nq
   pub work : 64 * (np + nq) ≤ length w
   pub good : all (proper np) (quadsOf nq Q) ≡ true
@@ -212,7 +213,7 @@ pub record Smoothable (np nq : ℕ) (P : List Float) (Q labels w : List ℕ) (p 
 -- what the gathering asks: the corners in the order of their edges, and room
 pub record Gathering (np nq : ℕ) (Q : List ℕ) (room : ℕ) (w : List ℕ) : Type 0 where
   pub cornered : Cornered np nq Q
-  pub few : np ≤ 1048576
+  pub few : np ≤ limit
   pub some : 0 < nq
   pub in-ends : 4 * nq ≤ room
   pub work : 64 * (np + nq) ≤ length w

@@ -7,6 +7,7 @@ ghost use mathlib.Core.Bool.{true, cond};
 ghost use mathlib.Core.List.{_++_, map};
 ghost use Prim.Native.Nat.{_+_, _*_, _/_, _%_, _<_, _≤_};
 ghost use lib.ListN.{length, getD};
+ghost use Rattle.rule_sheet.specs.Lent.{limit};
 ghost use Rattle.lists.specs.Sort.{tabulate};
 ghost use Rattle.lists.specs.Regions.{part, Part, Out, Kept};
 ghost use Rattle.points.specs.Points.{pointAt};
@@ -549,7 +550,7 @@ pub fn put_smoothed(
 // Whether every edge has exactly two quads.
 pub fn is_paired(np: usize, nq: usize, quads: &[u32], w: &[u32]) -> bool
     requires { ⌜ Cornered np nq (now quads) ⌝ }
-    requires { ⌜ np ≤ 1048576 ⌝ }
+    requires { ⌜ np ≤ limit ⌝ }
     requires { ⌜ all (proper np) (quadsOf nq (now quads)) ≡ true ⌝ }
     requires { ⌜ Part (orderAt np nq) (4 * nq) (edgeOrder np nq (now quads)) (now w) ⌝ }
     ensures { λ r. ⌜ r ≡ paired np (quadsOf nq (now (quads .entry))) ⌝ }

@@ -18,8 +18,9 @@ const HEAD: &str = "\
 
 What a reader must believe, in the order of reading. A definition stands here if the contract of an operation or of an
 export cites it, or a claim, or another definition that stands here; for all else the checker vouches. The numbers are
-lines, comments among them: the comments quote the request. `tools/believe --write` writes this page from the tree, and
-the gate compares them. Names are found by their text, so a variable with the name of a definition counts as it.
+lines, comments among them: the comments quote the request. Unbroken are the lines if none were broken at 120 columns.
+`tools/believe --write` writes this page from the tree, and the gate compares them. Names are found by their text, so a
+variable with the name of a definition counts as it.
 ";
 
 /// What the lines of a list begin with behind its first.
@@ -30,6 +31,7 @@ const INDENTATION: &str = "  ";
 struct Size {
     definitions: usize,
     lines: usize,
+    unbroken: usize,
     code: usize,
 }
 
@@ -42,7 +44,12 @@ fn size(tree: &Tree, nodes: &BTreeSet<Node>, library: Option<&str>) -> Size {
     let counted = nodes.iter().filter_map(definition).filter(|(file, _)| library.is_none_or(|one| file.library == one));
     counted.fold(Size::default(), |sum, (file, place)| {
         let one = &file.spec.definitions[place];
-        Size { definitions: sum.definitions + 1, lines: sum.lines + one.lines, code: sum.code + one.code }
+        Size {
+            definitions: sum.definitions + 1,
+            lines: sum.lines + one.lines,
+            unbroken: sum.unbroken + one.unbroken,
+            code: sum.code + one.code,
+        }
     })
 }
 
@@ -73,13 +80,15 @@ fn beginnings(beliefs: &Beliefs) -> String {
     let tree = beliefs.tree;
     let row = |what: &str, nodes: &BTreeSet<Node>| {
         let size = size(tree, nodes, None);
-        format!("| {what} | {} | {} | {} |\n", number(size.definitions), number(size.lines), number(size.code))
+        let figures = [size.definitions, size.lines, size.unbroken, size.code].map(number).join(" | ");
+        format!("| {what} | {figures} |\n")
     };
     let whole = counted(tree.specs.iter().map(|file| file.spec.definitions.len()).sum(), "definition");
     let lines = counted(tree.specs.iter().map(|file| file.spec.lines).sum(), "line");
     [
         "\n## Where it begins\n\n".to_string(),
-        "| the contracts or claims | definitions | lines | without comments |\n|---|---|---|---|\n".to_string(),
+        "| the contracts or claims | definitions | lines | unbroken | without comments |\n|---|---|---|---|---|\n"
+            .to_string(),
         row(&format!("operations: {}", functions(tree, &beliefs.doors)), &beliefs.of_doors),
         row(&format!("exports: {}", functions(tree, &beliefs.exports)), &beliefs.of_exports),
         row("claims: the definitions of crates/safety/specs", &beliefs.of_claims),

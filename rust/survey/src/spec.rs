@@ -13,6 +13,8 @@ pub struct Definition {
     pub lines: usize,
     /// How many of them are not comments.
     pub code: usize,
+    /// How many lines it would have if none were broken.
+    pub unbroken: usize,
     /// Its text without comments, and the head of the module around it.
     pub text: String,
     /// The constructors of a data type.
@@ -102,14 +104,31 @@ fn end(lines: &[&str], line: usize) -> usize {
     line + 1 + most - rest[..most].iter().rev().take_while(idle).count()
 }
 
+/// How many columns a line is indented by.
+fn indentation(line: &str) -> usize {
+    line.len() - line.trim_start().len()
+}
+
+/// How many of these lines there would be if none were broken: a comment goes on in the next one, and a line that is
+/// indented by four columns more than the definition goes on with the one before.
+fn unbroken(lines: &[&str], own: usize) -> usize {
+    let goes_on = |i: usize| match is_comment(lines[i]) {
+        true => i > 0 && is_comment(lines[i - 1]),
+        false => indentation(lines[i]) >= own + 4,
+    };
+    (0..lines.len()).filter(|i| !lines[*i].trim().is_empty() && !goes_on(*i)).count()
+}
+
 /// The definition of this name that begins at a line; `around` is the head of the module around it.
 fn definition(lines: &[&str], line: usize, name: &str, around: &str) -> Definition {
     let body = &lines[line..end(lines, line)];
     let own = tokens::without_comments(&body.join("\n"), "--");
+    let first = with_comment(lines, line);
     Definition {
         name: name.to_string(),
         line: line + 1,
-        lines: line + body.len() - with_comment(lines, line),
+        lines: line + body.len() - first,
+        unbroken: unbroken(&lines[first..line + body.len()], indentation(lines[line])),
         code: own.lines().filter(|line| !line.trim().is_empty()).count(),
         text: format!("{own}\n{around}"),
         constructors: constructors(body),
@@ -200,8 +219,8 @@ pair =
         let spec = Spec::parse(FILE);
         let names: Vec<&str> = spec.definitions.iter().map(|one| one.name.as_str()).collect();
         assert_eq!(names, ["_⊕_", "Answer", "inner", "Pair", "pair"]);
-        let counts: Vec<(usize, usize)> = spec.definitions.iter().map(|one| (one.lines, one.code)).collect();
-        assert_eq!(counts, [(4, 2), (6, 4), (2, 2), (2, 2), (3, 3)]);
+        let counts: Vec<[usize; 3]> = spec.definitions.iter().map(|one| [one.lines, one.code, one.unbroken]).collect();
+        assert_eq!(counts, [[4, 2, 4], [6, 4, 5], [2, 2, 2], [2, 2, 2], [3, 3, 2]]);
         assert_eq!(spec.head, "What two lines say. Not a rule: an example of two lines.");
     }
 

@@ -16,10 +16,10 @@ fn a_tree_is_read_from_its_words_to_its_claims() {
     let sections: Vec<&str> = report.text.lines().filter_map(|line| line.strip_prefix("## ")).collect();
     assert_eq!(sections, ["Where it begins", "The order", "numbers", "rule_add", "safety", "The kit"]);
     for line in [
-        "| operations: `add::add` | 4 | 13 | 8 |",
-        "| exports: `quads::quads_add` | 4 | 13 | 8 |",
-        "| claims: the definitions of crates/safety/specs | 2 | 6 | 4 |",
-        "| all | 5 | 16 | 10 |",
+        "| operations: `add::add` | 4 | 13 | 13 | 8 |",
+        "| exports: `quads::quads_add` | 4 | 13 | 13 | 8 |",
+        "| claims: the definitions of crates/safety/specs | 2 | 6 | 6 | 4 |",
+        "| all | 5 | 16 | 16 | 10 |",
         "The folders specs/ of all crates have 7 definitions in 38 lines.",
         "- [Numbers](../crates/numbers/specs/Numbers.antt), 1 definition of 2, 4 lines. Whole numbers.",
         "  `_⊕_` 4",
@@ -64,7 +64,7 @@ fn a_name_that_is_handed_on_is_followed() {
     tree.put("crates/quads/src/lib.rt", &QUADS.replace("specs.Rule as", "specs.All as").replace("addRule", "adding"));
     let report = believe::report(&tree.root).unwrap();
     assert_eq!(report.faults, [""; 0]);
-    assert!(report.text.contains("| exports: `quads::quads_add` | 4 | 13 | 8 |"), "{}", report.text);
+    assert!(report.text.contains("| exports: `quads::quads_add` | 4 | 13 | 13 | 8 |"), "{}", report.text);
 }
 
 #[test]

@@ -1,47 +1,33 @@
 -- `coarsen::coarsen_or_refusal` meets its contract. Assumes nothing.
 use mathlib.Core.Path.{_≡_, sym, _∙_}
-use native.Mathlib.Omega.{arith}
 use borrow.Author.Needs.{needs}
-use lib.ListN.{length}
-use lib.Seq.{length-take-le, length-front}
+use Rattle.setting.specs.Settings.{settingOf}
 use Rattle.rule_sheet.specs.declared.Verdict.the-variants.{Accepted}
-use Rattle.rule_sheet.specs.Sheet.{sheetOf, sheetVerdict}
-use Rattle.coarsen.proofs.Rule.{rule-lent, Lent, sheet-fits, points-fit, rule-zero, rule-sheet, coarsenable, rule-done}
+use Rattle.rule_sheet.specs.Lent.{lentOf, workOf}
+use Rattle.rule_coarsen.specs.Rule.{coarsenVerdict}
+use Rattle.coarsen.proofs.Rule.{rule-refused, rule-done, coarsenable}
 use Rattle.coarsen.proofs.coarsen_or_refusal.Statement.{statement}
 use Rattle.coarsen.proofs.coarsen_or_refusal.Tie as tie
 
-lent-accepted : (c : tie.After-enum-told) → let a = c .before .before .before .before .before .before .before .before .args in Lent (a .b) (a .passes) (a .c) (a .points .now) (a .quads .now) (a .labels .now) (length (a .work .now)) (length (a .floats .now))
-lent-accepted c = record { verdict = sym (c .before .before .lent .ensures) ∙ c .enum-told .given .1 }
+abbrev verdict : tie.After-enum-told → tie.After-coarsen-verdict
+verdict c = c .before .before .before .before
 
-sheet-accepted : (c : tie.After-enum-told2) → let a = c .before .before .before .before .before .before .before .before .before .before .before .before .before .before .before .before .before .before .args in sheetVerdict (a .b) (sheetOf (a .c) (a .points .now) (a .quads .now) (a .labels .now)) ≡ Accepted
-sheet-accepted c = sym (c .before .before .before .before .constraints .ensures .0) ∙ c .enum-told2 .given .1
+abbrev passed : tie.After-slice-known11 → tie.After-merge-passes
+passed c = c .before .before .before .before .before .before .before .before .before .before
 
-lent-requires : tie.Need-lent-requires
-lent-requires c κs = search needs
+abbrev cleared : tie.After-slice-known14 → tie.After-clear-unused
+cleared c = c .before .before .before .before .before .before
 
-enum-known-lent : tie.Need-enum-known-lent
-enum-known-lent c = search needs
+accepted : (c : tie.After-enum-told) →
+    let a = verdict c .before .before .before .before .before .before .before .before .before .before .args in
+    coarsenVerdict (settingOf (a .b)) (a .passes) (lentOf (a .c) (a .points .now) (a .quads .now) (a .labels .now)) (workOf (a .work .now) (a .floats .now)) ≡ Accepted
+accepted c = sym (verdict c .coarsen-verdict .ensures) ∙ c .enum-told .given .1
 
-returns : tie.Need-returns
-returns c = rule-lent _ _ _ _ _ _ _ _ _ (sym (c .before .before .before .lent .ensures) ∙ c .before .lent2 .given .1)
+coarsen-verdict-requires : tie.Need-coarsen-verdict-requires
+coarsen-verdict-requires c κs = search needs
 
-enum-told : tie.Need-enum-told
-enum-told c = search needs
-
-returns-2 : tie.Need-returns-2
-returns-2 c = rule-zero (lent-accepted (c .before)) (omega (arith, c .if1 .taken))
-
-slice-relend-prefix-constraints : tie.Need-slice-relend-prefix-constraints
-slice-relend-prefix-constraints c = points-fit (lent-accepted (c .before .before .before .before))
-
-slice-aggregate-constraints : tie.Need-slice-aggregate-constraints
-slice-aggregate-constraints c = sym (length-take-le _ _ (points-fit (lent-accepted (c .before .before .before .before .before))))
-
-constraints-requires : tie.Need-constraints-requires
-constraints-requires c κs = let L = lent-accepted (c .before .before .before .before .before) in (sheet-fits L, length-take-le _ _ (points-fit L))
-
-enum-known-tested : tie.Need-enum-known-tested
-enum-known-tested c = search needs
+enum-known-v : tie.Need-enum-known-v
+enum-known-v c = search needs
 
 same-length : tie.Need-same-length
 same-length c = search needs
@@ -55,16 +41,18 @@ same-length-3 c = search needs
 same-length-4 : tie.Need-same-length-4
 same-length-4 c = search needs
 
-returns-3 : tie.Need-returns-3
-returns-3 c = let t = c .before .before .before .before .before in
-    rule-sheet (lent-accepted (t .before .before .before .before .before .before)) (t .before .before .before .before .before .if1 .left) (sym (t .constraints .ensures .0) ∙ c .before .tested .given .1)
+returns : tie.Need-returns
+returns c = rule-refused _ _ _ _ (sym (c .before .before .before .before .before .coarsen-verdict .ensures) ∙ c .before .v .given .1)
 
-enum-told-2 : tie.Need-enum-told-2
-enum-told-2 c = search needs
+enum-told : tie.Need-enum-told
+enum-told c = search needs
 
 merge-passes-requires : tie.Need-merge-passes-requires
-merge-passes-requires c κs = let t = c .before .before .before .before .before .before .before .before .before in
-    coarsenable (lent-accepted (t .before .before .before .before .before .before)) (length-front (t .before .before .before .before .before .before .before .before .before .before .before .before .before .before .args .work .now) (t .constraints .last .1 .1 .1 .1 .1 .0) (t .before .before .before .before .before .before .before .before .before .before .before .before .before .before .args .c .points) (t .constraints .kept .1 .1 .1 .1 .1 .0)) (sheet-accepted (c .before .before .before .before .before))
+merge-passes-requires c κs = let t = c .before .before .before .before .before in
+    coarsenable _ _ _ _ (verdict t .coarsen-verdict .kept .1 .1 .1 .1 .1 .1 .0) (accepted t)
+
+clear-unused-requires : tie.Need-clear-unused-requires
+clear-unused-requires c κs = passed (c .before .before .before) .merge-passes .ensures .room
 
 same-length-5 : tie.Need-same-length-5
 same-length-5 c = search needs
@@ -81,33 +69,30 @@ same-length-8 c = search needs
 same-length-9 : tie.Need-same-length-9
 same-length-9 c = search needs
 
-returns-4 : tie.Need-returns-4
-returns-4 c = let t = c .before .before .before .before .before .before .before .before .before .before in
-    rule-done (lent-accepted (t .before .before .before .before .before .before .before .before .before .before .before .before .before .before .before .before)) (t .before .before .before .before .before .before .before .before .before .before .before .before .before .before .before .if1 .left) (sheet-accepted (t .before .before .before .before .before .before)) (t .merge-passes .ensures)
+returns-2 : tie.Need-returns-2
+returns-2 c = let u = cleared c in
+    let t = passed (u .before .before .before .before) in
+    let m = t .merge-passes in
+    let e = u .clear-unused .ensures in
+    rule-done _ _ _ _ (accepted (t .before .before .before .before .before .before)) (m .ensures) (m .kept .1 .1 .1 .0) (m .kept .1 .1 .1 .1 .0) (m .kept .1 .1 .1 .1 .1 .0) (e .0) (e .1 .0) (e .1 .1)
 
 pub coarsen-or-refusal-spec : {M : Type 1} → statement M
 coarsen-or-refusal-spec =
     tie.close
     (tie.spec
-    lent-requires
-    enum-known-lent
-    returns
-    enum-told
-    returns-2
-    slice-relend-prefix-constraints
-    slice-aggregate-constraints
-    constraints-requires
-    enum-known-tested
+    coarsen-verdict-requires
+    enum-known-v
     same-length
     same-length-2
     same-length-3
     same-length-4
-    returns-3
-    enum-told-2
+    returns
+    enum-told
     merge-passes-requires
+    clear-unused-requires
     same-length-5
     same-length-6
     same-length-7
     same-length-8
     same-length-9
-    returns-4)
+    returns-2)

@@ -1,8 +1,9 @@
 -- `coarsen::merge_passes` meets its contract. Assumes nothing.
+use Prim.Native.Nat.{_<_}
 use mathlib.Core.Path.{_∙_}
 use native.Mathlib.Omega.{arith}
 use borrow.Author.Needs.{needs}
-use Rattle.coarsen.proofs.Passes.{Running, running-start, running-end, total-fits, running-none, running-more}
+use Rattle.coarsen.proofs.Passes.{Running, running-start, running-end, running-next, total-fits, running-none, running-more}
 use Rattle.coarsen.proofs.merge_passes.Statement.{statement}
 use Rattle.coarsen.proofs.merge_passes.Tie as tie
 
@@ -12,6 +13,16 @@ Inv-loop b passes points₀ quads₀ labels₀ w₀ floats₀ len sheet₀ total
 abbrev μ-loop : tie.MeasureT-loop
 μ-loop b passes points₀ quads₀ labels₀ w₀ floats₀ len sheet₀ total₀ left₀ points quads labels w floats sheet total left = left
 
+abbrev looped : tie.After-merge-once-arg5 Inv-loop μ-loop → tie.At-loop Inv-loop μ-loop
+looped c = c .before .before .before .before .before .before
+
+abbrev merged : tie.After-struct-known Inv-loop μ-loop → tie.After-merge-once Inv-loop μ-loop
+merged c = c .before .before .before .before .before .before .before .before .before .before .before .before
+
+-- a pass is left
+some-left : (c : tie.After-merge-once-arg5 Inv-loop μ-loop) → 0 < looped c .loop .left
+some-left c = c .before .before .before .before .before .loop-test .taken
+
 length-requires : tie.Need-length-requires Inv-loop μ-loop
 length-requires c κs = search needs
 
@@ -19,39 +30,40 @@ loop-holds : tie.Need-loop-holds Inv-loop μ-loop
 loop-holds c = running-start _ (c .before .before .before .before .before .before .pre)
 
 merge-once-requires : tie.Need-merge-once-requires Inv-loop μ-loop
-merge-once-requires c κs = (c .before .before .before .before .before .before .loop .inv .ready, c .before .before .before .before .before .before .before .length .ensures)
+merge-once-requires c κs = (running-next (looped c .loop .inv) (some-left c), looped c .before .length .ensures)
 
 same-length : tie.Need-same-length Inv-loop μ-loop
-same-length c = let t = c .before .before .before .before .before .before .before .before .before .before .before .before .before in t .merge-once .kept .1 .1 .1 .0 ∙ t .before .before .before .before .before .before .before .loop .inv .points
+same-length c = let t = merged (c .before) in t .merge-once .kept .1 .1 .1 .0 ∙ looped (t .before) .loop .inv .points
 
 same-length-2 : tie.Need-same-length-2 Inv-loop μ-loop
-same-length-2 c = let t = c .before .before .before .before .before .before .before .before .before .before .before .before .before in t .merge-once .kept .1 .1 .1 .1 .0 ∙ t .before .before .before .before .before .before .before .loop .inv .quads
+same-length-2 c = let t = merged (c .before) in t .merge-once .kept .1 .1 .1 .1 .0 ∙ looped (t .before) .loop .inv .quads
 
 same-length-3 : tie.Need-same-length-3 Inv-loop μ-loop
-same-length-3 c = let t = c .before .before .before .before .before .before .before .before .before .before .before .before .before in t .merge-once .kept .1 .1 .1 .1 .1 .0 ∙ t .before .before .before .before .before .before .before .loop .inv .labelled
+same-length-3 c = let t = merged (c .before) in t .merge-once .kept .1 .1 .1 .1 .1 .0 ∙ looped (t .before) .loop .inv .labelled
 
 same-length-4 : tie.Need-same-length-4 Inv-loop μ-loop
-same-length-4 c = let t = c .before .before .before .before .before .before .before .before .before .before .before .before .before in t .merge-once .kept .1 .1 .1 .1 .1 .1 .0 ∙ t .before .before .before .before .before .before .before .loop .inv .work
+same-length-4 c = let t = merged (c .before) in t .merge-once .kept .1 .1 .1 .1 .1 .1 .0 ∙ looped (t .before) .loop .inv .work
 
 same-length-5 : tie.Need-same-length-5 Inv-loop μ-loop
-same-length-5 c = let t = c .before .before .before .before .before .before .before .before .before .before .before .before .before in t .merge-once .kept .1 .1 .1 .1 .1 .1 .1 .0 ∙ t .before .before .before .before .before .before .before .loop .inv .floats
+same-length-5 c = let t = merged (c .before) in t .merge-once .kept .1 .1 .1 .1 .1 .1 .1 .0 ∙ looped (t .before) .loop .inv .floats
 
 returns : tie.Need-returns Inv-loop μ-loop
-returns c = let t = c .before .before .before .before .before .before .before .before .before .before .before .before .before in running-none (t .before .before .before .before .before .before .before .loop .inv) (t .merge-once .ensures) (omega (arith, c .if1 .taken))
+returns c = let t = merged (c .before) in running-none (looped (t .before) .loop .inv) (some-left (t .before)) (t .merge-once .ensures) (omega (arith, c .if1 .taken))
 
 add-total : tie.Need-add-total Inv-loop μ-loop
-add-total c = let t = c .before .before .before .before .before .before .before .before .before .before .before .before .before .before in omega (arith, total-fits (t .before .before .before .before .before .before .before .loop .inv) (t .merge-once .ensures))
+add-total c = let t = merged (c .before .before) in omega (arith, total-fits (looped (t .before) .loop .inv) (some-left (t .before)) (t .merge-once .ensures))
 
 sub-left : tie.Need-sub-left Inv-loop μ-loop
-sub-left c = omega (arith, c .before .before .before .before .before .before .before .before .before .before .before .before .before .before .before .before .before .before .before .before .loop-test .taken)
+sub-left c = omega (arith, some-left (merged (c .before .before) .before))
 
 loop-less : tie.Need-loop-less Inv-loop μ-loop
-loop-less c = omega (arith, c .before .before .before .before .before .before .before .before .before .before .before .before .before .before .before .before .before .before .before .before .loop-test .taken)
+loop-less c = omega (arith, some-left (merged (c .before .before) .before))
 
 loop-again : tie.Need-loop-again Inv-loop μ-loop
-loop-again c = let t = c .before .before .before .before .before .before .before .before .before .before .before .before .before .before in
+loop-again c = let t = merged (c .before .before) in
     let m = t .merge-once in
-    running-more (t .before .before .before .before .before .before .before .loop .inv) (m .ensures) (t .before .before .before .before .before .before .loop-test .taken) (m .kept .1 .1 .1 .0) (m .kept .1 .1 .1 .1 .0) (m .kept .1 .1 .1 .1 .1 .0) (m .kept .1 .1 .1 .1 .1 .1 .0) (m .kept .1 .1 .1 .1 .1 .1 .1 .0)
+    let k = m .kept .1 .1 .1 in
+    running-more (looped (t .before) .loop .inv) (some-left (t .before)) (m .ensures) (k .0) (k .1 .0) (k .1 .1 .0) (k .1 .1 .1 .0) (k .1 .1 .1 .1 .0)
 
 same-length-6 : tie.Need-same-length-6 Inv-loop μ-loop
 same-length-6 c = c .before .loop .inv .points

@@ -1,6 +1,6 @@
 -- `coarsen_merge::corner_free` meets its contract. Assumes nothing.
 use native.Mathlib.Omega.{arith}
-use Rattle.coarsen_merge.proofs.Corners.{Within, within}
+use Rattle.coarsen_merge.proofs.Corners.{within}
 use mathlib.Core.Path.{refl}
 use Rattle.coarsen_merge.proofs.corner_free.Statement.{statement}
 use Rattle.coarsen_merge.proofs.corner_free.Tie as tie

@@ -1,14 +1,28 @@
 -- `export_band::band_of` meets its contract. Assumes nothing.
 use borrow.Author.Needs.{needs}
-use Rattle.rule_exports.specs.Given.{bandOf}
+use mathlib.Core.Path.{ap, _∙_}
+use Rattle.rule_exports.specs.Told.{fieldOf}
+use Rattle.export_band.proofs.Told.{band-read}
 use Rattle.export_band.proofs.band_of.Statement.{statement}
 use Rattle.export_band.proofs.band_of.Tie as tie
 
-point-at-requires : tie.Need-point-at-requires
-point-at-requires c κs = search needs
+at-or-nan-requires : tie.Need-at-or-nan-requires
+at-or-nan-requires c κs = search needs
 
-point-at-requires-2 : tie.Need-point-at-requires-2
-point-at-requires-2 c κs = search needs
+at-or-nan-requires-2 : tie.Need-at-or-nan-requires-2
+at-or-nan-requires-2 c κs = search needs
+
+at-or-nan-requires-3 : tie.Need-at-or-nan-requires-3
+at-or-nan-requires-3 c κs = search needs
+
+at-or-nan-requires-4 : tie.Need-at-or-nan-requires-4
+at-or-nan-requires-4 c κs = search needs
+
+at-or-nan-requires-5 : tie.Need-at-or-nan-requires-5
+at-or-nan-requires-5 c κs = search needs
+
+at-or-nan-requires-6 : tie.Need-at-or-nan-requires-6
+at-or-nan-requires-6 c κs = search needs
 
 coefficients-requires : tie.Need-coefficients-requires
 coefficients-requires c κs = search needs
@@ -17,15 +31,19 @@ field-of-requires : tie.Need-field-of-requires
 field-of-requires c κs = search needs
 
 returns : tie.Need-returns
-unfolding bandOf
-returns c = cc
+returns c = let s = c .before .before .before .before .before .before .before .before .before .before .args in
+    band-read (s .kind) (s .numbers .now) (s .bounds .now) (s .lower) (s .upper) (c .before .before .before .before .before .before .before .at-or-nan .ensures) (c .before .before .before .before .before .before .at-or-nan2 .ensures) (c .before .before .before .before .before .at-or-nan3 .ensures) (c .before .before .before .before .at-or-nan4 .ensures) (c .before .before .before .at-or-nan5 .ensures) (c .before .before .at-or-nan6 .ensures) (c .field-of .ensures ∙ ap (fieldOf (s .kind)) (c .before .coefficients .ensures))
 
 pub band-of-spec : {M : Type 1} → statement M
 band-of-spec =
     tie.close
     (tie.spec
-    point-at-requires
-    point-at-requires-2
+    at-or-nan-requires
+    at-or-nan-requires-2
+    at-or-nan-requires-3
+    at-or-nan-requires-4
+    at-or-nan-requires-5
+    at-or-nan-requires-6
     coefficients-requires
     field-of-requires
     returns)

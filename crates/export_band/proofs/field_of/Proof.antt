@@ -1,6 +1,6 @@
 -- `export_band::field_of` meets its contract. Assumes nothing.
 use borrow.Author.Tests.{eq-eqb, ne-eqb}
-use Rattle.rule_exports.specs.Given.{fieldOf}
+use Rattle.rule_exports.specs.Told.{fieldOf}
 use Rattle.export_band.proofs.field_of.Statement.{statement}
 use Rattle.export_band.proofs.field_of.Tie as tie
 

@@ -1,37 +1,29 @@
 -- `export_band::put_answer` meets its contract. Assumes nothing.
-use Rattle.rule_exports.specs.Answers.{answered}
-use native.Mathlib.Omega.{arith}
+use mathlib.Core.Path.{_∙_}
+use Rattle.rule_exports.specs.Exports.{answerLeft}
+use Rattle.export_band.specs.Steps.{countsLeft}
 use borrow.Author.Needs.{needs}
-use lib.ListN.{length-set}
 use Rattle.export_band.proofs.put_answer.Statement.{statement}
 use Rattle.export_band.proofs.put_answer.Tie as tie
 
-slice-write-answer : tie.Need-slice-write-answer
-slice-write-answer c = search needs
+answer-count-requires : tie.Need-answer-count-requires
+answer-count-requires c κs = search needs
 
-slice-write-answer-2 : tie.Need-slice-write-answer-2
-slice-write-answer-2 c = simp length-set (omega arith)
+shown-counts-requires : tie.Need-shown-counts-requires
+shown-counts-requires c κs = search needs
 
-slice-write-answer-3 : tie.Need-slice-write-answer-3
-slice-write-answer-3 c = simp length-set (omega arith)
+put-counts-requires : tie.Need-put-counts-requires
+put-counts-requires c κs = search needs
 
-slice-write-answer-4 : tie.Need-slice-write-answer-4
-slice-write-answer-4 c = search needs
+answer-number-requires : tie.Need-answer-number-requires
+answer-number-requires c κs = search needs
 
 same-length : tie.Need-same-length
 same-length c = search needs
 
 returns : tie.Need-returns
-unfolding answered
-returns c = search needs
+unfolding answerLeft countsLeft
+returns c = record { number = c .answer-number .ensures; answer = c .before .before .before .put-counts .ensures ∙ rw (c .before .before .before .before .before .answer-count .ensures, c .before .before .before .before .shown-counts .ensures) }
 
 pub put-answer-spec : {M : Type 1} → statement M
-put-answer-spec =
-    tie.close
-    (tie.spec
-    slice-write-answer
-    slice-write-answer-2
-    slice-write-answer-3
-    slice-write-answer-4
-    same-length
-    returns)
+put-answer-spec = tie.close (tie.spec answer-count-requires shown-counts-requires put-counts-requires answer-number-requires same-length returns)

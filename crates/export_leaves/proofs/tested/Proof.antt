@@ -11,6 +11,12 @@ returns c = search needs
 returns-2 : tie.Need-returns-2
 returns-2 c = search needs
 
+validate-requires : tie.Need-validate-requires
+validate-requires c κs = search needs
+
+returns-3 : tie.Need-returns-3
+returns-3 c = search needs
+
 constraints-requires : tie.Need-constraints-requires
 constraints-requires c κs = (
   record {
@@ -31,14 +37,14 @@ enum-known-v c = search needs
 same-length : tie.Need-same-length
 same-length c = search needs
 
-returns-3 : tie.Need-returns-3
-returns-3 c = search needs
+returns-4 : tie.Need-returns-4
+returns-4 c = search needs
 
 same-length-2 : tie.Need-same-length-2
 same-length-2 c = search needs
 
-returns-4 : tie.Need-returns-4
-returns-4 c = search needs
+returns-5 : tie.Need-returns-5
+returns-5 c = search needs
 
 pub tested-spec : {M : Type 1} → statement M
 tested-spec =
@@ -46,10 +52,12 @@ tested-spec =
     (tie.spec
     returns
     returns-2
+    validate-requires
+    returns-3
     constraints-requires
     enum-told
     enum-known-v
     same-length
-    returns-3
+    returns-4
     same-length-2
-    returns-4)
+    returns-5)

@@ -2,7 +2,7 @@
 use native.Mathlib.Omega.{arith}
 use borrow.Author.Needs.{needs}
 use lib.ListN.{length-set}
-use Rattle.export_quality.proofs.Assessments.{counts-put}
+use Rattle.export_quality.proofs.Shown.{counts-put}
 use Rattle.export_quality.proofs.put_counts.Statement.{statement}
 use Rattle.export_quality.proofs.put_counts.Tie as tie
 

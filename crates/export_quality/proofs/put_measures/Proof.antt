@@ -2,7 +2,7 @@
 use native.Mathlib.Omega.{arith}
 use borrow.Author.Needs.{needs}
 use lib.ListN.{length-set}
-use Rattle.export_quality.proofs.Assessments.{measures-put}
+use Rattle.export_quality.proofs.Shown.{measures-put}
 use Rattle.export_quality.proofs.put_measures.Statement.{statement}
 use Rattle.export_quality.proofs.put_measures.Tie as tie
 

@@ -37,7 +37,7 @@ same-length-5 c = search needs
 returns : tie.Need-returns
 returns c = let s = c .before .before .before .before .before .before .before .before .before .before .before .before .before .before .before .before .before .before .before .before .before .before .before .before .before .before in
     let e = finite-are (s .args .g) _ _ (rw (s .pre .1 .0) at (c .before .before .before .before .before .before .before .before .before .before .before .before .before .before .before .before .before .before .before .sample-grid .ensures)) in
-    sampled-drawn (s .args .g) (s .args .n) _ _ _ _ _ _ _ (sym e ∙ (sym (c .before .before .before .before .before .before .before .before .before .before .before .before .before .before .before .all-finite .ensures) ∙ c .before .before .before .before .before .before .before .before .before .before .before .before .before .before .if1 .taken)) (c .before .before .before .before .before .before .before .before .draw-or-refusal .ensures)
+    sampled-drawn (s .args .g) (s .args .n) _ _ _ _ _ (sym e ∙ (sym (c .before .before .before .before .before .before .before .before .before .before .before .before .before .before .before .all-finite .ensures) ∙ c .before .before .before .before .before .before .before .before .before .before .before .before .before .before .if1 .taken)) (c .before .before .before .before .before .before .before .before .draw-or-refusal .ensures)
 
 same-length-6 : tie.Need-same-length-6
 same-length-6 c = search needs
@@ -45,7 +45,7 @@ same-length-6 c = search needs
 returns-2 : tie.Need-returns-2
 returns-2 c = let s = c .before .before .before .before .before .before .before .before .before .before .before .before in
     let e = finite-are (s .args .g) _ _ (rw (s .pre .1 .0) at (c .before .before .before .before .before .sample-grid .ensures)) in
-    sampled-refused (s .args .g) (s .args .n) _ _ _ _ _ _ (sym e ∙ (sym (c .before .all-finite .ensures) ∙ c .if1 .left))
+    sampled-refused (s .args .g) (s .args .n) _ _ _ _ (sym e ∙ (sym (c .before .all-finite .ensures) ∙ c .if1 .left))
 
 pub sample-or-refusal-spec : {M : Type 1} → statement M
 sample-or-refusal-spec =

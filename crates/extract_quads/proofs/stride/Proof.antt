@@ -1,6 +1,6 @@
 -- `extract_quads::stride` meets its contract. Assumes nothing.
 use native.Mathlib.Omega.{arith}
-use Rattle.extract_grid.proofs.Places.{near}
+use Rattle.extract_grid.proofs.Places.{near-of}
 use Rattle.extract_quads.proofs.Rows.{stride-is}
 use Rattle.extract_quads.proofs.stride.Statement.{statement}
 use Rattle.extract_quads.proofs.stride.Tie as tie
@@ -9,7 +9,7 @@ index-of-requires : tie.Need-index-of-requires
 index-of-requires c κs = let p = c .pre in (p .0, p .1 .1 .0)
 
 next-site-requires : tie.Need-next-site-requires
-next-site-requires c κs = let p = c .before .pre in near (p .0) (p .1 .1 .0)
+next-site-requires c κs = let p = c .before .pre in near-of (p .0) (p .1 .1 .0)
 
 index-of-requires-2 : tie.Need-index-of-requires-2
 index-of-requires-2 c κs = let p = c .before .before .pre in (p .0, rw (c .next-site .ensures) (p .1 .1 .1))

@@ -9,20 +9,17 @@ use Rattle.quality.proofs.count_points.Tie as tie
 add-n : tie.Need-add-n
 add-n c = search needs
 
+mul-starts : tie.Need-mul-starts
+mul-starts c = search needs
+
 mul-order : tie.Need-mul-order
 mul-order c = search needs
 
-mul-first : tie.Need-mul-first
-mul-first c = search needs
+mul-valences : tie.Need-mul-valences
+mul-valences c = search needs
 
-mul-val : tie.Need-mul-val
-mul-val c = search needs
-
-mul-deg : tie.Need-mul-deg
-mul-deg c = search needs
-
-mul-acc : tie.Need-mul-acc
-mul-acc c = search needs
+mul-quads-at : tie.Need-mul-quads-at
+mul-quads-at c = search needs
 
 quads-at-requires : tie.Need-quads-at-requires
 quads-at-requires c κs = search needs
@@ -32,6 +29,12 @@ valences-requires c κs = search needs
 
 irregular-vertices-requires : tie.Need-irregular-vertices-requires
 irregular-vertices-requires c κs = search needs
+
+mul-bad-links : tie.Need-mul-bad-links
+mul-bad-links c = search needs
+
+mul-bad-links-2 : tie.Need-mul-bad-links-2
+mul-bad-links-2 c = search needs
 
 bad-links-requires : tie.Need-bad-links-requires
 bad-links-requires c κs = let v = c .before .before .before .before .before in
@@ -50,14 +53,15 @@ count-points-spec =
     tie.close
     (tie.spec
     add-n
+    mul-starts
     mul-order
-    mul-first
-    mul-val
-    mul-deg
-    mul-acc
+    mul-valences
+    mul-quads-at
     quads-at-requires
     valences-requires
     irregular-vertices-requires
+    mul-bad-links
+    mul-bad-links-2
     bad-links-requires
     same-length
     returns)

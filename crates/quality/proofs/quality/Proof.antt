@@ -17,8 +17,8 @@ same-length-2 c = search needs
 
 returns : tie.Need-returns
 returns c = let w = c .before .before .before .before in
-    let q = w .before .before .before .before .before .before .before in
-    (q .quality-or-refusal .ensures, (rw (q .quality-or-refusal .kept .1 .1 .1 .1 .1 .0) at (w .clear-work .ensures .0), rw (q .quality-or-refusal .kept .1 .1 .1 .1 .1 .1 .0) at (w .clear-work .ensures .1)))
+    let q = w .before .before .before .before .before .before .before .quality-or-refusal in
+    (q .ensures, record { work = rw (q .kept .1 .1 .1 .1 .1 .0) at (w .clear-work .ensures .work); floats = rw (q .kept .1 .1 .1 .1 .1 .1 .0) at (w .clear-work .ensures .floats) })
 
 pub quality-spec : {M : Type 1} → statement M
 quality-spec =

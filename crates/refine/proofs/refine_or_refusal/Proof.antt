@@ -4,7 +4,7 @@ use borrow.Author.Needs.{needs}
 use mathlib.Core.Path.{_≡_, sym, _∙_}
 use lib.ListN.{length}
 use Rattle.rule_sheet.specs.declared.Verdict.the-variants.{Accepted}
-use Rattle.rule_sheet.specs.Sheet.{lentVerdict}
+use Rattle.rule_sheet.specs.Lent.{lentVerdict, roomOf, workWith}
 use Rattle.refine.proofs.Rule.{rule-lent, rule-few, rule-bare, rule-corner, rule-refinable, rule-tested}
 use Rattle.refine.proofs.refine_or_refusal.Statement.{statement}
 use Rattle.refine.proofs.refine_or_refusal.Tie as tie
@@ -20,7 +20,7 @@ refined c = c .before .before .before .before .before .before .before .before
 
 accepted : (c : tie.After-struct-known2) →
     let a = begin c .args in
-    lentVerdict (a .c) (length (a .points .now)) (length (a .quads .now)) (length (a .labels .now)) (length (a .w .now)) (a .floats) ≡ Accepted
+    lentVerdict (a .c) (roomOf (a .points .now) (a .quads .now) (a .labels .now)) (workWith (length (a .w .now)) (a .floats)) ≡ Accepted
 accepted c = sym (c .before .before .before .before .before .lent .ensures) ∙ c .before .before .before .enum-told .given .1
 
 lent-requires : tie.Need-lent-requires

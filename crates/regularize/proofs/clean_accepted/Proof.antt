@@ -9,7 +9,7 @@ length-requires : tie.Need-length-requires
 length-requires c κs = search needs
 
 run-passes-requires : tie.Need-run-passes-requires
-run-passes-requires c κs = passable (c .before .before .before .before .before .before .before .pre) _ (c .before .before .length .ensures)
+run-passes-requires c κs = passable (c .before .before .before .before .before .before .before .pre) _ _ (c .before .before .length .ensures)
 
 mul-clear-behind : tie.Need-mul-clear-behind
 mul-clear-behind c = omega (arith, c .before .before .before .before .before .before .before .before .before .before .before .before .pre .sheet .few .quads≤)
@@ -24,7 +24,7 @@ same-length-2 : tie.Need-same-length-2
 same-length-2 c = search needs
 
 returns : tie.Need-returns
-returns c = cleans-of (c .before .before .before .before .before .before .before .before .before .before .before .before .before .before .before .before .pre) _ (c .before .before .before .before .before .before .before .before .before .before .before .length .ensures) (c .before .before .before .before .before .before .before .before .run-passes .ensures) (c .before .before .before .before .before .before .before .before .run-passes .kept .1 .1 .1 .1 .1 .1 .0) (c .before .before .clear-behind .ensures)
+returns c = cleans-of (c .before .before .before .before .before .before .before .before .before .before .before .before .before .before .before .before .pre) _ _ (c .before .before .before .before .before .before .before .before .before .before .before .length .ensures) (c .before .before .before .before .before .before .before .before .run-passes .ensures) (c .before .before .before .before .before .before .before .before .run-passes .kept .1 .1 .1 .1 .1 .1 .0) (c .before .before .clear-behind .ensures)
 
 pub clean-accepted-spec : {M : Type 1} → statement M
 clean-accepted-spec =

@@ -1,5 +1,5 @@
 -- `sheet::is_large` meets its contract. Assumes nothing.
-use Rattle.rule_sheet.specs.Sheet.{isLarge}
+use Rattle.rule_sheet.specs.Lent.{isLarge}
 use borrow.Author.Needs.{needs}
 use Rattle.sheet.proofs.is_large.Statement.{statement}
 use Rattle.sheet.proofs.is_large.Tie as tie

@@ -1,5 +1,5 @@
 -- `sheet::is_short` meets its contract. Assumes nothing.
-use Rattle.rule_sheet.specs.Sheet.{isShort}
+use Rattle.rule_sheet.specs.Lent.{isShort}
 use borrow.Author.Needs.{needs}
 use Rattle.sheet.proofs.is_short.Statement.{statement}
 use Rattle.sheet.proofs.is_short.Tie as tie

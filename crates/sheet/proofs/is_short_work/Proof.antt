@@ -1,5 +1,5 @@
 -- `sheet::is_short_work` meets its contract. Assumes nothing.
-use Rattle.rule_sheet.specs.Sheet.{isShortWork}
+use Rattle.rule_sheet.specs.Lent.{isShortWork}
 use native.Mathlib.Omega.{arith}
 use borrow.Author.Needs.{needs}
 use Rattle.sheet.proofs.is_short_work.Statement.{statement}

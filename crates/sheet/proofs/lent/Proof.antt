@@ -1,6 +1,6 @@
 -- `sheet::lent` meets its contract. Assumes nothing.
 use borrow.Author.Needs.{needs}
-use Rattle.rule_sheet.specs.Sheet.{lentVerdict}
+use Rattle.rule_sheet.specs.Lent.{lentVerdict}
 use Rattle.sheet.proofs.Tests.{few-of}
 use mathlib.Core.Path.{sym, _∙_}
 use Rattle.sheet.proofs.lent.Statement.{statement}

@@ -38,7 +38,7 @@ slice-reshare-prefix-project-points c = search needs
 slice-aggregate-project-points : tie.Need-slice-aggregate-project-points
 slice-aggregate-project-points c = let s = c .before .before .before .before .before .before .before .before .before .before .before .before in
     let k = c .before .before .before .before .before .constraints in
-    sym (length-take-le _ _ (front-room _ (s .args .c .points) (s .args .w .now) (k .last .1 .1 .1 .1 .1 .0) (k .kept .1 .1 .1 .1 .1 .0) (s .pre .1)))
+    sym (length-take-le _ _ (front-room _ (s .args .c .points) (s .args .w .now) (k .last .1 .1 .1 .1 .0) (k .kept .1 .1 .1 .1 .0) (s .pre .1)))
 
 project-points-requires : tie.Need-project-points-requires
 project-points-requires c κs = let s = c .before .before .before .before .before .before .before .before .before .before .before .before .before in (s .pre .0 .points, land-masked (s .args .b) (s .args .c) (s .args .points .now) (s .args .quads .now) (s .args .labels .now) (s .pre .0) _ _ (masks-told (c .before .before .enum-told .given .1) (c .before .before .before .before .before .before .constraints .ensures .1)))

@@ -1,6 +1,6 @@
 //! A small tree in a temporary folder.
 #![allow(dead_code, reason = "no test uses all of them")]
-use std::path::{Path, PathBuf};
+use std::path::PathBuf;
 
 /// The crates of the tree: one of each family.
 pub const CRATES: &str = "\
@@ -106,10 +106,16 @@ pub struct Tree {
     pub root: PathBuf,
 }
 
+impl Drop for Tree {
+    fn drop(&mut self) {
+        let _ = std::fs::remove_dir_all(&self.root);
+    }
+}
+
 impl Tree {
-    /// The small tree, in a folder of this name.
+    /// The small tree, in a folder of this name outside the repository, whose own files the prover would take it for.
     pub fn new(name: &str) -> Tree {
-        let root = Path::new(env!("CARGO_TARGET_TMPDIR")).join("survey").join(name);
+        let root = std::env::temp_dir().join(format!("survey-{}-{name}", std::process::id()));
         let _ = std::fs::remove_dir_all(&root);
         let tree = Tree { root };
         tree.put("crates.txt", CRATES).put("README.md", "# A tree\n").put("docs/ORDER.md", "See README.md.\n");

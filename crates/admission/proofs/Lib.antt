@@ -1,0 +1,2 @@
+-- `Admitted` has what the tests of a call leave.
+pub mod Admitted

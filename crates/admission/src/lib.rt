@@ -1,0 +1,76 @@
+// Whether a call on a lent sheet is admitted: 12, 13, 1, 5, 6 and 7, in this order.
+
+use band::Band;
+use rule_sheet::Counts;
+use rule_sheet::Verdict;
+ghost use mathlib.Core.Path.{_≡_};
+ghost use Prim.Native.Nat.{_+_, _*_, _≤_, _<_};
+ghost use lib.ListN.{length, take};
+ghost use Rattle.setting.specs.Settings.{domainOf, settingOf};
+ghost use Rattle.rule_sheet.specs.Flat.{quadsOf};
+ghost use Rattle.rule_sheet.specs.Sheet.{sheetOf, sheetVerdict};
+ghost use Rattle.rule_sheet.specs.Lent.{lentOf, workWith};
+ghost use Rattle.rule_admission.specs.Admission.{domainVerdict, admits};
+ghost use Rattle.sheet.specs.Sheet.{masksOf, LentSheet};
+ghost use Rattle.admission.specs.Contracts.{MasksAt};
+
+// The number of a refusal: levels, bounds or length that are no band's.
+pub const BOX: u32 = 1;
+
+// 1, of a band.
+pub fn band_verdict(b: Band) -> Verdict
+    ensures { λ r. ⌜ r ≡ domainVerdict (domainOf b) ⌝ }
+{
+    if band::validate(b) {
+        return Verdict::Accepted;
+    }
+    Verdict::Refused(BOX)
+}
+
+// 5, 6 and 7, of a sheet that its slices hold; the masks of an accepted one go to the region of the work slice from
+// `at` on.
+fn test_sheet(
+    c: Counts,
+    points: &[f64],
+    quads: &[u32],
+    labels: &[u8],
+    at: usize,
+    w: &mut [u32],
+) -> Verdict
+    requires { ⌜ LentSheet c (length (now points)) (length (now quads)) (length (now labels)) ⌝ }
+    requires { ⌜ at + c .points ≤ length (now w) ⌝ }
+    ensures { λ r. ⌜ r ≡ sheetVerdict (sheetOf c (now (points .entry)) (now (quads .entry)) (now (labels .entry))) ⌝ }
+    ensures { λ r. ⌜ MasksAt r at (c .points) (masksOf (c .points) (quadsOf (c .quads) (now (quads .entry)))
+        (take (c .labels) (now (labels .entry)))) (now (w .exit)) ⌝ }
+{
+    sheet::constraints(c, points, quads, labels, &mut w[at..at + c.points])
+}
+
+// The tests of a call. The masks of an admitted sheet go to a region of the work slice, which is given in units of
+// points and quads together.
+pub fn admit(
+    b: Band,
+    c: Counts,
+    points: &[f64],
+    quads: &[u32],
+    labels: &[u8],
+    masks: usize,
+    w: &mut [u32],
+    floats: usize,
+) -> Verdict
+    requires { ⌜ masks < 64 ⌝ }
+    ensures { λ r. ⌜ r ≡ admits (settingOf b) (lentOf c (now (points .entry)) (now (quads .entry))
+        (now (labels .entry))) (workWith (length (now (w .entry))) floats) ⌝ }
+    ensures { λ r. ⌜ MasksAt r (masks * (c .points + c .quads)) (c .points) (masksOf (c .points)
+        (quadsOf (c .quads) (now (quads .entry))) (take (c .labels) (now (labels .entry)))) (now (w .exit)) ⌝ }
+{
+    let lent = sheet::lent(c, points.len(), quads.len(), labels.len(), w.len(), floats);
+    if let Verdict::Refused(n) = lent {
+        return Verdict::Refused(n);
+    }
+    let brought = band_verdict(b);
+    if let Verdict::Refused(n) = brought {
+        return Verdict::Refused(n);
+    }
+    test_sheet(c, points, quads, labels, masks * (c.points + c.quads), w)
+}

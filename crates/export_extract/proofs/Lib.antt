@@ -1,2 +1,0 @@
--- `Extraction` has the laws of the definition of the same name.
-pub mod Extraction

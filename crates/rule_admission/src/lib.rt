@@ -1,0 +1,1 @@
+// What a call is admitted by: see specs/.

@@ -1,0 +1,1 @@
+// What a call brings beside its sheet: see specs/.
