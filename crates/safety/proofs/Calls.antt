@@ -1,8 +1,8 @@
 -- Demand 3 of every list of calls. Assumes nothing.
 use Prim.Native.Nat.{ℕ, _+_, _*_, _≤_, _<_}
-use mathlib.Core.Bool.{Bool, true, false, cond, _||_}
-use mathlib.Core.Path.{_≡_, refl, sym, ap, _∙_}
-use mathlib.Core.List.{List, [], _∷_}
+use mathlib.Core.Bool.{Bool, true, false, cond, _||_, true≢false}
+use mathlib.Core.Path.{_≡_, refl, sym, ap, _∙_, subst}
+use mathlib.Core.List.{List, [], _∷_, _++_}
 use native.Mathlib.Omega.{arith}
 use lib.Dec.{eqb}
 use lib.ListN.{length}
@@ -20,10 +20,10 @@ use Rattle.rule_sheet.specs.Numbers.{large, short, edgeNumber}
 use Rattle.rule_sheet.specs.Quads.{Quad, num, touches, hasLabel, maskOf}
 use Rattle.rule_sheet.specs.Flat.{quadsOf, flatQuads}
 use Rattle.rule_sheet.specs.Sheet.{Sheet, sheetVerdict, countsOf, withQuads}
-use Rattle.rule_sheet.specs.Lent.{Lent, Work, Room, held, roomIn, isLarge, isShort, lentVerdict}
+use Rattle.rule_sheet.specs.Lent.{Lent, Work, Room, lentOf, held, roomIn, isLarge, isShort, lentVerdict}
 use Rattle.rule_sheet.specs.Sound.{Sound, squaredOf}
 use Rattle.rule_sheet.specs.Outcomes.{Outcome, refuses, gives, RunEnd, afterTest}
-use Rattle.rule_sheet.specs.Results.{padded, Makes, Alters, AltersQuads}
+use Rattle.rule_sheet.specs.Results.{answerOf, padded, Makes, Alters, AltersQuads}
 use Rattle.rule_sheet.specs.Claims.{NoClash}
 use Rattle.rule_admission.specs.Admission.{settingVerdict, admits}
 use Rattle.sheet.proofs.Flat.{length-quads}
@@ -45,7 +45,7 @@ use Rattle.safety_rules.specs.Commands as commands
 use Rattle.safety_rules.proofs.Fine.{accepted-of}
 use Rattle.safety_rules.proofs.Demand.{Good, Keeps, keeps-same, keeps-trans, swaps-kept, coarse-kept, regularize-done, regularize-again}
 use Rattle.safety_rules.proofs.RulesKeep.{good-of, sound-of, one-call, coarse-accepted}
-use Rattle.safety.specs.Calls.{holds, Call, regularizeCall, improveCall, coarsenCall, subdivideCall, Contract, lent, lentQuads, countsOr, resultOr, left, countIn, swapsIn, Lends, next, Run, after, swapsOf, Touches, SkinsApart, Untouched, NoneLeft, Demand3}
+use Rattle.safety.specs.Calls.{Call, regularizeCall, improveCall, coarsenCall, subdivideCall, Contract, lent, lentQuads, countsOr, resultOr, left, countIn, swapsIn, answerIn, isRefused, Lends, next, Run, after, swapsOf, Touches, SkinsApart, Unchanged, NoneLeft, Demand3, EveryList}
 use Rattle.safety.proofs.Slices.{quads-padded, length-padded, held-padded}
 use Rattle.safety.proofs.Finer.{made-kept}
 use Rattle.safety.proofs.Caps.{uncapped}
@@ -121,42 +121,38 @@ module _ (s : Setting) (x : Lent) (w : Work) (room : Room) (a : Good (held x)) w
       go Accepted false e true Accepted false h = refused-call astray
       go Accepted false e true Accepted true h = made-call (projectedSheet s t) (made-kept s (held x) a (or-left (isLarge c) (isShort c room) e) h)
 
--- ---- slices too short for their counts
+-- ---- refused calls
 
--- 12 or 13
-abbrev refusal : Lent → ℕ
-refusal x = cond (isLarge (x .counts)) large short
+-- a refusal among the answers of an outcome is the outcome's
+given-done : {A : Type 0} (e : RunEnd Sheet) (r : Answer) → r ≡ answerOf (gives e) → isRefused r ≡ true → A
+given-done e r a h = absurd (true≢false (sym h ∙ ap isRefused a))
 
-short-refused : (x : Lent) (w : Work) → holds x ≡ false → lentVerdict (x .counts) (roomIn x) w ≡ Refused (refusal x)
-unfolding lentVerdict
-short-refused x w e = rw (not-false (isShort (x .counts) (roomIn x)) e) (go (isLarge (x .counts)))
+quads-refused : (o : Outcome (RunEnd Sheet)) (x : Lent) (r : Answer) (Q : List ℕ) → AltersQuads o x r Q → isRefused r ≡ true → Q ≡ x .quads
+quads-refused (refuses n) x r Q L h = L .quads
+quads-refused (gives e) x r Q L h = given-done e r (L .answer) h
+
+sheet-refused : (o : Outcome (RunEnd Sheet)) (x : Lent) (r : Answer) (P : List Float) (Q L : List ℕ) → Alters o x r P Q L → isRefused r ≡ true → lentOf (countsOr r (x .counts)) P Q L ≡ x
+sheet-refused (refuses n) x r P Q L K h = rw (K .answer, K .points, K .quads, K .labelled) refl
+sheet-refused (gives e) x r P Q L K h = given-done e r (K .answer) h
+
+-- they leave what they were lent, and make no swap
+pub refused-left : (c : Call) → Contract c → isRefused (answerIn c) ≡ true → (left c ≡ lent c) × (swapsIn c ≡ 0)
+refused-left (regularizeCall s k x w r Q) C h = (rw (quads-refused _ x r Q C h), none r h)
   where
-    go : (over : Bool) → cond over (Refused large) (Refused short) ≡ Refused (cond over large short)
-    go true = refl
-    go false = refl
-
-short-admits : (s : Setting) (x : Lent) (w : Work) → holds x ≡ false → admits s x w ≡ Refused (refusal x)
-short-admits s x w e = sym (lent-refuses (settingVerdict s) x w (short-refused x w e))
-
-short-coarsen : (s : Setting) (k : ℕ) (x : Lent) (w : Work) → holds x ≡ false → coarsenVerdict s k x w ≡ Refused (refusal x)
-unfolding coarsenVerdict
-short-coarsen s k x w e = rw (short-refused x w e, short-admits s x w e) (go (eqb k 0))
+    none : (r : Answer) → isRefused r ≡ true → countIn r ≡ 0
+    none (answers.Done t) h = absurd (true≢false (sym h))
+    none (answers.Refused n) h = refl
+refused-left (improveCall s k x w r Q) C h = (rw (quads-refused _ x r Q C h), refl)
+refused-left (coarsenCall s k x w r P Q L) C h = (sheet-refused _ x r P Q L C h, refl)
+refused-left (subdivideCall s x w room r P Q L) C h = (none r h, refl)
   where
-    go : (z : Bool) → cond z (Refused (refusal x)) (Refused (refusal x)) ≡ Refused (refusal x)
-    go true = refl
-    go false = refl
+    none : (r : Answer) → isRefused r ≡ true → resultOr r x P Q L ≡ x
+    none (answers.Done t) h = absurd (true≢false (sym h))
+    none (answers.Refused n) h = refl
 
--- the call leaves them as they came, and makes no swap
-pub untouched : (c : Call) → Contract c → holds (lent c) ≡ false → (left c ≡ lent c) × (swapsIn c ≡ 0)
-unfolding swapRule coarsenRule subdivideRule
-untouched (regularizeCall s k x w r Q) C e = (rw (C .quads, short-admits s x w e), rw (C .answer, short-admits s x w e))
-untouched (improveCall s k x w r Q) C e = (rw (C .quads, short-admits s x w e), refl)
-untouched (coarsenCall s k x w r P Q L) C e = (rw (C .answer, C .points, C .quads, C .labelled, short-coarsen s k x w e), refl)
-untouched (subdivideCall s x w room r P Q L) C e = (rw (C .answer, short-admits s x w e), refl)
-
-all-untouched : (s : Sheet) (cs : List Call) → Run s cs → Untouched cs
-all-untouched s [] run = tt
-all-untouched s (c ∷ cs) (e, C, run) = (untouched c C, all-untouched (next s c) cs run)
+all-unchanged : (s : Sheet) (cs : List Call) → Run s cs → Unchanged cs
+all-unchanged s [] run = tt
+all-unchanged s (c ∷ cs) (e, C, run) = (refused-left c C, all-unchanged (next s c) cs run)
 
 -- ---- every call
 
@@ -170,12 +166,12 @@ one (coarsenCall s k x w r P Q L) a C = coarsen-call s k x a (coarsenVerdict s k
 one (subdivideCall s x w room r P Q L) a C = subdivide-call s x w room a r P Q L C
 
 -- the same from the sheet before a call to the sheet after it
-one-next : (s : Sheet) (c : Call) → Good s → Lends s (lent c) → Contract c → Keeps s (next s c) (swapsIn c)
-one-next s c a e C = go (holds (lent c)) refl
+one-next : (s : Sheet) (c : Call) → Good s → Lends s c → Contract c → Keeps s (next s c) (swapsIn c)
+one-next s c a e C = go (isRefused (answerIn c)) refl
   where
-    go : (h : Bool) → holds (lent c) ≡ h → Keeps s (cond h (held (left c)) s) (swapsIn c)
-    go true h = rw (e h) at (one c (rw (e h) a) C)
-    go false h = rw (untouched c C h .1) (keeps-same s a)
+    go : (h : Bool) → isRefused (answerIn c) ≡ h → Keeps s (cond h s (held (left c))) (swapsIn c)
+    go false h = rw (e h) at (one c (rw (e h) a) C)
+    go true h = rw (refused-left c C h .1) (keeps-same s a)
 
 every-call : (s : Sheet) (cs : List Call) → Good s → Run s cs → Keeps s (after s cs) (swapsOf cs)
 every-call s [] a run = keeps-same s a
@@ -244,7 +240,38 @@ module _ (s : Setting) (k : ℕ) (x : Lent) (w : Work) (t : Tally) (Q : List ℕ
 
 -- ---- the theorem
 
-pub demand3 : (s : Sheet) (cs : List Call) → Sound s → Run s cs → Demand3 s cs
+-- the places of a list
+front : (s : Sheet) (cs ds : List Call) → Run s (cs ++ ds) → Run s cs
+front s [] ds r = tt
+front s (c ∷ cs) ds (e, C, r) = (e, C, front (next s c) cs ds r)
+
+rest : (s : Sheet) (cs ds : List Call) → Run s (cs ++ ds) → Run (after s cs) ds
+rest s [] ds r = r
+rest s (c ∷ cs) ds (e, C, r) = rest (next s c) cs ds r
+
+joined : (s : Sheet) (cs ds : List Call) → after s (cs ++ ds) ≡ after (after s cs) ds
+joined s [] ds = refl
+joined s (c ∷ cs) ds = joined (next s c) cs ds
+
+-- the sheet at a place keeps what the start had
+good-at : (s : Sheet) (ds es : List Call) → Good s → Run s (ds ++ es) → Good (after s ds)
+good-at s ds es a run = every-call s ds a (front s ds es run) .good
+
+rises-never : (s : Sheet) (ds es fs : List Call) → Good s → Run s (ds ++ (es ++ fs)) → squaredOf (after s (ds ++ es)) ≤ squaredOf (after s ds)
+rises-never s ds es fs a run =
+    let k = every-call (after s ds) es (good-at s ds (es ++ fs) a run) (front (after s ds) es fs (rest s ds (es ++ fs) run)) in
+    rw (joined s ds es) (omega (arith, k .falls))
+
+none-anywhere : (s : Sheet) (ds es : List Call) (v : Setting) (k : ℕ) (x : Lent) (w : Work) (t : Tally) (Q : List ℕ) → Good s → Run s (ds ++ (regularizeCall v k x w (answers.Done t) Q ∷ es))
+    → squaredOf (held x) < 2 * k → NoneLeft v k (lentQuads x Q) w
+none-anywhere s ds es v k x w t Q a run h =
+    let c = regularizeCall v k x w (answers.Done t) Q in
+    let r : Run (after s ds) (c ∷ es) = rest s ds (c ∷ es) run in
+    let g : Good (held x) = rw (r .0 refl) (good-at s ds (c ∷ es) a run) in
+    none-left v k x w t Q g (r .1) h
+
+pub demand3 : EveryList
+unfolding EveryList
 demand3 s cs a run = go (every-call s cs (good-of s a) run)
   where
     go : Keeps s (after s cs) (swapsOf cs) → Demand3 s cs
@@ -252,7 +279,8 @@ demand3 s cs a run = go (every-call s cs (good-of s a) run)
       sound = sound-of (after s cs) (k .good);
       apart = apart-of (after s cs) (k .good .fine .no-clash);
       euler = k .euler;
+      never-rises = λ ds es fs e. rises-never s ds es fs (good-of s a) (subst (Run s) e run);
       falls = k .falls;
-      short = all-untouched s cs run;
-      last = λ v j x w t Q e h C. none-left v j x w t Q (rw e (k .good)) C h;
+      none-left = λ ds es v j x w t Q e h. none-anywhere s ds es v j x w t Q (good-of s a) (subst (Run s) e run) h;
+      refused = all-unchanged s cs run;
     }

@@ -2,9 +2,9 @@
 -- is what it was lent, what it answered and what it left, by its contract.
 -- Document 01, "The finer sheet and the rows".
 use Prim.Native.Nat.{ℕ, _+_, _*_, _/_, _%_, _^_, _≤_, _<_}
-use mathlib.Core.Bool.{Bool, true, false, cond, not}
+use mathlib.Core.Bool.{Bool, true, false, cond}
 use mathlib.Core.Path.{_≡_}
-use mathlib.Core.List.{List, [], _∷_}
+use mathlib.Core.List.{List, [], _∷_, _++_}
 use lib.ListN.{length}
 use lib.Ieee.{Float}
 use Rattle.setting.specs.Settings.{Setting}
@@ -14,7 +14,7 @@ use Rattle.rule_sheet.specs.declared.Answer.{Answer}
 use Rattle.rule_sheet.specs.declared.Answer.the-variants.{Done, Refused}
 use Rattle.rule_sheet.specs.Quads.{maskOf}
 use Rattle.rule_sheet.specs.Sheet.{Sheet}
-use Rattle.rule_sheet.specs.Lent.{Lent, Work, Room, lentOf, held, roomIn, isShort}
+use Rattle.rule_sheet.specs.Lent.{Lent, Work, Room, lentOf, held}
 use Rattle.rule_sheet.specs.Sound.{Sound, SameEuler, squaredOf}
 use Rattle.rule_sheet.specs.Results.{Makes, Alters, AltersQuads}
 use Rattle.rule_finer.specs.Subdivide.{subdivideRule}
@@ -24,10 +24,6 @@ use Rattle.rule_regularize.specs.Rule.{regularizeRule, improveRule}
 use Rattle.rule_coarsen.specs.Rule.{coarsenRule}
 
 -- ---- one call
-
--- the slices hold as much as the counts say: where they do not, 13 refuses, or 12 before it
-abbrev pub holds : Lent → Bool
-holds x = not (isShort (x .counts) (roomIn x))
 
 -- A call that was made: what it brought ("each call may bring its own field and band") and its passes, the sheet x that
 -- it was lent, its work slices w, its answer r, and at its end the slices that it may write; those of `subdivide` are
@@ -88,21 +84,32 @@ swapsIn (subdivideCall s x w room r P Q L) = 0
 
 -- ---- a list of calls
 
--- A call is lent the sheet s in slices of any length that hold it, with anything behind it, or slices too short for
--- their counts, of which nothing else is asked.
-abbrev pub Lends : Sheet → Lent → Type 0
-Lends s x = holds x ≡ true → held x ≡ s
+-- what a call answered
+abbrev pub answerIn : Call → Answer
+answerIn (regularizeCall s k x w r Q) = r
+answerIn (improveCall s k x w r Q) = r
+answerIn (coarsenCall s k x w r P Q L) = r
+answerIn (subdivideCall s x w room r P Q L) = r
 
--- the sheet after a call: the one that it left, or the one before it where its slices were too short, which it left
--- as they came (`short` below)
+-- it is a refusal
+abbrev pub isRefused : Answer → Bool
+isRefused (Done t) = false
+isRefused (Refused n) = true
+
+-- "hand each call the sheet that the last one left": an accepted call was lent the sheet s, in slices of any length
+-- that hold it, with anything behind it; of what a refused one was lent nothing is asked
+abbrev pub Lends : Sheet → Call → Type 0
+Lends s c = isRefused (answerIn c) ≡ false → held (lent c) ≡ s
+
+-- the sheet after a call: the one that it left, "after a refusal the sheet before it"
 abbrev pub next : Sheet → Call → Sheet
-next s c = cond (holds (lent c)) (held (left c)) s
+next s c = cond (isRefused (answerIn c)) s (held (left c))
 
 -- calls one after the other from the sheet s on, each lent the sheet after the one before: "nobody else writes the
 -- sheet between calls"
 abbrev pub Run : Sheet → List Call → Type 0
 Run s [] = Unit {0}
-Run s (c ∷ cs) = Lends s (lent c) × Contract c × Run (next s c) cs
+Run s (c ∷ cs) = Lends s c × Contract c × Run (next s c) cs
 
 -- the sheet after them
 abbrev pub after : Sheet → List Call → Sheet
@@ -124,11 +131,11 @@ Touches s v l = maskOf (s .quads) (s .labels) v / 2 ^ l % 2 ≡ 1
 unfoldable pub SkinsApart : Sheet → Type 0
 SkinsApart s = (v j : ℕ) → j < 4 → Touches s v (2 * j) → Touches s v (2 * j + 1) → ⊥
 
--- each call that was lent slices too short for their counts left them as they came, and made no swap: "A sheet
--- altered in its own slices stays unchanged", "a refused call adds 0"
-abbrev pub Untouched : List Call → Type 0
-Untouched [] = Unit {0}
-Untouched (c ∷ cs) = (holds (lent c) ≡ false → (left c ≡ lent c) × (swapsIn c ≡ 0)) × Untouched cs
+-- each refused call, whatever its number, left what it was lent as it came, and made no swap: "A sheet altered in its
+-- own slices stays unchanged", "a refused call adds 0"
+abbrev pub Unchanged : List Call → Type 0
+Unchanged [] = Unit {0}
+Unchanged (c ∷ cs) = (isRefused (answerIn c) ≡ true → (left c ≡ lent c) × (swapsIn c ≡ 0)) × Unchanged cs
 
 -- "No swap is left if, on the sheet left with nothing barred, no edge meets regularize's rule with what that call
 -- brought: the same call once more counts 0 and changes nothing."
@@ -141,16 +148,29 @@ pub record NoneLeft (s : Setting) (k : ℕ) (x : Lent) (w : Work) : Type 0 where
 
 -- demand 3 of a list of calls from the sheet s on
 pub record Demand3 (s : Sheet) (cs : List Call) : Type 0 where
-  -- the sheet after it is what s was: accepted, closed, and at each point one ring
+  -- "After the list all of that still holds": accepted, "each edge with two quads running opposite ways, each point
+  -- with one ring of quads"
   pub sound : Sound (after s cs)
-  -- and no level or face is joined to its opposite
+  -- "no point touches both levels or two opposite box faces"
   pub apart : SkinsApart (after s cs)
-  -- points minus edges plus quads is kept
+  -- "points minus edges plus quads equals its value at the start"
   pub euler : SameEuler s (after s cs)
-  -- the sum of (quads at a point minus 4) squared never rises, and falls by 2 for each swap of `regularize`
+  -- "The sum over points of (quads there minus 4) squared never rises": from any place of the list to any later one
+  pub never-rises : (ds es fs : List Call) → cs ≡ ds ++ (es ++ fs)
+      → squaredOf (after s (ds ++ es)) ≤ squaredOf (after s ds)
+  -- "its value after the list plus twice the total of regularize's counts is at most its value at the start"
   pub falls : squaredOf (after s cs) + 2 * swapsOf cs ≤ squaredOf s
-  -- a call that was lent slices too short for their counts leaves them as they came
-  pub short : Untouched cs
-  -- one more call, an accepted `regularize` with more passes than half that sum, leaves no swap
-  pub last : (v : Setting) (k : ℕ) (x : Lent) (w : Work) (t : Tally) (Q : List ℕ) → held x ≡ after s cs
-      → squaredOf (held x) < 2 * k → Contract (regularizeCall v k x w (Done t) Q) → NoneLeft v k (lentQuads x Q) w
+  -- "Given more passes than half the sum it finds, an accepted regularize leaves no swap that its rule takes": anywhere
+  -- in the list
+  pub none-left : (ds es : List Call) (v : Setting) (k : ℕ) (x : Lent) (w : Work) (t : Tally) (Q : List ℕ)
+      → cs ≡ ds ++ (regularizeCall v k x w (Done t) Q ∷ es) → squaredOf (held x) < 2 * k
+      → NoneLeft v k (lentQuads x Q) w
+  -- "refused ones included": what a refused call leaves
+  pub refused : Unchanged cs
+
+-- the theorem: "Take every list of regularize, improve_layout, coarsen and subdivide calls, each answering by its rule
+-- in document 01, refused ones included, whatever passes, field and band each brings. Start from any accepted sheet,
+-- each edge with two quads running opposite ways, each point with one ring of quads, and hand each call the sheet that
+-- the last one left."
+unfoldable pub EveryList : Type 0
+EveryList = (s : Sheet) (cs : List Call) → Sound s → Run s cs → Demand3 s cs
