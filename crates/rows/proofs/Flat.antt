@@ -28,10 +28,10 @@ use Rattle.sheet.proofs.Tests.{length-points}
 use Rattle.sheet.proofs.Fronts.{flat-quads-snoc}
 use Rattle.incidence.specs.Corners.{edgeOrder}
 use Rattle.refine.proofs.Edges.{sorted}
-use Rattle.rule_finer.specs.Smoothed.{those, labelCount, centreAt}
+use Rattle.rule_finer.specs.Smoothed.{those, labelCount}
 use Rattle.subdivide_points.specs.Steps.{cornerCentre, flatSheet}
 use Rattle.subdivide_points.proofs.Quads.{quadOf, point-quads}
-use Rattle.subdivide_points.proofs.Moved.{map-map, map-ext, each-append, those-below, ones-count, point-is, centre-is}
+use Rattle.subdivide_points.proofs.Moved.{centreIn, map-map, map-ext, each-append, those-below, ones-count, point-is, centre-is}
 use Rattle.rule_rows.specs.Rows.{keyOf, isCopied, copies, numberOf, isLabelled, labelCentres, inward, copyOf, cornerFor, copiedAt, copiedQuads, labelOf, stripAt, rowSides}
 use Rattle.projection.specs.Project.{isOnto, ontoOf}
 use Rattle.rows.specs.Steps.{copiedBy, copiedIn, numberIn, ofLabel, centresOf, inwardAt, copyAt, foundAt, copiesTo, cornerLabel, cornerIn, seamCorners, seamAt, seamsTo, seamsOf, stripIn, Labelled}
@@ -87,7 +87,7 @@ module _ {np nq : ℕ} {P : List Float} {Q labels : List ℕ} (L : Labelled np n
 
   -- the centres of the quads of one label, by corners
   centres-of : (l : ℕ) (xs : List ℕ) → Each 0 (λ c. c < 4 * nq) xs
-      → map (cornerCentre P Q) (keep (ofLabel labels l) xs) ≡ map (centreAt (flatSheet np nq P Q labels)) (keep (isLabelled (flatSheet np nq P Q labels) l) (map quadOf xs))
+      → map (cornerCentre P Q) (keep (ofLabel labels l) xs) ≡ map (centreIn (flatSheet np nq P Q labels)) (keep (isLabelled (flatSheet np nq P Q labels) l) (map quadOf xs))
   unfolding cornerCentre
   centres-of l [] h = refl
   centres-of l (x ∷ xs) h = rw (getD-take nq labels (x / 4) 0 (low x (h 0 (omega arith)))) (go (ofLabel labels l x) (centres-of l xs (λ i b. h (suc i) (omega arith))))
@@ -95,8 +95,8 @@ module _ {np nq : ℕ} {P : List Float} {Q labels : List ℕ} (L : Labelled np n
       low : (c : ℕ) → c < 4 * nq → c / 4 < nq
       low c b = omega arith
 
-      go : (t : Bool) → map (cornerCentre P Q) (keep (ofLabel labels l) xs) ≡ map (centreAt (flatSheet np nq P Q labels)) (keep (isLabelled (flatSheet np nq P Q labels) l) (map quadOf xs))
-          → map (cornerCentre P Q) (consIf t x (keep (ofLabel labels l) xs)) ≡ map (centreAt (flatSheet np nq P Q labels)) (consIf t (x / 4) (keep (isLabelled (flatSheet np nq P Q labels) l) (map quadOf xs)))
+      go : (t : Bool) → map (cornerCentre P Q) (keep (ofLabel labels l) xs) ≡ map (centreIn (flatSheet np nq P Q labels)) (keep (isLabelled (flatSheet np nq P Q labels) l) (map quadOf xs))
+          → map (cornerCentre P Q) (consIf t x (keep (ofLabel labels l) xs)) ≡ map (centreIn (flatSheet np nq P Q labels)) (consIf t (x / 4) (keep (isLabelled (flatSheet np nq P Q labels) l) (map quadOf xs)))
       go true e = rw (e, centre-is (L .held .cornered) P labels (x / 4) (low x (h 0 (omega arith))))
       go false e = e
 

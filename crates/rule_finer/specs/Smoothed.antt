@@ -12,8 +12,8 @@ use Rattle.points.specs.Points.{pointIn}
 use Rattle.rule_sheet.specs.Quads.{Quad, quad, is, all, corners, at, uses, isEdge, hasLabel}
 use Rattle.rule_sheet.specs.Edges.{Pair, joinTo, edgesOf}
 use Rattle.rule_sheet.specs.Sheet.{Sheet}
-use Rattle.rule_sheet.specs.Places.{centreOf}
-use Rattle.smoothing.specs.Smooth.{halfway, edgePoint, smooth}
+use Rattle.smoothing.specs.Arithmetic.{Arithmetic}
+use Rattle.smoothing.specs.Smooth.{quadCentre, halfway, edgePoint, smooth}
 use Rattle.smoothing.specs.Rounded.{pointwise}
 use Rattle.rule_finer.specs.Finer.{asked, finerSheet}
 
@@ -68,46 +68,53 @@ creases s v = those (isCrease s v) (length (s .points))
 unfoldable pub labelCount : Sheet → ℕ → ℕ
 labelCount s v = countTo (hasLabel (s .quads) (s .labels) v) 8
 
--- ---- the smoothed points
+-- ---- the smoothed points, over any arithmetic: `at` has the number at each point
 
 -- point v
 abbrev pub pointOf : Sheet → ℕ → Point
 pointOf s v = pointIn (s .points) v
 
--- the centre of quad i
-unfoldable pub centreAt : Sheet → ℕ → Point
-centreAt s i = centreOf (pointOf s) (getD (s .quads) i (quad 0 0 0 0))
+-- the centre of a quad
+abbrev pub centreWith : (A : Arithmetic) → (ℕ → A .Number) → Quad → A .Number
+centreWith A at (quad a b c d) = quadCentre A (at a) (at b) (at c) (at d)
 
--- where the old point v comes to. "Interior points follow Catmull and Clark"; "A point of more than two labels or
--- crease edges, or of one crease edge, stays; one with two takes 6:1:1 over 8. Neighbours are summed in ascending
--- number, quad centres in quad order."
-unfoldable pub oldPoint : Sheet → ℕ → Point
-oldPoint s v =
-    smooth pointwise (labelCount s v) (map (pointOf s) (creases s v)) (pointOf s v)
-    (map (centreAt s) (pointQuads (s .quads) v)) (map (pointOf s) (neighbours s v))
+module _ (A : Arithmetic) (s : Sheet) (at : ℕ → A .Number) where
+  -- the centre of quad i
+  unfoldable pub centreAt : ℕ → A .Number
+  centreAt i = centreWith A at (getD (s .quads) i (quad 0 0 0 0))
 
--- where the new point of the edge of u and v comes to. "An edge inside one label gets the mean of its two ends and
--- two quad centres; a crease edge, between two labels, keeps its halfway point."
-unfoldable pub edgePlace : Sheet → ℕ → ℕ → Point
-edgePlace s u v =
-    let l = edgeQuads (s .quads) u v in
-    cond (isCrease s u v) (halfway pointwise (pointOf s u) (pointOf s v))
-    (edgePoint pointwise (pointOf s u) (pointOf s v) (centreAt s (getD l 0 0)) (centreAt s (getD l 1 0)))
+  -- where the old point v comes to. "Interior points follow Catmull and Clark"; "A point of more than two labels or
+  -- crease edges, or of one crease edge, stays; one with two takes 6:1:1 over 8. Neighbours are summed in ascending
+  -- number, quad centres in quad order."
+  unfoldable pub oldPoint : ℕ → A .Number
+  oldPoint v =
+      smooth A (labelCount s v) (map at (creases s v)) (at v) (map centreAt (pointQuads (s .quads) v))
+      (map at (neighbours s v))
 
--- where the new point of a key comes to: below n * n it is that of an edge, smaller * n + larger, and from there on
--- that of a quad's centre
-unfoldable pub newPlace : Sheet → ℕ → Point
-newPlace s k =
-    let n = length (s .points) in
-    cond (ltb k (n * n)) (edgePlace s (k / n) (k % n)) (centreAt s (k - n * n))
+  -- where the new point of the edge of u and v comes to. "An edge inside one label gets the mean of its two ends and
+  -- two quad centres; a crease edge, between two labels, keeps its halfway point."
+  unfoldable pub edgePlace : ℕ → ℕ → A .Number
+  edgePlace u v =
+      let l = edgeQuads (s .quads) u v in
+      cond (isCrease s u v) (halfway A (at u) (at v))
+      (edgePoint A (at u) (at v) (centreAt (getD l 0 0)) (centreAt (getD l 1 0)))
 
--- the finer sheet with its points smoothed: the old ones, and behind them the new ones in the order in which they
--- are first asked for
+  -- where the new point of a key comes to: below n * n it is that of an edge, smaller * n + larger, and from there on
+  -- that of a quad's centre
+  unfoldable pub newPlace : ℕ → A .Number
+  newPlace k =
+      let n = length (s .points) in
+      cond (ltb k (n * n)) (edgePlace (k / n) (k % n)) (centreAt (k - n * n))
+
+  -- all points of the finer sheet: the old ones, and behind them the new ones in the order in which they are first
+  -- asked for
+  unfoldable pub smoothPlaces : List (A .Number)
+  smoothPlaces = let n = length (s .points) in tabulate oldPoint n ++ map newPlace (asked n (s .quads))
+
+-- the finer sheet with its points smoothed, in the arithmetic of IEEE 754
 unfoldable pub smoothSheet : Sheet → Sheet
-smoothSheet s =
-    let n = length (s .points) in
-    record {
-      points = tabulate (oldPoint s) n ++ map (newPlace s) (asked n (s .quads));
-      quads = finerSheet s .quads;
-      labels = finerSheet s .labels;
-    }
+smoothSheet s = record {
+  points = smoothPlaces pointwise s (pointOf s);
+  quads = finerSheet s .quads;
+  labels = finerSheet s .labels;
+}

@@ -62,7 +62,7 @@ isLabelled s l i = eqb (getD (s .labels) i 0) l
 
 -- the centres of the quads of the label l at v, in quad order
 unfoldable pub labelCentres : Sheet → ℕ → ℕ → List Point
-labelCentres s v l = map (centreAt s) (keep (isLabelled s l) (pointQuads (s .quads) v))
+labelCentres s v l = map (centreAt pointwise s (pointOf s)) (keep (isLabelled s l) (pointQuads (s .quads) v))
 
 -- from v to the mean of these centres
 unfoldable pub inward : Sheet → ℕ → ℕ → Point

@@ -17,10 +17,10 @@ use Rattle.rule_sheet.specs.Sheet.{Sheet}
 use Rattle.rule_sheet.specs.Lent.{isLarge}
 use Rattle.sheet.proofs.Tests.{few-of, all-tab}
 use Rattle.rule_sheet.specs.Sheet.{countsOf}
-use Rattle.rule_finer.specs.Finer.{asked, finer, fourLabels, finerSheet, newPoints, positionOf, made, requests}
+use Rattle.rule_finer.specs.Finer.{finer, fourLabels, finerSheet, newPoints, positionOf, made, requests}
 use Rattle.refine.specs.Finer.{finerCount, keyOf}
 use Rattle.refine.proofs.Requests.{asked-made}
-use Rattle.rule_finer.specs.Smoothed.{oldPoint, newPlace, pointOf, smoothSheet}
+use Rattle.rule_finer.specs.Smoothed.{pointOf, smoothPlaces, smoothSheet}
 use Rattle.rule_finer.specs.Subdivide.{landing, landsAt, projectedSheet}
 use Rattle.projection.specs.Project.{ontoOf}
 use Rattle.projection.proofs.Finite.{onto-finite}
@@ -30,10 +30,8 @@ use Rattle.safety_rules.proofs.Demand.{Good, Keeps, finer-kept}
 
 -- how many points the smoothed sheet has
 pub smooth-count : (s : Sheet) → length (smoothSheet s .points) ≡ finerCount (length (s .points)) (s .quads)
-unfolding smoothSheet finerCount
-smooth-count s =
-    let n = length (s .points) in
-    length-append (tabulate (oldPoint s) n) (map (newPlace s) (asked n (s .quads))) ∙ rw (length-tab (oldPoint s) n, length-map (asked n (s .quads)) (newPlace s))
+unfolding smoothSheet smoothPlaces finerCount
+smooth-count s = simp (length-append, length-tab, length-map)
 
 module _ (b : Setting) (s : Sheet) where
   abbrev n : ℕ

@@ -12,24 +12,24 @@ use Rattle.lists.specs.Sort.{consIf}
 use Rattle.lists.proofs.Laws.{lt-or-le}
 use Rattle.rule_sheet.specs.Quads.{Quad, quad, num, is, corners, at, valence, side, isEdge}
 use Rattle.rule_sheet.specs.Edges.{pair, joinTo, edgeIf, edgesFrom, edgesOf}
-use Rattle.rule_sheet.specs.Closed.{Closed}
+use Rattle.rule_sheet.specs.Closed.{atPoint, Closed}
 use Rattle.rule_sheet.proofs.Sums.{upto, upto-ext}
 use Rattle.rule_sheet.proofs.FirstUse.{is-same, is-other}
 use Rattle.rule_sheet.specs.Claims.{Below, Differ, All}
 use Rattle.rule_passes.specs.Choices.{noneQuad}
 use Rattle.rule_sheet.proofs.Rings.{zero-or}
-use Rattle.rule_sheet.proofs.Weigh.{at-same}
+use Rattle.rule_sheet.proofs.Weigh.{at-same, side-at-end}
 use Rattle.rule_coarsen.proofs.MergePass.{sum-zero, no-loop}
 use Rattle.rule_coarsen.proofs.Renumber.{upto-add, upto-zero}
 use Rattle.safety_rules.proofs.Finer.{handshake, all-at}
 
 -- ---- the length of the list of edges
 
-length-if : {A : Type 0} (b : Bool) (x : A) → length (consIf b x []) ≡ num b
+pub length-if : {A : Type 0} (b : Bool) (x : A) → length (consIf b x []) ≡ num b
 length-if true x = refl
 length-if false x = refl
 
-length-join : {A : Type 0} (f : ℕ → List A) (n : ℕ) → length (joinTo f n) ≡ upto n (λ i. length (f i))
+pub length-join : {A : Type 0} (f : ℕ → List A) (n : ℕ) → length (joinTo f n) ≡ upto n (λ i. length (f i))
 unfolding joinTo
 length-join f zero = refl
 length-join f (suc n) = omega (arith, length-append (joinTo f n) (f n), length-join f n)
@@ -99,6 +99,26 @@ sides-at n (quad w x y z ∷ S) h a = omega (
   one-side n a y z w (h w (omega (arith, at-same w (λ p n. 1) z x))),
   sides-at n S (λ v k. h v (omega arith)) a,
 )
+
+-- and each has one that leads to a
+pub sides-to : (n : ℕ) (S : List Quad) → Below n S → (a : ℕ) → upto n (λ b. side S b a) ≡ valence S a
+sides-to n S h a = upto-ext (λ b. side S b a) (λ b. atPoint S a (λ p n. is b p)) n (λ b l. side-at-end S b a) ∙ before-at n S h a
+  where
+    before-at : (n : ℕ) (S : List Quad) → Below n S → (a : ℕ) → upto n (λ b. atPoint S a (λ p n. is b p)) ≡ valence S a
+    unfolding Below
+    before-at n [] h a = upto-zero n
+    before-at n (quad w x y z ∷ S) h a = omega (
+      arith,
+      upto-add n (λ b. at a (λ p n. is b p) z w x + (at a (λ p n. is b p) w x y + (at a (λ p n. is b p) x y z + at a (λ p n. is b p) y z w))) (λ b. atPoint S a (λ p n. is b p)),
+      upto-add n (λ b. at a (λ p n. is b p) z w x) (λ b. at a (λ p n. is b p) w x y + (at a (λ p n. is b p) x y z + at a (λ p n. is b p) y z w)),
+      upto-add n (λ b. at a (λ p n. is b p) w x y) (λ b. at a (λ p n. is b p) x y z + at a (λ p n. is b p) y z w),
+      upto-add n (λ b. at a (λ p n. is b p) x y z) (λ b. at a (λ p n. is b p) y z w),
+      one-side n a x w z (h z (omega (arith, at-same z (λ p n. 1) y w))),
+      one-side n a y x w (h w (omega (arith, at-same w (λ p n. 1) z x))),
+      one-side n a z y x (h x (omega (arith, at-same x (λ p n. 1) w y))),
+      one-side n a w z y (h y (omega (arith, at-same y (λ p n. 1) x z))),
+      before-at n S (λ v k. h v (omega arith)) a,
+    )
 
 -- ---- closed sheets
 

@@ -49,7 +49,7 @@ min-low : (u v n : ℕ) → u < n → v < n → min u v < n
 min-low u v n p q = omega arith
 
 -- an edge's key is below a centre's
-edge-below : (n u v : ℕ) → u < n → v < n → edgeKey n u v < n * n
+pub edge-below : (n u v : ℕ) → u < n → v < n → edgeKey n u v < n * n
 edge-below n u v lu lv = omega (arith, suc-mul (min u v) n, mul-le-mul-right n (min-low u v n lu lv), max-low u v n lu lv)
 
 -- the keys of a sheet are those of its edges and its quads
@@ -136,17 +136,17 @@ module _ (n : ℕ) (S : List Quad) (below : Below n S) (pr : All Differ S) where
   unfolding asked
   asked-by y h = omega (arith, (firsts-some y (keys n 0 S) []) .0 h)
 
-  mid-asked : (u v : ℕ) → 0 < side S u v → 0 < sum (is (edgeKey n u v)) (asked n S)
+  pub mid-asked : (u v : ℕ) → 0 < side S u v → 0 < sum (is (edgeKey n u v)) (asked n S)
   mid-asked u v h = was-asked (edgeKey n u v) (edge-asked n u v 0 S (omega (arith, side-one u v 0 S)))
 
-  cen-asked : (i : ℕ) → i < length S → 0 < sum (is (centreKey n i)) (asked n S)
+  pub cen-asked : (i : ℕ) → i < length S → 0 < sum (is (centreKey n i)) (asked n S)
   cen-asked i l = was-asked (centreKey n i) (subst (λ k. 0 < sum (is (centreKey n k)) (keys n 0 S)) (omega arith) (centre-asked n 0 i S l))
 
-  from-low : (u v : ℕ) → 0 < side S u v → u < n
+  pub from-low : (u v : ℕ) → 0 < side S u v → u < n
   unfolding Below
   from-low u v h = below u (omega (arith, at-point-le S u (λ p n. is v n) (λ p n. 1) (λ p n. is-le v n)))
 
-  to-low : (u v : ℕ) → 0 < side S u v → v < n
+  pub to-low : (u v : ℕ) → 0 < side S u v → v < n
   unfolding Below
   to-low u v h = below v (omega (arith, side-at-end S u v, at-point-le S v (λ p n. is u p) (λ p n. 1) (λ p n. is-le u p)))
 

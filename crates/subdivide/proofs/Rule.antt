@@ -2,7 +2,7 @@
 use Prim.Native.Nat.{ℕ, _*_, _≤_, _<_}
 use mathlib.Core.Path.{_≡_, sym, ap, _∙_}
 use mathlib.Core.Bool.{Bool, true, false, _||_}
-use mathlib.Core.List.{List, _++_, map}
+use mathlib.Core.List.{List, _++_}
 use native.Mathlib.Omega.{arith}
 use lib.ListN.{length, getD, take, drop, length-append, length-map}
 use lib.Seq.{length-take-le, take-at}
@@ -37,12 +37,12 @@ use Rattle.sheet.proofs.Results.{refused-fills}
 use Rattle.admission.specs.Contracts.{MasksAt}
 use Rattle.admission.proofs.Admitted.{admitted}
 use Rattle.incidence.proofs.Corners.{cornered}
-use Rattle.rule_finer.specs.Finer.{asked, finerSheet}
+use Rattle.rule_finer.specs.Finer.{finerSheet}
 use Rattle.refine.specs.Requests.{firstsOf, own}
 use Rattle.refine.specs.Loops.{pointsAfter, Behind, Worked, Finished}
 use Rattle.refine.proofs.Rule.{countsAfter, tested-finished}
 use Rattle.refine.proofs.Sheet.{count-is, finer-counts}
-use Rattle.rule_finer.specs.Smoothed.{paired, newPlace, oldPoint, smoothSheet}
+use Rattle.rule_finer.specs.Smoothed.{paired, smoothPlaces, smoothSheet}
 use Rattle.subdivide_points.specs.Steps.{masksAt, flatSheet, Smoothable}
 use Rattle.sheet.proofs.Fronts.{front-quads, points-front, quads-front}
 use Rattle.rule_finer.specs.Subdivide.{landing, landsAt, projectedSheet, projected, subdivided, subdivideRule}
@@ -157,14 +157,12 @@ module _ (b : Band) (c : Counts) (P : List Float) (Q labels v : List ℕ) (T : T
         → Front (flatPoints (smoothSheet (flatSheet (c .points) (c .quads) P Q labels) .points)) A
         × (Front (flatQuads (smoothSheet (flatSheet (c .points) (c .quads) P Q labels) .quads)) B × Front (smoothSheet (flatSheet (c .points) (c .quads) P Q labels) .labels) D)
         → sheetOf (countsAfter c n) A B D ≡ smoothSheet lentSheet
-    unfolding smoothSheet
+    unfolding smoothSheet smoothPlaces
     same-sheet {A} {B} {D} F =
         let s = flatSheet (c .points) (c .quads) P Q labels in
         let same : s ≡ lentSheet = rw (T .refinable .same) in
         let k : countsOf (finerSheet s) ≡ countsAfter c n = rw same counts-are in
-        let i : length (smoothSheet s .points) ≡ n =
-        length-append (tabulate (oldPoint s) (length (s .points))) (map (newPlace s) (asked (length (s .points)) (s .quads)))
-        ∙ rw (length-tab (oldPoint s) (length (s .points)), length-map (asked (length (s .points)) (s .quads)) (newPlace s), length-points (c .points) P) (sym (en ∙ count-is (T .refinable .cornered))) in
+        let i : length (smoothSheet s .points) ≡ n = simp (length-append, length-tab, length-map, length-points) (sym (en ∙ count-is (T .refinable .cornered))) in
         let x = points-front (smoothSheet s .points) A n (F .0) i in
         let y = quads-front (smoothSheet s .quads) B (4 * c .quads) (F .1 .0) (ap (λ (z : Counts). z .quads) k) in
         let z : take (4 * c .quads) D ≡ smoothSheet s .labels = rw (ap (λ (z : Counts). z .labels) k) at (F .1 .1 .is) in

@@ -10,6 +10,7 @@ use lib.ListN.{getD, take, List·getD-map}
 use lib.Seq.{getD-take}
 use lib.Dec.{eqb}
 use lib.Ieee.{Float}
+use Rattle.points.specs.declared.Point.{Point}
 use Rattle.points.specs.Points.{pointAt}
 use Rattle.lists.specs.Sort.{tabulate, itself, consIf, keep}
 use Rattle.lists.specs.Every.{countTo}
@@ -20,19 +21,35 @@ use Rattle.rule_sheet.specs.Flat.{corner, quadAt, quadsOf}
 use Rattle.sheet.specs.Flat.{from}
 use Rattle.rule_sheet.specs.Edges.{Pair, pair, joinTo}
 use Rattle.sheet.specs.Edges.{pointCorners, edgeCorners}
-use Rattle.rule_sheet.specs.Sheet.{pointsOf}
+use Rattle.rule_sheet.specs.Sheet.{Sheet, pointsOf}
 use Rattle.rule_sheet.specs.Tests.{proper}
 use Rattle.sheet.proofs.Edges.{join-ext}
 use Rattle.sheet.proofs.Masks.{bit-pack}
 use Rattle.sheet.proofs.Tests.{length-points}
 use Rattle.incidence.specs.Corners.{Cornered, edgeOrder}
 use Rattle.refine.proofs.Edges.{sorted}
-use Rattle.rule_finer.specs.Smoothed.{those, timed, sides, edgeQuads, pointQuads, paired, isCrease, neighbours, creases, labelCount, pointOf, centreAt, oldPoint}
+use Rattle.rule_finer.specs.Smoothed.{those, timed, sides, edgeQuads, pointQuads, paired, isCrease, neighbours, creases, labelCount, pointOf, centreAt, oldPoint, edgePlace, newPlace}
 use Rattle.rule_sheet.specs.Places.{centreOf}
+use Rattle.smoothing.specs.Rounded.{pointwise}
+use Rattle.smoothing.proofs.ByPoints.{centre-by}
 use Rattle.subdivide_points.specs.Steps.{onesOf, Ends, cornerCentre, otherEnd, creaseAt, creaseEnds, movedPoint, flatSheet}
 use Rattle.subdivide_points.proofs.Quads.{quadOf, num-cond, point-quads}
 use Rattle.subdivide_points.proofs.Joins.{others-ascend}
 use Rattle.subdivide_points.proofs.EdgeList.{edgeNo, edge-of, corner-of, others-flat}
+
+-- ---- the rule at IEEE 754, for the points of a sheet
+
+abbrev pub centreIn : Sheet → ℕ → Point
+centreIn s = centreAt pointwise s (pointOf s)
+
+abbrev pub oldIn : Sheet → ℕ → Point
+oldIn s = oldPoint pointwise s (pointOf s)
+
+abbrev pub edgeIn : Sheet → ℕ → ℕ → Point
+edgeIn s = edgePlace pointwise s (pointOf s)
+
+abbrev pub newIn : Sheet → ℕ → Point
+newIn s = newPlace pointwise s (pointOf s)
 
 -- ---- lists
 
@@ -102,16 +119,16 @@ module _ {np nq : ℕ} {Q : List ℕ} (C : Cornered np nq Q) (P : List Float) (l
   unfolding pointsOf
   point-is v h = getD-tab (pointAt P) np v _ h
 
-  pub centre-is : (i : ℕ) → i < nq → centreOf (pointAt P) (quadAt Q i) ≡ centreAt (flatSheet np nq P Q labels) i
+  pub centre-is : (i : ℕ) → i < nq → centreOf (pointAt P) (quadAt Q i) ≡ centreIn (flatSheet np nq P Q labels) i
   unfolding centreOf centreAt quadsOf
   centre-is i h =
       let c : (j : ℕ) → j < 4 → pointOf (flatSheet np nq P Q labels) (corner Q i j) ≡ pointAt P (corner Q i j) = λ j b. point-is (corner Q i j) (C .points (4 * i + j) (omega arith)) in
-      rw (getD-tab (quadAt Q) nq i (quad 0 0 0 0) h, c 0 (omega arith), c 1 (omega arith), c 2 (omega arith), c 3 (omega arith))
+      rw (getD-tab (quadAt Q) nq i (quad 0 0 0 0) h, c 0 (omega arith), c 1 (omega arith), c 2 (omega arith), c 3 (omega arith), centre-by)
 
-  pub centres-are : (v : ℕ) → map (cornerCentre P Q) (pointCorners Q nq v) ≡ map (centreAt (flatSheet np nq P Q labels)) (pointQuads (quadsOf nq Q) v)
+  pub centres-are : (v : ℕ) → map (cornerCentre P Q) (pointCorners Q nq v) ≡ map (centreIn (flatSheet np nq P Q labels)) (pointQuads (quadsOf nq Q) v)
   unfolding cornerCentre
   centres-are v =
-      rw (point-quads nq Q v, map-map (centreAt (flatSheet np nq P Q labels)) quadOf (pointCorners Q nq v))
+      rw (point-quads nq Q v, map-map (centreIn (flatSheet np nq P Q labels)) quadOf (pointCorners Q nq v))
       (map-ext 0 _ _ (pointCorners Q nq v) (λ i h.
       centre-is (getD (pointCorners Q nq v) i 0 / 4) (low (getD (pointCorners Q nq v) i 0) (each-bucket 0 (λ c. c < 4 * nq) (from Q) v (tabulate itself (4 * nq)) (below-tab (4 * nq) .each) i h))))
     where
@@ -181,6 +198,6 @@ module _ {np nq : ℕ} {Q : List ℕ} (C : Cornered np nq Q) (good : all (proper
         ∙ rw (length-points np P) (join-ext _ _ np (λ x _. rw (differ-pair nq Q labels v x)))
 
     -- where point v comes to
-    pub moved-is : (m : ℕ) → m ≡ maskOf (quadsOf nq Q) (take nq labels) v → movedPoint nq P Q labels (edgeOrder np nq Q) H m v ≡ oldPoint (flatSheet np nq P Q labels) v
+    pub moved-is : (m : ℕ) → m ≡ maskOf (quadsOf nq Q) (take nq labels) v → movedPoint nq P Q labels (edgeOrder np nq Q) H m v ≡ oldIn (flatSheet np nq P Q labels) v
     unfolding movedPoint oldPoint labelCount maskOf neighbours creases
     moved-is m e = rw (e, ones-count (hasLabel (quadsOf nq Q) (take nq labels) v), creases-are, neighbours-are, centres-are C P labels v, point-is C P labels v hv, length-points np P, points-of C P labels (isCrease (flatSheet np nq P Q labels) v), points-of C P labels (isEdge (quadsOf nq Q) v))

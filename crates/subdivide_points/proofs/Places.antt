@@ -21,10 +21,10 @@ use Rattle.refine.specs.Requests.{requestOf, keyAt, firstOf, firstsOf, own}
 use Rattle.refine.specs.Loops.{madeTo}
 use Rattle.refine.proofs.Edges.{sorted, before-less, key-corner, key-centre, edge-below, low-of, high-of, first-of}
 use Rattle.refine.proofs.Sheet.{asked-keys}
-use Rattle.rule_finer.specs.Smoothed.{paired, isCrease, oldPoint, edgePlace, newPlace, smoothSheet}
+use Rattle.rule_finer.specs.Smoothed.{paired, isCrease, edgePlace, newPlace, smoothPlaces, smoothSheet}
 use Rattle.subdivide_points.specs.Steps.{Ends, cornerCentre, movedPoint, edgeAt, cornerOf, placeAt, flatSheet}
 use Rattle.subdivide_points.proofs.EdgeList.{edgeNo, edge-of, corner-low, corner-high}
-use Rattle.subdivide_points.proofs.Moved.{point-is, centre-is, quad-of, label-of, moved-is}
+use Rattle.subdivide_points.proofs.Moved.{oldIn, edgeIn, newIn, point-is, centre-is, quad-of, label-of, moved-is}
 
 -- ---- what the first requests make
 
@@ -91,7 +91,7 @@ module _ {np nq : ℕ} {Q : List ℕ} (C : Cornered np nq Q) (good : all (proper
   module _ (P : List Float) (labels : List ℕ) where
     -- the point of edge k
     edge-is : (k : ℕ) → k < 2 * nq → edgeAt P Q labels (getD (edgeOrder np nq Q) (2 * k) 0) (getD (edgeOrder np nq Q) (2 * k + 1) 0)
-        ≡ edgePlace (flatSheet np nq P Q labels) (smaller Q (getD (edgeOrder np nq Q) (2 * k) 0)) (larger Q (getD (edgeOrder np nq Q) (2 * k) 0))
+        ≡ edgeIn (flatSheet np nq P Q labels) (smaller Q (getD (edgeOrder np nq Q) (2 * k) 0)) (larger Q (getD (edgeOrder np nq Q) (2 * k) 0))
     unfolding edgeAt edgePlace isCrease cornerCentre
     edge-is k h =
         let z : 2 * k + 0 ≡ 2 * k = omega arith in
@@ -118,7 +118,7 @@ module _ {np nq : ℕ} {Q : List ℕ} (C : Cornered np nq Q) (good : all (proper
 
     -- the point of a first request
     module _ (D : List ℕ) (seconds : (k : ℕ) → k < 2 * nq → getD D (getD (edgeOrder np nq Q) (2 * k) 0) 0 ≡ getD (edgeOrder np nq Q) (2 * k + 1) 0) where
-      place-is : (t : ℕ) → t < 5 * nq → own (firstsOf np nq Q) t ≡ true → placeAt P Q labels D t ≡ newPlace (flatSheet np nq P Q labels) (keyAt np Q t)
+      place-is : (t : ℕ) → t < 5 * nq → own (firstsOf np nq Q) t ≡ true → placeAt P Q labels D t ≡ newIn (flatSheet np nq P Q labels) (keyAt np Q t)
       unfolding placeAt newPlace
       place-is t h o = ⊎-elim
           (λ (e : t % 5 ≡ 4).
@@ -140,12 +140,12 @@ module _ {np nq : ℕ} {Q : List ℕ} (C : Cornered np nq Q) (good : all (proper
       -- the points of the smoothed sheet
       pub points-are : (H : List ℕ) (m : ℕ → ℕ) → Ends nq Q (edgeOrder np nq Q) H → ((v : ℕ) → v < np → m v ≡ maskOf (quadsOf nq Q) (flatSheet np nq P Q labels .labels) v)
           → tabulate (λ v. movedPoint nq P Q labels (edgeOrder np nq Q) H (m v) v) np ++ madeTo (firstsOf np nq Q) (placeAt P Q labels D) (5 * nq) ≡ smoothSheet (flatSheet np nq P Q labels) .points
-      unfolding smoothSheet
+      unfolding smoothSheet smoothPlaces
       points-are H m ends masks =
           rw (
             length-points np P,
-            tab-ext _ (oldPoint (flatSheet np nq P Q labels)) np (λ v b. moved-is C good pr P labels H ends v b (m v) (masks v b)),
-            made-ext (firstsOf np nq Q) (placeAt P Q labels D) (λ t. newPlace (flatSheet np nq P Q labels) (keyAt np Q t)) (5 * nq) (λ t b o. place-is t b o),
+            tab-ext _ (oldIn (flatSheet np nq P Q labels)) np (λ v b. moved-is C good pr P labels H ends v b (m v) (masks v b)),
+            made-ext (firstsOf np nq Q) (placeAt P Q labels D) (λ t. newIn (flatSheet np nq P Q labels) (keyAt np Q t)) (5 * nq) (λ t b o. place-is t b o),
             asked-keys C,
-            made-map (firstsOf np nq Q) (newPlace (flatSheet np nq P Q labels)) (keyAt np Q) (5 * nq),
+            made-map (firstsOf np nq Q) (newIn (flatSheet np nq P Q labels)) (keyAt np Q) (5 * nq),
           )

@@ -1,0 +1,6 @@
+-- `Counts` counts the quads and the edges at a point, `Pairs` has the two quads of an edge, `Positions` says where the points of the finer sheet stand;
+-- `Paper` is the theorem.
+pub mod Counts
+pub mod Pairs
+pub mod Positions
+pub mod Paper

@@ -1,0 +1,1 @@
+// The claim that `subdivide` follows Catmull and Clark, and its proof: see specs/ and proofs/.
