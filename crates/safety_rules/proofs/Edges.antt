@@ -102,10 +102,10 @@ sides-at n (quad w x y z ∷ S) h a = omega (
 
 -- and each has one that leads to a
 pub sides-to : (n : ℕ) (S : List Quad) → Below n S → (a : ℕ) → upto n (λ b. side S b a) ≡ valence S a
+unfolding Below
 sides-to n S h a = upto-ext (λ b. side S b a) (λ b. atPoint S a (λ p n. is b p)) n (λ b l. side-at-end S b a) ∙ before-at n S h a
   where
     before-at : (n : ℕ) (S : List Quad) → Below n S → (a : ℕ) → upto n (λ b. atPoint S a (λ p n. is b p)) ≡ valence S a
-    unfolding Below
     before-at n [] h a = upto-zero n
     before-at n (quad w x y z ∷ S) h a = omega (
       arith,

@@ -61,7 +61,7 @@ module _ (n : ℕ) (S : List Quad) (below : Below n S) (differ : All Differ S) (
       let lo : min u v ≡ u = omega arith in
       let hi : max u v ≡ v = omega arith in
       let l = edge-low u v h in
-      rw (lo, hi) at (eqb-true _ _ (edge-passes n S (isPaired S) pr u v le (l .0) (l .1) h))
+      rw (lo, hi) at (eqb-true (length (edgeQuads S (min u v) (max u v))) 2 (edge-passes n S (isPaired S) pr u v le (l .0) (l .1) h))
 
   two-sides : (u v : ℕ) → 0 < side S u v + side S v u → side S u v + side S v u ≡ 2
   two-sides u v h = ⊎-elim
@@ -79,7 +79,7 @@ module _ (n : ℕ) (S : List Quad) (below : Below n S) (differ : All Differ S) (
     where
       go : (side S u v + side S v u ≡ 0) ⊎ (0 < side S u v + side S v u) → side S u v + side S v u ≡ num (isEdge S u v) + num (isEdge S u v)
       go (inl e) = rw e
-      go (inr h) = rw (lt-ltb 0 (side S u v + side S v u) h) (two-sides u v h)
+      go (inr h) = rw (lt-ltb 0 (side S u v + side S v u) h) (omega (arith, two-sides u v h))
 
 -- ---- the quads and the edges at a point
 

@@ -95,11 +95,10 @@ pub record Two (S : List Quad) (u v : ℕ) : Type 0 where
   pub quads : edgeQuads S u v ≡ f ∷ g ∷ []
 
 pub two-of : (S : List Quad) → All Differ S → (u v : ℕ) → length (edgeQuads S u v) ≡ 2 → Two S u v
-unfolding edgeQuads
+unfolding edgeQuads All
 two-of S differ u v e = go (edgeQuads S u v) refl e
   where
     once : (S : List Quad) → All Differ S → All (λ q. sides u v q ≤ 1) S
-    unfolding All
     once [] h = tt
     once (q ∷ S) (h, hs) = (sides-once u v q h, once S hs)
 
