@@ -196,7 +196,7 @@ module _ (n : ℕ) (S : List Quad) (below : Below n S) (pr : All Differ S) where
   unfolding cenOf
   cen-low i l = omega (arith, (place-at (centreKey n i) (asked n S) (cen-asked i l)) .0)
 
-  covers : (w : ℕ) → n ≤ w → w < n + length (asked n S) → ((u : ℕ) × (v : ℕ) × (0 < side S u v) × (w ≡ midOf n S u v)) ⊎ ((i : ℕ) × (i < length S) × (w ≡ cenOf n S i))
+  pub covers : (w : ℕ) → n ≤ w → w < n + length (asked n S) → ((u : ℕ) × (v : ℕ) × (0 < side S u v) × (w ≡ midOf n S u v)) ⊎ ((i : ℕ) × (i < length S) × (w ≡ cenOf n S i))
   unfolding midOf cenOf Source
   covers w l h = go (keys-from n y 0 S (asked-by y (omega (arith, sum-at (is y) (asked n S) (w - n) 0 inside, is-self y))))
     where

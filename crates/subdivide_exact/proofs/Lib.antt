@@ -1,6 +1,7 @@
 -- `Counts` counts the quads and the edges at a point, `Pairs` has the two quads of an edge, `Positions` says where the points of the finer sheet stand;
--- `Paper` is the theorem.
+-- `Paper` is the theorem, and `OneLabel` has the sheets on which it speaks of every point.
 pub mod Counts
 pub mod Pairs
 pub mod Positions
 pub mod Paper
+pub mod OneLabel

@@ -12,7 +12,7 @@ use lib.ListN.{length, replicate}
 use Rattle.rule_sheet.specs.Quads.{Quad, quad, is, corners, at, uses}
 use Rattle.rule_sheet.specs.Claims.{Differ, All}
 use Rattle.rule_sheet.proofs.FirstUse.{is-same, is-other}
-use Rattle.rule_sheet.proofs.Weigh.{at-same, at-diff, is-le, side-at-end}
+use Rattle.rule_sheet.proofs.Weigh.{at-diff, is-le, side-at-end}
 use Rattle.rule_finer.specs.Smoothed.{timed, sides, edgeQuads}
 
 -- an edge has the same quads from either end

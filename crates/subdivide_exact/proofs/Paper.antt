@@ -1,27 +1,27 @@
 -- In exact fractions the points that no crease moves are those of Catmull and Clark. Assumes nothing.
 use Prim.Native.Nat.{ℕ, _+_, _≤_, _<_, min, max}
-use mathlib.Core.Path.{_≡_, sym, ap, _∙_, fun-ext}
-use mathlib.Core.Logic.{⊎-elim}
+use mathlib.Core.Path.{_≡_, refl, _∙_, fun-ext}
+use mathlib.Core.Logic.{_⊎_, inl, inr, ⊎-elim}
 use mathlib.Core.Bool.{true, false}
 use mathlib.Core.List.{List, [], _∷_, map}
 use native.Mathlib.Nat.{add-comm}
 use native.Mathlib.Omega.{arith}
-use lib.ListN.{length, getD, length-map}
-use borrow.Author.Tests.{ltb-true}
-use Rattle.lists.proofs.Laws.{lt-or-le}
+use lib.ListN.{length, getD, length-append, length-map}
+use borrow.Author.Tests.{ltb-true, lt-ltb}
+use Rattle.lists.proofs.Laws.{lt-or-le, length-tab}
 use Rattle.smoothing.specs.Fractions.{Fraction, _≈_, wholeQ, exact}
 use Rattle.smoothing.specs.CatmullClark.{average, midpoint, newFacePoint, newEdgePoint, newVertexPoint}
 use Rattle.smoothing.proofs.Fractions.{≈-of, zero-plus, plus-comm}
 use Rattle.smoothing.proofs.Exact.{face-point, edge-point, vertex-point}
-use Rattle.rule_sheet.specs.Quads.{Quad, quad, side, isEdge}
+use Rattle.rule_sheet.specs.Quads.{Quad, quad, side}
 use Rattle.rule_sheet.specs.Sheet.{Sheet}
-use Rattle.rule_sheet.specs.Sound.{AcceptedSheet}
-use Rattle.rule_finer.specs.Finer.{midOf}
-use Rattle.rule_finer.specs.Smoothed.{edgeQuads, pointQuads, paired, isCrease, neighbours, creases, labelCount, centreWith, centreAt, oldPoint, edgePlace, smoothPlaces}
+use Rattle.rule_finer.specs.Finer.{asked, midOf, cenOf, split, finer, finerSheet}
+use Rattle.rule_finer.specs.Smoothed.{edgeQuads, pointQuads, paired, isCrease, neighbours, creases, labelCount, centreWith, centreAt, oldPoint, edgePlace, smoothPlaces, smoothSheet}
 use Rattle.safety_rules.proofs.Fine.{Fine, fine-of}
-use Rattle.subdivide_exact.specs.Paper.{cornersOf, finerAt, faceAt, EdgePoint, VertexPoint, FollowsPaper, EverySheet}
+use Rattle.safety_rules.proofs.Numbers.{covers}
+use Rattle.subdivide_exact.specs.Paper.{cornersOf, edgeNo, quadNo, Source, ofPoint, ofEdge, ofQuad, faceAt, EdgePoint, FollowsPaper, EverySheet}
 use Rattle.subdivide_exact.proofs.Counts.{quads-at, edge-low, two-quads, as-many}
-use Rattle.subdivide_exact.proofs.Pairs.{quads-swap, Two, two-of}
+use Rattle.subdivide_exact.proofs.Pairs.{quads-swap, two-of}
 use Rattle.subdivide_exact.proofs.Positions.{old-at, centre-at, edge-at}
 
 -- a new edge point is the same from either end
@@ -76,7 +76,7 @@ module _ (s : Sheet) (at : ℕ → Fraction) where
     g = p .g;
     different = p .different;
     quads = quads-swap S u v ∙ p .quads;
-    point = rw (mid-turned u v, edge-turned (at u) (at v) (faceAt s at (p .f)) (faceAt s at (p .g))) (p .point);
+    point = rw (mid-turned u v, edge-turned (at u) (at v)) (p .point);
   }
 
   -- ---- an accepted sheet whose edges have two quads
@@ -94,8 +94,23 @@ module _ (s : Sheet) (at : ℕ → Fraction) where
           point = rw (edge-at exact s at (wholeQ 0) (F .in-range) (F .differ) u v l (b .1) h) (inside u v (t .f) (t .g) c (t .quads));
         }
 
+    -- ---- what the points of the finer sheet come from
+
+    newer : (k : ℕ) → ((u : ℕ) × (v : ℕ) × (0 < side S u v) × (k ≡ midOf n S u v)) ⊎ ((i : ℕ) × (i < length S) × (k ≡ cenOf n S i)) → Source s k
+    newer k (inl (u, v, h, e)) = ofEdge u v (lt-ltb 0 (side S u v + side S v u) (omega arith)) e
+    newer k (inr (i, h, e)) = ofQuad i h e
+
+    places-length : length (smoothPlaces exact s at) ≡ n + length (asked n S)
+    unfolding smoothPlaces
+    places-length = simp (length-append, length-tab, length-map)
+
+    faces : smoothSheet s .quads ≡ split (edgeNo s) (quadNo s) 0 S
+    unfolding smoothSheet finerSheet finer
+    faces = refl
+
     follows : FollowsPaper s at
     follows = record {
+      sources = λ k h. ⊎-elim (λ (l : k < n). ofPoint l) (λ (l : n ≤ k). newer k (covers n S (F .in-range) (F .differ) k l (omega (arith, places-length)))) (lt-or-le k n);
       face-points = λ i h. ≈-of (centre-at exact s at (wholeQ 0) (F .in-range) (F .differ) i h ∙ centre-face i);
       edge-points = λ u v e c.
           let h : 0 < side S u v + side S v u = ltb-true 0 _ e in
@@ -111,6 +126,7 @@ module _ (s : Sheet) (at : ℕ → Fraction) where
             as-many = same;
             point = rw (old-at exact s at (wholeQ 0) v h) (old-point v l c some (omega arith));
           };
+      new-faces = faces;
     }
 
 -- the theorem
