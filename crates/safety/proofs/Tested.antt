@@ -41,6 +41,18 @@ few-large : {c : Counts} → Few c → isLarge c ≡ false
 unfolding isLarge
 few-large {c} f = rw (le-ltb limit (c .points) (f .points≤), le-ltb limit (c .quads) (f .quads≤), le-ltb limit (c .labels) (f .labels≤))
 
+-- a call that passes its tests was lent an accepted sheet
+pub lent-accepted : (s : Setting) (x : Lent) (w : Work) → admits s x w ≡ Accepted → AcceptedSheet (held x)
+lent-accepted s x w e =
+    let A = admitted (settingVerdict s) x w e in
+    let T = tested (held x) (A .accepted) in
+    record {
+      not-large = ap isLarge (counts-held x (A .sheet)) ∙ few-large (A .sheet .few);
+      not-bare = T .not-bare;
+      corners = T .corners;
+      masks = T .masks;
+    }
+
 module _ (s : Setting) (k : ℕ) (x : Lent) (w : Work) (t : Tally) (Q : List ℕ) (C : Contract (regularizeCall s k x w (Done t) Q)) where
   -- the call passed its tests
   pub done-tested : admits s x w ≡ Accepted
@@ -55,15 +67,7 @@ module _ (s : Setting) (k : ℕ) (x : Lent) (w : Work) (t : Tally) (Q : List ℕ
   done-admitted = admitted (settingVerdict s) x w done-tested
 
   done-accepted : AcceptedSheet (held x)
-  done-accepted =
-      let A = done-admitted in
-      let T = tested (held x) (A .accepted) in
-      record {
-        not-large = ap isLarge (counts-held x (A .sheet)) ∙ few-large (A .sheet .few);
-        not-bare = T .not-bare;
-        corners = T .corners;
-        masks = T .masks;
-      }
+  done-accepted = lent-accepted s x w done-tested
 
   -- "Regularize's count is the swaps made in all its passes", on every accepted sheet
   pub done-count : t .count ≡ swapRun (length (held x .points)) (held x .labels) 1 (swapFits s (held x .points) (held x .labels)) k (held x .quads) .count

@@ -1,20 +1,24 @@
--- "Interior points follow Catmull and Clark": the rule of `subdivide`, worked in exact fractions instead of IEEE 754,
--- makes the points of E. Catmull and J. Clark, "Recursively generated B-spline surfaces on arbitrary topological
--- meshes" (1978). Document 01, "The finer sheet and the rows".
+-- "Interior points follow Catmull and Clark": worked in exact fractions instead of IEEE 754, the rule of `subdivide`
+-- makes the points that the paper of 1978 makes, as smoothing/specs/CatmullClark has them. Document 01, "The finer
+-- sheet and the rows".
 use Prim.Native.Nat.{ℕ, _≤_, _<_}
 use mathlib.Core.Path.{_≡_}
 use mathlib.Core.Bool.{true, false}
 use mathlib.Core.List.{List, [], _∷_, map}
 use lib.Dec.{eqb}
 use lib.ListN.{length, getD}
+use Rattle.setting.specs.Settings.{Setting}
 use Rattle.smoothing.specs.Fractions.{Fraction, _≈_, wholeQ, exact}
 use Rattle.smoothing.specs.CatmullClark.{newFacePoint, newEdgePoint, newVertexPoint}
 use Rattle.rule_sheet.specs.Quads.{Quad, quad, all, isEdge}
 use Rattle.rule_sheet.specs.Sheet.{Sheet}
+use Rattle.rule_sheet.specs.Lent.{Lent, Work, Room, held}
+use Rattle.rule_sheet.specs.Outcomes.{gives}
 use Rattle.rule_sheet.specs.Sound.{AcceptedSheet}
 use Rattle.rule_finer.specs.Finer.{split, midOf, cenOf}
 use Rattle.rule_finer.specs.Smoothed.{edgeQuads, pointQuads, paired, isCrease, neighbours, creases, labelCount}
 use Rattle.rule_finer.specs.Smoothed.{smoothPlaces, smoothSheet}
+use Rattle.rule_finer.specs.Subdivide.{projectedSheet, subdivideRule}
 
 -- the corners of a quad
 abbrev pub cornersOf : Quad → List ℕ
@@ -87,3 +91,14 @@ pub record NoCrease (s : Sheet) : Type 0 where
 unfoldable pub OneLabel : Type 0
 OneLabel = (s : Sheet) (l : ℕ) → AcceptedSheet s → paired (length (s .points)) (s .quads) ≡ true
     → all (eqb l) (s .labels) ≡ true → NoCrease s
+
+-- a sheet t that a call of `subdivide` makes of the lent sheet x: "All are then projected", the points of x smoothed
+-- by the rule that follows the paper
+pub record Subdivided (s : Setting) (x : Lent) (t : Sheet) : Type 0 where
+  pub projection : t ≡ projectedSheet s (smoothSheet (held x))
+  pub paper : (at : ℕ → Fraction) → FollowsPaper (held x) at
+
+-- the same of every call that is not refused, by the rule that the contract of `subdivide` cites
+unfoldable pub EveryCall : Type 0
+EveryCall = (s : Setting) (x : Lent) (w : Work) (room : Room) (t : Sheet) → subdivideRule s x w room ≡ gives t
+    → Subdivided s x t
