@@ -12,8 +12,8 @@ use std::path::Path;
 /// The crate whose functions C calls.
 const EXPORTS: &str = "quads";
 
-/// The crate whose definitions are the claims.
-const CLAIMS: &str = "safety";
+/// The crates whose definitions are the claims.
+pub const CLAIMS: [&str; 2] = ["safety", "subdivide_exact"];
 
 /// What the head of a file says whose definitions are not believed, though it stands in a crate of rules.
 const NOT_A_RULE: &str = "Not a rule";
@@ -83,7 +83,7 @@ impl<'a> Beliefs<'a> {
         let doors = doors(tree);
         let exports = contracts(tree, |library, one| library == EXPORTS && one.export);
         let (of_doors, of_exports) = (cited(&doors), cited(&exports));
-        let claims = tree.specs.iter().enumerate().filter(|(_, file)| file.library == CLAIMS);
+        let claims = tree.specs.iter().enumerate().filter(|(_, file)| CLAIMS.contains(&&*file.library));
         let stated = claims.flat_map(|(i, file)| (0..file.spec.definitions.len()).map(move |j| Node::Definition(i, j)));
         let of_claims = graph.closure(stated);
         let all = of_doors.iter().chain(&of_exports).chain(&of_claims).cloned().collect();
@@ -99,7 +99,8 @@ impl<'a> Beliefs<'a> {
     fn misplaced(&self, file: &SpecFile, believed: bool) -> Option<String> {
         let library = &file.library;
         let is_rule = library.starts_with("rule_");
-        let is_home = is_rule || library.starts_with(CLAIMS) || self.tree.catalogue.family(library) == Some("words");
+        let is_claim = CLAIMS.iter().any(|claims| library.starts_with(claims));
+        let is_home = is_rule || is_claim || self.tree.catalogue.family(library) == Some("words");
         let says_not = file.spec.head.contains(NOT_A_RULE);
         match believed {
             true if !is_home => Some(format!("is believed, but {library} is neither words nor a rule nor a claim")),
@@ -122,7 +123,7 @@ impl<'a> Beliefs<'a> {
             found.push(format!("crates/{EXPORTS}: no export is found"));
         }
         if self.of_claims.is_empty() {
-            found.push(format!("crates/{CLAIMS}/specs: no claim is found"));
+            found.push(format!("crates/{}/specs: no claim is found", CLAIMS[0]));
         }
         found
     }
