@@ -1,8 +1,8 @@
 -- The choice between two diagonals is the rule's. Assumes nothing.
 use mathlib.Core.Path.{_≡_, refl, sym, ap, _∙_}
 use mathlib.Core.Logic.{_⊎_, inl, inr}
-use mathlib.Core.Bool.{Bool, true, false, not, cond, _&&_, and-false, false≢true}
-use Prim.Native.Nat.{ℕ, zero, suc, _+_, _-_, _≤_, _<_}
+use mathlib.Core.Bool.{Bool, true, false, not, _&&_, and-false}
+use Prim.Native.Nat.{ℕ, zero, suc, _+_, _≤_, _<_}
 use mathlib.Core.List.{List}
 use native.Mathlib.Omega.{arith}
 use native.Mathlib.Numerals.{add-one}
@@ -18,6 +18,7 @@ use Rattle.projection.specs.declared.Projected.{Projected}
 use Rattle.projection.specs.declared.Projected.the-variants.{Onto, Refused}
 use Rattle.rule_sheet.specs.Quads.{valence}
 use Rattle.rule_coarsen.specs.Coarse.{sumBefore, sumAfter}
+use Rattle.coarsen_merge.specs.Conditions.{StartHolds}
 use Rattle.coarsen_merge.specs.Steps.{masksJoined, noLabels, gainOf, worthIt, allowedIn}
 use Rattle.pass_map.specs.Regions.{startIn}
 use Rattle.coarsen_search.specs.declared.Diagonal.{Diagonal}
@@ -25,8 +26,8 @@ use Rattle.coarsen_search.specs.declared.Choice.{Choice}
 use Rattle.coarsen_search.specs.declared.Choice.the-variants.{None}
 use Rattle.coarsen_search.specs.declared.Candidate.{Candidate}
 use Rattle.coarsen_search.specs.declared.Ends.{Ends}
-use Rattle.coarsen_search.specs.Steps.{diagonalOf, betterOf, landingOf, stayAround, candidateOf, weighedOf, foundTo}
-use Rattle.coarsen_search.specs.Conditions.{DiagonalAsks, SearchAsks, InOrder}
+use Rattle.coarsen_search.specs.Steps.{diagonalOf, betterOf, landingOf, stayAround, candidateOf, weighedOf, afterDiagonal, foundTo}
+use Rattle.coarsen_search.specs.Conditions.{DiagonalAsks, LandingAsks, SearchAsks, InOrder}
 
 -- an allowed merge gains
 pub allowed-gains : (np nq f a b c d : ℕ) (w : List ℕ) → allowedIn np nq f a b c d w ≡ true → (gainOf np nq a b c d w) .after ≤ (gainOf np nq a b c d w) .before
@@ -89,34 +90,37 @@ tried-at (suc (suc k)) S h = absurd (omega arith)
 pub tried-of : {np nq f k : ℕ} {Q w : List ℕ} (g : Diagonal) → SearchAsks np nq f Q w → k < 2 → g ≡ diagonalOf Q f k → DiagonalAsks np nq g w
 tried-of {np} {nq} {f} {k} {Q} {w} g S h e = rw e (tried-at k S h)
 
--- the two cases of a projection
-gave : Projected → Bool
-gave (Onto p) = true
-gave Refused = false
-
--- what lands is allowed
-pub landed : (np nq : ℕ) (g : Diagonal) (b : Band) (len : Float) (P : List Float) (w : List ℕ) (p : Point) → landingOf np nq g b len P w ≡ Onto p
-    → allowedIn np nq (g .face) (g .a) (g .b) (g .c) (g .d) w ≡ true
-unfolding landingOf gave
-landed np nq g b len P w p e = go (allowedIn np nq (g .face) (g .a) (g .b) (g .c) (g .d) w) _ (ap gave e)
-  where
-    go : (x : Bool) (y : Projected) → gave (cond x y Refused) ≡ true → x ≡ true
-    go true y h = refl
-    go false y h = absurd (false≢true h)
+-- its landing can be asked for
+pub landing-asks : {np nq : ℕ} {g : Diagonal} {w : List ℕ} → StartHolds np nq w → DiagonalAsks np nq g w → LandingAsks np g w
+landing-asks {np} {nq} {g} {w} S D = record {
+  a< = D .face .a<;
+  c< = D .face .c<;
+  masks = let r = S .map .work .long in omega arith;
+  mask-a = D .mask-a;
+  mask-c = D .mask-c;
+}
 
 module _ (np nq : ℕ) (b : Band) (len : Float) (P : List Float) (Q labels w : List ℕ) (f : ℕ) where
   pub found-none : foundTo np nq b len P Q labels w f 0 ≡ None
   unfolding foundTo
   found-none = refl
 
-  -- a diagonal that is passed over
-  pub found-refused : (k : ℕ) (g : Diagonal) (r : Projected) (best : Choice) → best ≡ foundTo np nq b len P Q labels w f k → g ≡ diagonalOf Q f k → r ≡ landingOf np nq g b len P w → r ≡ Refused
+  -- a diagonal that the rule does not allow
+  pub found-forbidden : (k : ℕ) (g : Diagonal) (x : Bool) (best : Choice) → best ≡ foundTo np nq b len P Q labels w f k → g ≡ diagonalOf Q f k
+      → x ≡ allowedIn np nq (g .face) (g .a) (g .b) (g .c) (g .d) w → x ≡ false → best ≡ foundTo np nq b len P Q labels w f (k + 1)
+  unfolding foundTo afterDiagonal
+  found-forbidden k g x best e d l h = rw (add-one k, ← d, ← l, h) e
+
+  -- one whose landing is refused
+  pub found-refused : (k : ℕ) (g : Diagonal) (x : Bool) (r : Projected) (best : Choice) → best ≡ foundTo np nq b len P Q labels w f k → g ≡ diagonalOf Q f k
+      → x ≡ allowedIn np nq (g .face) (g .a) (g .b) (g .c) (g .d) w → x ≡ true → r ≡ landingOf g b len P w → r ≡ Refused
       → best ≡ foundTo np nq b len P Q labels w f (k + 1)
-  unfolding foundTo
-  found-refused k g r best e d l h = rw (add-one k, ← d, ← l, h) e
+  unfolding foundTo afterDiagonal
+  found-refused k g x r best e d l h m n = rw (add-one k, ← d, ← l, h, ← m, n) e
 
   -- one whose merge lands at p
-  pub found-onto : (k : ℕ) (g : Diagonal) (r : Projected) (p : Point) (best next : Choice) → best ≡ foundTo np nq b len P Q labels w f k → g ≡ diagonalOf Q f k → r ≡ landingOf np nq g b len P w → r ≡ Onto p
+  pub found-onto : (k : ℕ) (g : Diagonal) (x : Bool) (r : Projected) (p : Point) (best next : Choice) → best ≡ foundTo np nq b len P Q labels w f k → g ≡ diagonalOf Q f k
+      → x ≡ allowedIn np nq (g .face) (g .a) (g .b) (g .c) (g .d) w → x ≡ true → r ≡ landingOf g b len P w → r ≡ Onto p
       → next ≡ weighedOf np nq g (b .field) len p P labels w best → next ≡ foundTo np nq b len P Q labels w f (k + 1)
-  unfolding foundTo
-  found-onto k g r p best next e d l h n = rw (add-one k, ← d, ← l, h, ← e) n
+  unfolding foundTo afterDiagonal
+  found-onto k g x r p best next e d l h m n o = rw (add-one k, ← d, ← l, h, ← m, n, ← e) o

@@ -17,7 +17,7 @@ use Rattle.projection.specs.declared.Projected.{Projected}
 use Rattle.projection.specs.declared.Projected.the-variants.{Onto, Refused}
 use Rattle.rule_sheet.specs.Quads.{valence, maskOf}
 use Rattle.rule_sheet.specs.Flat.{corner, quadAt}
-use Rattle.rule_sheet.specs.Sheet.{Sheet, pointsOf}
+use Rattle.rule_sheet.specs.Sheet.{pointsOf}
 use Rattle.sheet.specs.Sheet.{masksOf}
 use Rattle.rule_passes.specs.Choices.{choose}
 use Rattle.rule_coarsen.specs.Merges.{Slot, slot}
@@ -35,7 +35,7 @@ use Rattle.coarsen_search.specs.declared.Choice.{Choice}
 use Rattle.coarsen_search.specs.declared.Choice.the-variants.{None, Take}
 use Rattle.coarsen_search.specs.declared.Diagonal.{Diagonal}
 use Rattle.coarsen_search.proofs.Choices.{allowed-joins}
-use Rattle.coarsen_search.specs.Steps.{diagonalOf, betterOf, landingOf, stayAround, weighedOf, afterLanding, foundTo, startSheet, fitsIn, positionIn}
+use Rattle.coarsen_search.specs.Steps.{diagonalOf, betterOf, landingOf, stayAround, weighedOf, afterLanding, afterDiagonal, foundTo, startSheet, fitsIn, positionIn}
 
 zero-add : (v : ℕ) → v ≡ 0 + v
 zero-add v = omega arith
@@ -79,18 +79,14 @@ module _ (np nq : ℕ) (b : Band) (P : List Float) (labels w : List ℕ) (G : St
 
   -- an allowed diagonal lands where the rule projects to
   lands : (g : Diagonal) → g .a < np → g .c < np → allowedIn np nq (g .face) (g .a) (g .b) (g .c) (g .d) w ≡ true
-      → landingOf np nq g b (lengthOf b) P w ≡ movedTo b (startSheet np nq labels w) (pointsOf np P) (g .a) (g .c)
+      → landingOf g b (lengthOf b) P w ≡ movedTo b (startSheet np nq labels w) (pointsOf np P) (g .a) (g .c)
   unfolding landingOf
-  lands g ha hc e = rw e (moved-to b (startSheet np nq labels w) np P (g .a) (g .c) (max (getD w (g .a) 0) (getD w (g .c) 0)) ha hc
-      (rw (mask-at np nq (take nq labels) w (g .a) M ha, mask-at np nq (take nq labels) w (g .c) M hc) (sym (joined-max np (startIn np nq w) (take nq labels) (g .a) (g .c) (joins (g .face) (g .a) (g .b) (g .c) (g .d) ha hc e)))))
+  lands g ha hc e = moved-to b (startSheet np nq labels w) np P (g .a) (g .c) (max (getD w (g .a) 0) (getD w (g .c) 0)) ha hc
+      (rw (mask-at np nq (take nq labels) w (g .a) M ha, mask-at np nq (take nq labels) w (g .c) M hc) (sym (joined-max np (startIn np nq w) (take nq labels) (g .a) (g .c) (joins (g .face) (g .a) (g .b) (g .c) (g .d) ha hc e))))
     where
       joins : (f a e c d : ℕ) → a < np → c < np → allowedIn np nq f a e c d w ≡ true → masksJoin np (startIn np nq w) (take nq labels) a c ≡ true
       joins f a e c d ha hc h = sym (masks-join np (startIn np nq w) (take nq labels) a c) ∙ (ap (λ m. masksJoined m (maskOf (startIn np nq w) (take nq labels) c)) (sym (mask-at np nq (take nq labels) w a M ha))
           ∙ (ap (λ m. masksJoined (getD w a 0) m) (sym (mask-at np nq (take nq labels) w c M hc)) ∙ allowed-joins np nq f a e c d w h))
-
-  not-lands : (g : Diagonal) → allowedIn np nq (g .face) (g .a) (g .b) (g .c) (g .d) w ≡ false → landingOf np nq g b (lengthOf b) P w ≡ Refused
-  unfolding landingOf
-  not-lands g e = rw e refl
 
   -- the candidate that the rule has
   abbrev pub ruleCandidate : Diagonal → Candidate
@@ -105,18 +101,15 @@ module _ (np nq : ℕ) (b : Band) (P : List Float) (labels w : List ℕ) (G : St
   mayAt g = mayMerge np (startIn np nq w) (take nq labels) (fitsIn b np nq labels w) (positionIn b np nq labels w) (record { slots = S; used = usedOf np (usedIn np nq w); points = pointsOf np P; count = k }) (g .face) (g .a) (g .b) (g .c) (g .d)
 
   diagonal-is : (g : Diagonal) (best : Choice) → g .a < np → g .c < np
-      → afterLanding np nq g (b .field) (lengthOf b) P labels w best (landingOf np nq g b (lengthOf b) P w) ≡ cond (mayAt g) (betterOf best (ruleCandidate g)) best
+      → afterDiagonal np nq g b (lengthOf b) P labels w best ≡ cond (mayAt g) (betterOf best (ruleCandidate g)) best
+  unfolding afterDiagonal
   diagonal-is g best ha hc = go (allowedIn np nq (g .face) (g .a) (g .b) (g .c) (g .d) w) refl
     where
-      s : Sheet
-      s = startSheet np nq labels w
-
       may : (allowedIn np nq (g .face) (g .a) (g .b) (g .c) (g .d) w && mergeFits b (startSheet np nq labels w) (pointsOf np P) S (g .face) (g .a) (g .c)) ≡ mayAt g
       may = may-is (g .face) (g .a) (g .b) (g .c) (g .d) ha hc
 
-      passed : landingOf np nq g b (lengthOf b) P w ≡ Refused → mayAt g ≡ false
-          → afterLanding np nq g (b .field) (lengthOf b) P labels w best (landingOf np nq g b (lengthOf b) P w) ≡ cond (mayAt g) (betterOf best (ruleCandidate g)) best
-      passed l m = ap (afterLanding np nq g (b .field) (lengthOf b) P labels w best) l ∙ sym (ap (λ x. cond x (betterOf best (ruleCandidate g)) best) m)
+      passed : mayAt g ≡ false → best ≡ cond (mayAt g) (betterOf best (ruleCandidate g)) best
+      passed m = sym (ap (λ x. cond x (betterOf best (ruleCandidate g)) best) m)
 
       taken : (p : Point) → allowedIn np nq (g .face) (g .a) (g .b) (g .c) (g .d) w ≡ true → movedTo b (startSheet np nq labels w) (pointsOf np P) (g .a) (g .c) ≡ Onto p
           → weighedOf np nq g (b .field) (lengthOf b) p P labels w best ≡ cond (mayAt g) (betterOf best (ruleCandidate g)) best
@@ -128,12 +121,13 @@ module _ (np nq : ℕ) (b : Band) (P : List Float) (labels w : List ℕ) (G : St
           (sym (position-onto b (startSheet np nq labels w) (pointsOf np P) (g .a) (g .c) p h)))
 
       moved : (m : Projected) → allowedIn np nq (g .face) (g .a) (g .b) (g .c) (g .d) w ≡ true → movedTo b (startSheet np nq labels w) (pointsOf np P) (g .a) (g .c) ≡ m
-          → afterLanding np nq g (b .field) (lengthOf b) P labels w best (landingOf np nq g b (lengthOf b) P w) ≡ cond (mayAt g) (betterOf best (ruleCandidate g)) best
-      moved Refused e h = passed (lands g ha hc e ∙ h) (sym may ∙ rw (e, merge-refused b (startSheet np nq labels w) (pointsOf np P) S (g .face) (g .a) (g .c) h) refl)
+          → afterLanding np nq g (b .field) (lengthOf b) P labels w best (landingOf g b (lengthOf b) P w) ≡ cond (mayAt g) (betterOf best (ruleCandidate g)) best
+      moved Refused e h = ap (afterLanding np nq g (b .field) (lengthOf b) P labels w best) (lands g ha hc e ∙ h) ∙ passed (sym may ∙ rw (e, merge-refused b (startSheet np nq labels w) (pointsOf np P) S (g .face) (g .a) (g .c) h) refl)
       moved (Onto p) e h = ap (afterLanding np nq g (b .field) (lengthOf b) P labels w best) (lands g ha hc e ∙ h) ∙ taken p e h
 
-      go : (x : Bool) → allowedIn np nq (g .face) (g .a) (g .b) (g .c) (g .d) w ≡ x → afterLanding np nq g (b .field) (lengthOf b) P labels w best (landingOf np nq g b (lengthOf b) P w) ≡ cond (mayAt g) (betterOf best (ruleCandidate g)) best
-      go false e = passed (not-lands g e) (sym may ∙ rw e refl)
+      go : (x : Bool) → allowedIn np nq (g .face) (g .a) (g .b) (g .c) (g .d) w ≡ x
+          → cond x (afterLanding np nq g (b .field) (lengthOf b) P labels w best (landingOf g b (lengthOf b) P w)) best ≡ cond (mayAt g) (betterOf best (ruleCandidate g)) best
+      go false e = passed (sym may ∙ rw e refl)
       go true e = moved (movedTo b (startSheet np nq labels w) (pointsOf np P) (g .a) (g .c)) e refl
 
   -- the state that a choice leads to
@@ -163,7 +157,7 @@ module _ (np nq : ℕ) (b : Band) (P : List Float) (labels w : List ℕ) (G : St
       (cond (mayAt (diagonalOf Q f 0)) (betterOf None (ruleCandidate (diagonalOf Q f 0))) None)
   unfolding foundTo diagonalOf
   found-is Q f h0 h1 h2 h3 =
-      diagonal-is (diagonalOf Q f 1) (afterLanding np nq (diagonalOf Q f 0) (b .field) (lengthOf b) P labels w None (landingOf np nq (diagonalOf Q f 0) b (lengthOf b) P w)) h1 h3
+      diagonal-is (diagonalOf Q f 1) (afterDiagonal np nq (diagonalOf Q f 0) b (lengthOf b) P labels w None) h1 h3
       ∙ ap (λ best. cond (mayAt (diagonalOf Q f 1)) (betterOf best (ruleCandidate (diagonalOf Q f 1))) best) (diagonal-is (diagonalOf Q f 0) None h0 h2)
 
   not-used : (v : ℕ) → v < np → not (getD (usedOf np (usedIn np nq w)) v true) ≡ unmarked (usedIn np nq w) v

@@ -30,6 +30,14 @@ pub record DiagonalAsks (np nq : ℕ) (g : Diagonal) (w : List ℕ) : Type 0 whe
   pub mask-a : getD w (g .a) 0 < 256
   pub mask-c : getD w (g .c) 0 < 256
 
+-- what its landing asks: two points with masks
+pub record LandingAsks (np : ℕ) (g : Diagonal) (w : List ℕ) : Type 0 where
+  pub a< : g .a < np
+  pub c< : g .c < np
+  pub masks : np ≤ length w
+  pub mask-a : getD w (g .a) 0 < 256
+  pub mask-c : getD w (g .c) 0 < 256
+
 -- what the search in quad f asks: both diagonals can be tried
 pub record SearchAsks (np nq f : ℕ) (Q w : List ℕ) : Type 0 where
   pub f< : f < nq

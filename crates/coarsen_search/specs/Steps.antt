@@ -47,13 +47,11 @@ betterOf (Take x) y = cond (ltb (x .gain) (y .gain)) (Take y) (Take x)
 
 -- ---- as the code finds them
 
--- where a diagonal's merge lands: refused where the rule does not allow it
-unfoldable pub landingOf : ℕ → ℕ → Diagonal → Band → Float → List Float → List ℕ → Projected
-landingOf np nq g b len P w =
-    cond (allowedIn np nq (g .face) (g .a) (g .b) (g .c) (g .d) w)
-    (projectWith b len longestMove lookCount (halfwayP (pointAt P (g .a)) (pointAt P (g .c)))
-    (max (getD w (g .a) 0) (getD w (g .c) 0)))
-    Refused
+-- where a diagonal's merge lands
+unfoldable pub landingOf : Diagonal → Band → Float → List Float → List ℕ → Projected
+landingOf g b len P w =
+    projectWith b len longestMove lookCount (halfwayP (pointAt P (g .a)) (pointAt P (g .c)))
+    (max (getD w (g .a) 0) (getD w (g .c) 0))
 
 -- the quads at the point v stay
 abbrev pub stayAround : ℕ → ℕ → Diagonal → Field → Float → Point → List Float → List ℕ → List ℕ → ℕ → Bool
@@ -77,17 +75,23 @@ weighedOf np nq g f len p P labels w best =
     (betterOf best (candidateOf np nq g p w))
     best
 
--- what a diagonal makes of what was found
+-- what a landing makes of what was found: "If projecting the halfway point is refused, that diagonal is passed over."
 abbrev pub afterLanding : ℕ → ℕ → Diagonal → Field → Float → List Float → List ℕ → List ℕ → Choice → Projected → Choice
 afterLanding np nq g f len P labels w best (Onto p) = weighedOf np nq g f len p P labels w best
 afterLanding np nq g f len P labels w best Refused = best
+
+-- what a diagonal makes of it: passed over too where the rule does not allow it
+unfoldable pub afterDiagonal : ℕ → ℕ → Diagonal → Band → Float → List Float → List ℕ → List ℕ → Choice → Choice
+afterDiagonal np nq g b len P labels w best =
+    cond (allowedIn np nq (g .face) (g .a) (g .b) (g .c) (g .d) w)
+    (afterLanding np nq g (b .field) len P labels w best (landingOf g b len P w))
+    best
 
 -- the choice after the first k diagonals of quad f
 unfoldable pub foundTo : ℕ → ℕ → Band → Float → List Float → List ℕ → List ℕ → List ℕ → ℕ → ℕ → Choice
 foundTo np nq b len P Q labels w f zero = None
 foundTo np nq b len P Q labels w f (suc k) =
-    afterLanding np nq (diagonalOf Q f k) (b .field) len P labels w (foundTo np nq b len P Q labels w f k)
-    (landingOf np nq (diagonalOf Q f k) b len P w)
+    afterDiagonal np nq (diagonalOf Q f k) b len P labels w (foundTo np nq b len P Q labels w f k)
 
 -- ---- in the words of the rule
 

@@ -15,8 +15,9 @@ ghost use Rattle.pass_map.specs.Regions.{pointsAt};
 ghost use Rattle.coarsen_merge.specs.Regions.{endedAt};
 ghost use Rattle.coarsen_search.specs.Steps.{diagonalOf, betterOf, landingOf, stayAround, candidateOf, weighedOf};
 ghost use Rattle.coarsen_search.specs.Steps.{foundTo, triedIn};
-ghost use Rattle.coarsen_search.specs.Conditions.{DiagonalAsks, SearchAsks, Holding, Noted, InOrder, TakeAsks};
-ghost use Rattle.coarsen_search.specs.Conditions.{TakeLeaves, MergePassHolds, VisitLeaves, VisitAllLeaves};
+ghost use Rattle.coarsen_search.specs.Conditions.{DiagonalAsks, LandingAsks, SearchAsks, Holding, Noted};
+ghost use Rattle.coarsen_search.specs.Conditions.{InOrder, TakeAsks, TakeLeaves, MergePassHolds, VisitLeaves};
+ghost use Rattle.coarsen_search.specs.Conditions.{VisitAllLeaves};
 ghost use Rattle.lists.specs.Regions.{Out, Kept};
 ghost use Rattle.rule_coarsen.specs.MergeFits.{mergeAt};
 ghost use mathlib.Core.Bool.{true};
@@ -102,27 +103,14 @@ fn joined(a: usize, c: usize) -> u8
     a as u8
 }
 
-// Where the merge of a diagonal lands; refused where the rule does not allow it.
-fn landing(
-    np: usize,
-    nq: usize,
-    g: Diagonal,
-    b: Band,
-    len: f64,
-    points: &[f64],
-    w: &[u32],
-) -> Projected
-    requires { ⌜ StartHolds np nq (now w) ⌝ }
-    requires { ⌜ DiagonalAsks np nq g (now w) ⌝ }
+// Where the merge of a diagonal lands: the projection of its halfway point by the joined mask.
+fn landing(np: usize, g: Diagonal, b: Band, len: f64, points: &[f64], w: &[u32]) -> Projected
+    requires { ⌜ LandingAsks np g (now w) ⌝ }
     requires { ⌜ 3 * np ≤ length (now points) ⌝ }
-    requires { ⌜ TouchedHolds np nq (now w) ⌝ }
-    ensures { λ r. ⌜ r ≡ landingOf np nq g b len (now (points .entry)) (now (w .entry)) ⌝ }
+    ensures { λ r. ⌜ r ≡ landingOf g b len (now (points .entry)) (now (w .entry)) ⌝ }
 {
-    if coarsen_merge::allowed(np, nq, g.face, g.a, g.b, g.c, g.d, w) {
-        let mask = joined(lists::at(w, g.a), lists::at(w, g.c));
-        return pass_shapes::new_position(np, b, len, points, g.a, g.c, mask);
-    }
-    Projected::Refused
+    let mask = joined(lists::at(w, g.a), lists::at(w, g.c));
+    pass_shapes::new_position(np, b, len, points, g.a, g.c, mask)
 }
 
 // Of what was found and a new candidate the one that gains more, the first on a tie.
@@ -305,7 +293,10 @@ fn search(
     while k < 2 {
         let g = diagonal_at(quads, f, k);
         k += 1;
-        let Projected::Onto(p) = landing(np, nq, g, b, len, points, w) else {
+        if !coarsen_merge::allowed(np, nq, g.face, g.a, g.b, g.c, g.d, w) {
+            continue;
+        }
+        let Projected::Onto(p) = landing(np, g, b, len, points, w) else {
             continue;
         };
         let r = weighed(np, nq, g, field, len, p, points, labels, w, choice);
