@@ -8,8 +8,13 @@ use projection::Projected;
 use rule_sheet::Counts;
 use rule_sheet::Verdict;
 ghost use mathlib.Core.Path.{_≡_};
+ghost use lib.ListN.{length};
 ghost use Rattle.numeric.specs.Root.{sqrtOf};
-ghost use Rattle.export_leaves.specs.Doors.{valueAt};
+ghost use Rattle.rule_sheet.specs.Outcomes.{gives};
+ghost use Rattle.rule_exports.specs.Told.{toldOf};
+ghost use Rattle.export_leaves.specs.Answers.{pointOf, valueAt, isShortBy, ofBand, gradientAt, normalAt};
+ghost use Rattle.export_leaves.specs.Answers.{projectionAt, ShowsPoint, verdictNumber, bandNumber, filling};
+ghost use Rattle.export_leaves.specs.Answers.{sheetTests, toldTests, ShowsMasks};
 
 // Accepted.
 const ACCEPTED: u32 = 0;
@@ -17,8 +22,22 @@ const ACCEPTED: u32 = 0;
 // A projection fails.
 const ASTRAY: u32 = 9;
 
+// How many numbers a field has, and bounds a box.
+const NUMBERS: usize = 10;
+
+const BOUNDS: usize = 6;
+
+// Whether too little is told of a band.
+fn is_short(numbers: usize, bounds: usize) -> bool
+    ensures { λ r. ⌜ r ≡ isShortBy numbers bounds ⌝ }
+{
+    (numbers < NUMBERS) | (bounds < BOUNDS)
+}
+
 // Writes a point to out.
-fn put(out: &mut [f64], p: Point) -> u32 {
+fn put(out: &mut [f64], p: Point) -> u32
+    ensures { λ r. ⌜ ShowsPoint (gives p) (now (out .entry)) r (now (out .exit)) ⌝ }
+{
     if out.len() < 3 {
         return sheet::SHORT;
     }
@@ -39,7 +58,7 @@ pub extern "C" fn leaf_sqrt(x: f64) -> f64
 pub extern "C" fn leaf_value(kind: u32, numbers: &[f64], x: f64, y: f64, z: f64) -> f64
     ensures { λ r. ⌜ r ≡ valueAt kind (now (numbers .entry)) x y z ⌝ }
 {
-    if numbers.len() < 10 {
+    if numbers.len() < NUMBERS {
         return 0.0 / 0.0;
     }
     field::value(
@@ -60,8 +79,12 @@ pub extern "C" fn leaf_gradient(
     y: f64,
     z: f64,
     out: &mut [f64],
-) -> u32 {
-    if numbers.len() < 10 || bounds.len() < 6 {
+) -> u32
+    ensures { λ r. ⌜ (
+        let t = toldOf kind (now (numbers .entry)) (now (bounds .entry)) lower upper in
+        ShowsPoint (ofBand t (gradientAt (pointOf x y z))) (now (out .entry)) r (now (out .exit))) ⌝ }
+{
+    if is_short(numbers.len(), bounds.len()) {
         return sheet::SHORT;
     }
     let b = export_band::band_of(kind, numbers, bounds, lower, upper);
@@ -82,8 +105,12 @@ pub extern "C" fn leaf_normal(
     z: f64,
     label: u8,
     out: &mut [f64],
-) -> u32 {
-    if numbers.len() < 10 || bounds.len() < 6 {
+) -> u32
+    ensures { λ r. ⌜ (
+        let t = toldOf kind (now (numbers .entry)) (now (bounds .entry)) lower upper in
+        ShowsPoint (ofBand t (normalAt (pointOf x y z) label)) (now (out .entry)) r (now (out .exit))) ⌝ }
+{
+    if is_short(numbers.len(), bounds.len()) {
         return sheet::SHORT;
     }
     let b = export_band::band_of(kind, numbers, bounds, lower, upper);
@@ -107,8 +134,12 @@ pub extern "C" fn leaf_project(
     z: f64,
     mask: u8,
     out: &mut [f64],
-) -> u32 {
-    if numbers.len() < 10 || bounds.len() < 6 {
+) -> u32
+    ensures { λ r. ⌜ (
+        let t = toldOf kind (now (numbers .entry)) (now (bounds .entry)) lower upper in
+        ShowsPoint (ofBand t (projectionAt (pointOf x y z) mask)) (now (out .entry)) r (now (out .exit))) ⌝ }
+{
+    if is_short(numbers.len(), bounds.len()) {
         return sheet::SHORT;
     }
     let b = export_band::band_of(kind, numbers, bounds, lower, upper);
@@ -128,8 +159,10 @@ pub extern "C" fn leaf_validate(
     bounds: &[f64],
     lower: f64,
     upper: f64,
-) -> u32 {
-    if numbers.len() < 10 || bounds.len() < 6 {
+) -> u32
+    ensures { λ r. ⌜ r ≡ bandNumber (toldOf kind (now (numbers .entry)) (now (bounds .entry)) lower upper) ⌝ }
+{
+    if is_short(numbers.len(), bounds.len()) {
         return sheet::SHORT;
     }
     if band::validate(export_band::band_of(kind, numbers, bounds, lower, upper)) {
@@ -138,14 +171,28 @@ pub extern "C" fn leaf_validate(
     admission::BOX
 }
 
+// The number of a verdict: 0 if accepted.
+fn verdict_number(v: Verdict) -> u32
+    ensures { λ r. ⌜ r ≡ verdictNumber v ⌝ }
+{
+    match v {
+        Verdict::Accepted => ACCEPTED,
+        Verdict::Refused(number) => number,
+    }
+}
+
 // Tests a sheet that fills its slices; masks has an element for each point.
-fn tested(b: Band, points: &[f64], quads: &[u32], labels: &[u8], masks: &mut [u32]) -> u32 {
+fn tested(b: Band, points: &[f64], quads: &[u32], labels: &[u8], masks: &mut [u32]) -> u32
+    ensures { λ r. ⌜ (
+        let x = filling (now (points .entry)) (now (quads .entry)) (now (labels .entry)) in
+        ShowsMasks (sheetTests b x (length (now (masks .entry)))) x r (now (masks .exit))) ⌝ }
+{
     let c = Counts {
         points: points.len() / 3,
         quads: quads.len() / 4,
         labels: labels.len(),
     };
-    if sheet::LIMIT < c.points || sheet::LIMIT < c.quads || sheet::LIMIT < c.labels {
+    if sheet::is_large(c) {
         return sheet::LARGE;
     }
     if masks.len() != c.points {
@@ -154,11 +201,7 @@ fn tested(b: Band, points: &[f64], quads: &[u32], labels: &[u8], masks: &mut [u3
     if !band::validate(b) {
         return admission::BOX;
     }
-    let v = sheet::constraints(c, points, quads, labels, masks);
-    match v {
-        Verdict::Accepted => ACCEPTED,
-        Verdict::Refused(number) => number,
-    }
+    verdict_number(sheet::constraints(c, points, quads, labels, masks))
 }
 
 // Tests a sheet and its band.
@@ -173,8 +216,13 @@ pub extern "C" fn leaf_constraints(
     lower: f64,
     upper: f64,
     masks: &mut [u32],
-) -> u32 {
-    if numbers.len() < 10 || bounds.len() < 6 {
+) -> u32
+    ensures { λ r. ⌜ (
+        let t = toldOf kind (now (numbers .entry)) (now (bounds .entry)) lower upper in
+        let x = filling (now (points .entry)) (now (quads .entry)) (now (labels .entry)) in
+        ShowsMasks (toldTests t x (length (now (masks .entry)))) x r (now (masks .exit))) ⌝ }
+{
+    if is_short(numbers.len(), bounds.len()) {
         return sheet::SHORT;
     }
     let b = export_band::band_of(kind, numbers, bounds, lower, upper);

@@ -1,6 +1,6 @@
 -- `export_leaves::leaf_value` meets its contract: NaN for a short slice, else what `field::value` answers. Assumes nothing.
 use borrow.Author.Tests.{lt-ltb, le-ltb}
-use Rattle.export_leaves.specs.Doors.{valueAt}
+use Rattle.export_leaves.specs.Answers.{valueAt}
 use borrow.Author.Needs.{needs}
 use Rattle.export_leaves.proofs.leaf_value.Statement.{statement}
 use Rattle.export_leaves.proofs.leaf_value.Tie as tie
