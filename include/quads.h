@@ -25,15 +25,18 @@
  * The ANSWER slice has at least four elements (for quality ten). After a call it holds
  *   answer[0]   the number of swaps or merges; 0 where the operation counts none
  *   answer[1]   the points, answer[2] the quads and answer[3] the labels of the sheet that was made or altered
- * and zeros there after a refusal. Elements behind these stay as they came.
+ * and zeros there after a refusal. Elements behind these stay as they came, and so does a whole answer slice that is too short. The same holds
+ * of quality's four measures: each of the two slices by its own length, whatever the other's is.
  *
  * AFTER SUCCESS every slice that the operation writes a sheet to has the sheet in front and zeros behind it. AFTER A REFUSAL a sheet that was to
  * be altered in its own slices is bit for bit as it came, and the slices for a new sheet are all zero.
  *
- * THE ORDER OF REFUSALS. Before anything else come QUADS_SHORT, for an answer, numbers, bounds or measures slice that is too short (a
- * short answer or measures slice then stays as it came), and QUADS_BOX, for a kind above 2. What follows is said at each function; the first
- * that applies is returned. SHORT (lent) means a slice of the sheet shorter than its count says, or too little work; SHORT (result) means
- * more points or quads than the slices for the new sheet, or QUADS_LIMIT, hold.
+ * THE ORDER OF REFUSALS is said at each function; the first that applies is returned. SHORT (lent) means a slice of the sheet shorter than its
+ * count says, too little work, or a numbers, bounds, answer or measures slice that is too short. SHORT (result) means more points or quads than
+ * the slices for the new sheet, or QUADS_LIMIT, hold. A kind above 2 is refused with QUADS_BOX, where a band of any other fault is.
+ *
+ * THE MACHINE. The library is compiled for x86-64. A call needs the floating-point environment that a C program starts with: rounding to
+ * nearest, subnormal numbers kept (no flush to zero, no denormals are zero); it changes nothing in it. It uses no more than 64 KiB of stack.
  */
 #ifndef QUADS_H
 #define QUADS_H
@@ -80,8 +83,11 @@ enum {
 };
 
 /*
- * Draws the sheet around a band, over a grid of `cells` cells a side, into the three slices for a new sheet.
- * Refusals: BOX, BOTTOMLESS, CELLS, SHORT (work), SAMPLES, SHORT (result), BARE, CLASH.
+ * Draws the sheet around a band, over a grid of `cells` cells a side, into the three slices for a new sheet. How many points and quads it has
+ * is known once it is drawn: at most four points and three quads for each of the (cells + 2)^3 cells, and never more than QUADS_LIMIT; slices for
+ * QUADS_LIMIT points, quads and labels always suffice.
+ * Refusals: SHORT (numbers or bounds: without them there is no band), BOX, BOTTOMLESS, CELLS, SHORT (work or answer), SAMPLES, SHORT (result),
+ * BARE, CLASH.
  */
 uint32_t quads_extract_candidate(
     uint32_t kind, const double *numbers, size_t numbers_len, const double *bounds, size_t bounds_len,

@@ -9,7 +9,7 @@ use rule_sheet::Answer;
 use rule_sheet::Counts;
 use rule_sheet::Verdict;
 ghost use mathlib.Core.Path.{_≡_};
-ghost use mathlib.Core.Bool.{cond};
+ghost use mathlib.Core.Bool.{cond, _||_};
 ghost use lib.Dec.{ltb};
 ghost use lib.Ieee.{nan};
 ghost use lib.ListN.{getD};
@@ -18,7 +18,7 @@ ghost use Rattle.rule_sheet.specs.Numbers.{short};
 ghost use Rattle.rule_sheet.specs.Lent.{roomOf};
 ghost use Rattle.rule_sheet.specs.Outcomes.{refuses};
 ghost use Rattle.rule_sheet.specs.Results.{Makes, Cleared};
-ghost use Rattle.rule_exports.specs.Told.{toldOf, coefficientsOf, fieldOf, bandOf, toldVerdict};
+ghost use Rattle.rule_exports.specs.Told.{toldOf, coefficientsOf, fieldOf, lowerOf, bandOf, beforeVerdict};
 ghost use Rattle.rule_exports.specs.Exports.{answerNumber, answerCount, Shows};
 ghost use Rattle.export_band.specs.Steps.{countsLeft};
 
@@ -74,6 +74,16 @@ pub fn field_of(kind: u32, k: Coefficients) -> Field
     Field::Quadric(k)
 }
 
+// The lower level of a band: not a number for a kind that is none.
+fn lower_of(kind: u32, lower: f64) -> f64
+    ensures { λ r. ⌜ r ≡ lowerOf kind lower ⌝ }
+{
+    if QUADRIC < kind {
+        return 0.0 / 0.0;
+    }
+    lower
+}
+
 // The band of a field and the bounds low x, y, z and high x, y, z.
 pub fn band_of(kind: u32, numbers: &[f64], bounds: &[f64], lower: f64, upper: f64) -> Band
     ensures { λ r. ⌜ r ≡ bandOf (toldOf kind (now (numbers .entry)) (now (bounds .entry)) lower upper) ⌝ }
@@ -92,31 +102,51 @@ pub fn band_of(kind: u32, numbers: &[f64], bounds: &[f64], lower: f64, upper: f6
     Band {
         low,
         high,
-        lower,
+        lower: lower_of(kind, lower),
         upper,
         field,
     }
 }
 
-// What comes before an operation: 13 for slices that are too short, of the answer, the numbers or the bounds, then 1
-// for a kind that is none.
-pub fn told_verdict(short: bool, kind: u32, numbers: usize, bounds: usize) -> Verdict
-    ensures { λ r. ⌜ r ≡ toldVerdict short kind numbers bounds ⌝ }
+// Fewer numbers or bounds than a band has.
+fn is_short_told(numbers: usize, bounds: usize) -> bool
+    ensures { λ r. ⌜ r ≡ (ltb numbers 10 || ltb bounds 6) ⌝ }
 {
-    if short | (numbers < NUMBERS) | (bounds < BOUNDS) {
-        return Verdict::Refused(sheet::SHORT);
+    (numbers < NUMBERS) | (bounds < BOUNDS)
+}
+
+// What comes before an operation on a lent sheet: 12, then 13 where a slice of the export is too short.
+fn before_verdict(c: Counts, short: bool) -> Verdict
+    ensures { λ r. ⌜ r ≡ beforeVerdict c short ⌝ }
+{
+    if sheet::is_large(c) {
+        return Verdict::Refused(sheet::LARGE);
     }
-    if QUADRIC < kind {
-        return Verdict::Refused(admission::BOX);
+    if short {
+        return Verdict::Refused(sheet::SHORT);
     }
     Verdict::Accepted
 }
 
-// 13 for an answer slice of too few elements, of an operation that is told no band.
-pub fn answer_verdict(answers: usize) -> Verdict
-    ensures { λ r. ⌜ r ≡ cond (ltb answers 4) (Refused short) Accepted ⌝ }
+// The same of an export that is told a band; few where what it answers in is too short.
+pub fn told_verdict(c: Counts, few: bool, numbers: usize, bounds: usize) -> Verdict
+    ensures { λ r. ⌜ r ≡ beforeVerdict c (few || (ltb numbers 10 || ltb bounds 6)) ⌝ }
 {
-    if answers < ANSWERS {
+    before_verdict(c, few | is_short_told(numbers, bounds))
+}
+
+// The same of an export that is told no band.
+pub fn answer_verdict(c: Counts, answers: usize) -> Verdict
+    ensures { λ r. ⌜ r ≡ beforeVerdict c (ltb answers 4) ⌝ }
+{
+    before_verdict(c, answers < ANSWERS)
+}
+
+// What comes before extraction: 13 for numbers and bounds, without which there is no band.
+pub fn band_verdict(numbers: usize, bounds: usize) -> Verdict
+    ensures { λ r. ⌜ r ≡ cond (ltb numbers 10 || ltb bounds 6) (Refused short) Accepted ⌝ }
+{
+    if is_short_told(numbers, bounds) {
         return Verdict::Refused(sheet::SHORT);
     }
     Verdict::Accepted

@@ -1,15 +1,14 @@
 -- What `quads_quality` leaves in the answer slice and in the slice of measures. Assumes nothing.
 use Prim.Native.Nat.{ℕ, suc, _≤_}
 use mathlib.Core.Path.{_≡_, refl, ap, _∙_}
-use mathlib.Core.Bool.{Bool, true, false, _||_, true≢false}
+use mathlib.Core.Bool.{Bool, false, _||_}
 use mathlib.Core.List.{List, [], _∷_}
 use native.Mathlib.Omega.{arith}
-use lib.Dec.{ltb}
 use lib.ListN.{length, set}
 use lib.Ieee.{Float}
-use borrow.Author.Tests.{ltb-false}
 use Rattle.band.specs.declared.Band.{Band}
 use Rattle.setting.specs.Settings.{Setting, settingOf}
+use Rattle.rule_sheet.specs.declared.Counts.{Counts}
 use Rattle.rule_sheet.specs.declared.Verdict.{Verdict}
 use Rattle.rule_sheet.specs.Quads.{num}
 use Rattle.rule_sheet.specs.Outcomes.{Outcome, afterTest}
@@ -17,8 +16,8 @@ use Rattle.rule_quality.specs.declared.report.Quality.{Quality}
 use Rattle.rule_quality.specs.declared.report.Assessed.{Assessed}
 use Rattle.rule_quality.specs.declared.report.Assessed.the-variants.{Done, Refused}
 use Rattle.rule_quality.specs.Quality.{isValid, Assessment, assessedOf}
-use Rattle.rule_exports.specs.Told.{Told, bandOf, toldVerdict, byTold}
-use Rattle.rule_exports.specs.Measured.{qualityCounts, qualityMeasures, countsShown, measuresShown, fronted, assessedNumber, isShortMeasures, ShowsMeasures}
+use Rattle.rule_exports.specs.Told.{Told, bandOf, isShortTold, beforeVerdict, byTold}
+use Rattle.rule_exports.specs.Measured.{qualityCounts, qualityMeasures, countsShown, measuresShown, fronted, ShowsMeasures}
 use Rattle.export_quality.specs.Steps.{noQuality}
 
 -- ---- stores one after the other
@@ -51,36 +50,24 @@ measures-put q s h = stores-front (qualityMeasures q) s h
 
 -- ---- what an answer shows
 
-pub done-shown : (r : Assessed) (q : Quality) (t v : Bool) (s : List ℕ) (m : List Float) {s′ : List ℕ} {m′ : List Float} → r ≡ Done q t → v ≡ isValid q
-    → s′ ≡ fronted (qualityCounts q (num t) (num v)) s → m′ ≡ fronted (qualityMeasures q) m → (s′ ≡ fronted (countsShown r) s) × (m′ ≡ fronted (measuresShown r) m)
-unfolding countsShown measuresShown
-done-shown r q t v s m e ev es em = rw e (es ∙ rw ev, em)
+pub done-counts : (r : Assessed) (q : Quality) (t v : Bool) (s : List ℕ) {s′ : List ℕ} → r ≡ Done q t → v ≡ isValid q → s′ ≡ fronted (qualityCounts q (num t) (num v)) s → s′ ≡ fronted (countsShown r) s
+unfolding countsShown
+done-counts r q t v s e ev es = rw e (es ∙ rw ev)
 
-pub refused-shown : (r : Assessed) (n : ℕ) (p q : Quality) (s : List ℕ) (m : List Float) {s′ : List ℕ} {m′ : List Float} → r ≡ Refused n → p ≡ noQuality → q ≡ noQuality
-    → s′ ≡ fronted (qualityCounts p (num false) (num false)) s → m′ ≡ fronted (qualityMeasures q) m → (s′ ≡ fronted (countsShown r) s) × (m′ ≡ fronted (measuresShown r) m)
-unfolding countsShown measuresShown
-refused-shown r n p q s m e ep eq es em = rw e (es ∙ rw ep, em ∙ rw eq)
+pub refused-counts : (r : Assessed) (n : ℕ) (q : Quality) (s : List ℕ) {s′ : List ℕ} → r ≡ Refused n → q ≡ noQuality → s′ ≡ fronted (qualityCounts q (num false) (num false)) s → s′ ≡ fronted (countsShown r) s
+unfolding countsShown
+refused-counts r n q s e eq es = rw e (es ∙ rw eq)
 
--- ---- the two slices that are left
+pub done-measures : (r : Assessed) (q : Quality) (t : Bool) (m : List Float) {m′ : List Float} → r ≡ Done q t → m′ ≡ fronted (qualityMeasures q) m → m′ ≡ fronted (measuresShown r) m
+unfolding measuresShown
+done-measures r q t m e em = rw e em
 
-pub room-for : (n m : ℕ) → (ltb n 10 || ltb m 4) ≡ false → (10 ≤ n) × (4 ≤ m)
-room-for n m = go (ltb n 10) refl (ltb m 4) refl
-  where
-    go : (a : Bool) → ltb n 10 ≡ a → (b : Bool) → ltb m 4 ≡ b → (a || b) ≡ false → (10 ≤ n) × (4 ≤ m)
-    go true ea b eb h = absurd (true≢false h)
-    go false ea true eb h = absurd (true≢false h)
-    go false ea false eb h = (ltb-false n 10 ea, ltb-false m 4 eb)
-
--- the export shows the answer r in slices that are too short, or hold it
-module _ (r : Assessed) (s : List ℕ) (m : List Float) where
-  pub short-shown : {n : ℕ} → isShortMeasures s m ≡ true → n ≡ assessedNumber r → ShowsMeasures r s m n s m
-  short-shown h e = record { number = e; counts = rw h; measures = rw h }
-
-  pub all-shown : {n : ℕ} {s′ : List ℕ} {m′ : List Float} → isShortMeasures s m ≡ false → n ≡ assessedNumber r → (s′ ≡ fronted (countsShown r) s) × (m′ ≡ fronted (measuresShown r) m) → ShowsMeasures r s m n s′ m′
-  all-shown h e E = record { number = e; counts = rw h (E .0); measures = rw h (E .1) }
+pub refused-measures : (r : Assessed) (n : ℕ) (q : Quality) (m : List Float) {m′ : List Float} → r ≡ Refused n → q ≡ noQuality → m′ ≡ fronted (qualityMeasures q) m → m′ ≡ fronted (measuresShown r) m
+unfolding measuresShown
+refused-measures r n q m e eq em = rw e (em ∙ rw eq)
 
 -- the export's answer, by what it is told
-pub told-shows : (t : Told) (rule : Setting → Outcome Assessment) (few : Bool) {g : Bool} {v : Verdict} {b : Band} {r : Assessed} {s s′ : List ℕ} {m m′ : List Float} {n : ℕ} → g ≡ few
-    → v ≡ toldVerdict g (t .kind) (length (t .numbers)) (length (t .bounds)) → b ≡ bandOf t → r ≡ assessedOf (afterTest v (rule (settingOf b))) → ShowsMeasures r s m n s′ m′
-    → ShowsMeasures (assessedOf (byTold few t rule)) s m n s′ m′
-told-shows t rule few eg ev eb er S = let e : _ ≡ assessedOf (byTold few t rule) = er ∙ rw (ev, eg, eb) in rw e at S
+pub told-shows : (c : Counts) (t : Told) (rule : Setting → Outcome Assessment) (few : Bool) {g : Bool} {v : Verdict} {b : Band} {r : Assessed} {s s′ : List ℕ} {m m′ : List Float} {n : ℕ} → g ≡ few
+    → v ≡ beforeVerdict c (g || isShortTold t) → b ≡ bandOf t → r ≡ assessedOf (afterTest v (rule (settingOf b))) → ShowsMeasures r s m n s′ m′
+    → ShowsMeasures (assessedOf (byTold c few t rule)) s m n s′ m′
+told-shows c t rule few eg ev eb er S = let e : _ ≡ assessedOf (byTold c few t rule) = er ∙ rw (ev, eg, eb) in rw e at S

@@ -6,7 +6,7 @@ use rule_quality::report::Quality;
 use rule_sheet::Counts;
 use rule_sheet::Verdict;
 ghost use mathlib.Core.Path.{_≡_};
-ghost use mathlib.Core.Bool.{_||_};
+ghost use mathlib.Core.Bool.{cond, _||_};
 ghost use Prim.Native.Nat.{_≤_};
 ghost use lib.Dec.{ltb};
 ghost use lib.ListN.{length};
@@ -17,7 +17,7 @@ ghost use Rattle.rule_sheet.specs.Outcomes.{afterTest};
 ghost use Rattle.rule_sheet.specs.Results.{Cleared};
 ghost use Rattle.rule_quality.specs.Quality.{qualityRule, assessedOf};
 ghost use Rattle.rule_exports.specs.Measured.{qualityCounts, qualityMeasures, countsShown, measuresShown, fronted};
-ghost use Rattle.rule_exports.specs.Measured.{assessedNumber, ShowsMeasures};
+ghost use Rattle.rule_exports.specs.Measured.{assessedNumber, isShortCounts, isShortMeasures, ShowsMeasures};
 ghost use Rattle.export_quality.specs.Steps.{noQuality};
 
 // How many elements the slices of counts and of measures have.
@@ -73,22 +73,31 @@ fn no_quality() -> Quality
     }
 }
 
-// Writes what an answer of `quality` shows into slices that hold it.
-fn put_shown(answer: &mut [u64], measures: &mut [f64], r: Assessed)
-    requires { ⌜ 10 ≤ length (now answer) ⌝ }
-    requires { ⌜ 4 ≤ length (now measures) ⌝ }
-    ensures { λ _. ⌜ now (answer .exit) ≡ fronted (countsShown r) (now (answer .entry)) ⌝ }
-    ensures { λ _. ⌜ now (measures .exit) ≡ fronted (measuresShown r) (now (measures .entry)) ⌝ }
+// Shows the counts of an answer; a slice that is too short stays as it came.
+fn show_counts(answer: &mut [u64], r: Assessed)
+    ensures { λ _. ⌜ now (answer .exit) ≡ cond (isShortCounts (now (answer .entry))) (now (answer .entry))
+        (fronted (countsShown r) (now (answer .entry))) ⌝ }
 {
+    if answer.len() < ANSWERS {
+        return;
+    }
     match r {
-        Assessed::Done(q, tight) => {
-            put_counts(answer, q, tight, q.is_valid());
-            put_measures(measures, q);
-        }
-        Assessed::Refused(_) => {
-            put_counts(answer, no_quality(), false, false);
-            put_measures(measures, no_quality());
-        }
+        Assessed::Done(q, tight) => put_counts(answer, q, tight, q.is_valid()),
+        Assessed::Refused(_) => put_counts(answer, no_quality(), false, false),
+    }
+}
+
+// Shows its measures; a slice that is too short stays as it came.
+fn show_measures(measures: &mut [f64], r: Assessed)
+    ensures { λ _. ⌜ now (measures .exit) ≡ cond (isShortMeasures (now (measures .entry))) (now (measures .entry))
+        (fronted (measuresShown r) (now (measures .entry))) ⌝ }
+{
+    if measures.len() < MEASURES {
+        return;
+    }
+    match r {
+        Assessed::Done(q, _) => put_measures(measures, q),
+        Assessed::Refused(_) => put_measures(measures, no_quality()),
     }
 }
 
@@ -102,22 +111,20 @@ fn assessed_number(r: Assessed) -> u32
     }
 }
 
-// The slices of counts and of measures are too short.
+// A slice of counts or of measures is too short.
 pub fn is_short(answers: usize, measures: usize) -> bool
     ensures { λ r. ⌜ r ≡ (ltb answers 10 || ltb measures 4) ⌝ }
 {
     (answers < ANSWERS) | (measures < MEASURES)
 }
 
-// Shows an answer: its number, its counts and its measures; slices that are too short stay as they came.
+// Shows an answer: its number, its counts and its measures; a slice that is too short stays as it came.
 pub fn put_assessed(answer: &mut [u64], measures: &mut [f64], r: Assessed) -> u32
     ensures { λ n. ⌜ ShowsMeasures r (now (answer .entry)) (now (measures .entry)) n (now (answer .exit))
         (now (measures .exit)) ⌝ }
 {
-    if is_short(answer.len(), measures.len()) {
-        return assessed_number(r);
-    }
-    put_shown(answer, measures, r);
+    show_counts(answer, r);
+    show_measures(measures, r);
     assessed_number(r)
 }
 

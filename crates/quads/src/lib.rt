@@ -3,6 +3,7 @@
 // count of swaps or merges and the counts of the sheet.
 
 use rule_sheet::Counts;
+ghost use mathlib.Core.Bool.{_||_};
 ghost use Rattle.rule_sheet.specs.Lent.{lentOf, roomOf, workOf};
 ghost use Rattle.rule_sheet.specs.Results.{Cleared};
 ghost use Rattle.rule_regularize.specs.Rule.{regularizeRule, improveRule};
@@ -12,9 +13,9 @@ ghost use Rattle.rule_finer.specs.Subdivide.{subdivideRule};
 ghost use Rattle.rule_rows.specs.Rows.{rowsRule};
 ghost use Rattle.rule_quality.specs.Quality.{qualityRule, assessedOf};
 ghost use Rattle.rule_extract.specs.Drawing.{extractRule};
-ghost use Rattle.rule_exports.specs.Told.{toldOf, byTold};
+ghost use Rattle.rule_exports.specs.Told.{toldOf, byTold, drawnByTold};
 ghost use Rattle.rule_exports.specs.Exports.{isShortAnswer, withAnswer, ExportMakes, ExportAlters, ExportAltersQuads};
-ghost use Rattle.rule_exports.specs.Measured.{isShortMeasures, ShowsMeasures};
+ghost use Rattle.rule_exports.specs.Measured.{isShortCounts, isShortMeasures, ShowsMeasures};
 
 // `extract_candidate`: the counts of the drawn sheet go to answer[1..4], answer[0] is 0.
 #[no_mangle]
@@ -37,21 +38,17 @@ pub extern "C" fn quads_extract_candidate(
         let room = roomOf (now («new_points» .entry)) (now («new_quads» .entry)) (now («new_labels» .entry)) in
         let w = workOf (now (work .entry)) (now (floats .entry)) in
         let l = now (answer .entry) in
-        ExportMakes (byTold (isShortAnswer l) t (λ s. extractRule s cells w room)) room l r
+        ExportMakes (drawnByTold (isShortAnswer l) t w (λ s v. extractRule s cells v room)) room l r
         (now («new_points» .exit)) (now («new_quads» .exit))
         (now («new_labels» .exit)) (now (answer .exit))) ⌝ }
     ensures cleared { λ _. ⌜ Cleared (now (work .entry)) (now (floats .entry)) (now (work .exit))
         (now (floats .exit)) ⌝ }
 {
-    let v = export_band::told_verdict(
-        answer.len() < export_band::ANSWERS,
-        kind,
-        numbers.len(),
-        bounds.len(),
-    );
+    let v = export_band::band_verdict(numbers.len(), bounds.len());
     let b = export_band::band_of(kind, numbers, bounds, lower, upper);
     let r = export_extract::extract_after(
         v,
+        answer.len() < export_band::ANSWERS,
         b,
         cells,
         new_points,
@@ -85,18 +82,18 @@ pub extern "C" fn quads_refine(
         let room = roomOf (now («new_points» .entry)) (now («new_quads» .entry)) (now («new_labels» .entry)) in
         let w = workOf (now (work .entry)) (now (floats .entry)) in
         let l = now (answer .entry) in
-        ExportMakes (withAnswer l (refineRule x w room)) room l r
+        ExportMakes (withAnswer (x .counts) l (refineRule x w room)) room l r
         (now («new_points» .exit)) (now («new_quads» .exit))
         (now («new_labels» .exit)) (now (answer .exit))) ⌝ }
     ensures cleared { λ _. ⌜ Cleared (now (work .entry)) (now (floats .entry)) (now (work .exit))
         (now (floats .exit)) ⌝ }
 {
-    let v = export_band::answer_verdict(answer.len());
     let c = Counts {
         points: np,
         quads: nq,
         labels: nl,
     };
+    let v = export_band::answer_verdict(c, answer.len());
     let r = export_finer::refine_after(
         v,
         c,
@@ -140,24 +137,24 @@ pub extern "C" fn quads_subdivide(
         let room = roomOf (now («new_points» .entry)) (now («new_quads» .entry)) (now («new_labels» .entry)) in
         let w = workOf (now (work .entry)) (now (floats .entry)) in
         let l = now (answer .entry) in
-        ExportMakes (byTold (isShortAnswer l) t (λ s. subdivideRule s x w room)) room l r
+        ExportMakes (byTold (x .counts) (isShortAnswer l) t (λ s. subdivideRule s x w room)) room l r
         (now («new_points» .exit)) (now («new_quads» .exit))
         (now («new_labels» .exit)) (now (answer .exit))) ⌝ }
     ensures cleared { λ _. ⌜ Cleared (now (work .entry)) (now (floats .entry)) (now (work .exit))
         (now (floats .exit)) ⌝ }
 {
-    let v = export_band::told_verdict(
-        answer.len() < export_band::ANSWERS,
-        kind,
-        numbers.len(),
-        bounds.len(),
-    );
-    let b = export_band::band_of(kind, numbers, bounds, lower, upper);
     let c = Counts {
         points: np,
         quads: nq,
         labels: nl,
     };
+    let v = export_band::told_verdict(
+        c,
+        answer.len() < export_band::ANSWERS,
+        numbers.len(),
+        bounds.len(),
+    );
+    let b = export_band::band_of(kind, numbers, bounds, lower, upper);
     let r = export_finer::subdivide_after(
         v,
         b,
@@ -202,24 +199,24 @@ pub extern "C" fn quads_boundary_rows(
         let room = roomOf (now («new_points» .entry)) (now («new_quads» .entry)) (now («new_labels» .entry)) in
         let w = workOf (now (work .entry)) (now (floats .entry)) in
         let l = now (answer .entry) in
-        ExportMakes (byTold (isShortAnswer l) t (λ s. rowsRule s x w room)) room l r
+        ExportMakes (byTold (x .counts) (isShortAnswer l) t (λ s. rowsRule s x w room)) room l r
         (now («new_points» .exit)) (now («new_quads» .exit))
         (now («new_labels» .exit)) (now (answer .exit))) ⌝ }
     ensures cleared { λ _. ⌜ Cleared (now (work .entry)) (now (floats .entry)) (now (work .exit))
         (now (floats .exit)) ⌝ }
 {
-    let v = export_band::told_verdict(
-        answer.len() < export_band::ANSWERS,
-        kind,
-        numbers.len(),
-        bounds.len(),
-    );
-    let b = export_band::band_of(kind, numbers, bounds, lower, upper);
     let c = Counts {
         points: np,
         quads: nq,
         labels: nl,
     };
+    let v = export_band::told_verdict(
+        c,
+        answer.len() < export_band::ANSWERS,
+        numbers.len(),
+        bounds.len(),
+    );
+    let b = export_band::band_of(kind, numbers, bounds, lower, upper);
     let r = export_finer::rows_after(
         v,
         b,
@@ -261,20 +258,20 @@ pub extern "C" fn quads_quality(
         (now (labels .entry)) in
         let t = toldOf kind (now (numbers .entry)) (now (bounds .entry)) lower upper in
         let w = workOf (now (work .entry)) (now (floats .entry)) in
-        let few = isShortMeasures (now (answer .entry)) (now (measures .entry)) in
-        ShowsMeasures (assessedOf (byTold few t (λ s. qualityRule s x w))) (now (answer .entry))
+        let few = isShortCounts (now (answer .entry)) || isShortMeasures (now (measures .entry)) in
+        ShowsMeasures (assessedOf (byTold (x .counts) few t (λ s. qualityRule s x w))) (now (answer .entry))
         (now (measures .entry)) r (now (answer .exit)) (now (measures .exit))) ⌝ }
     ensures cleared { λ _. ⌜ Cleared (now (work .entry)) (now (floats .entry)) (now (work .exit))
         (now (floats .exit)) ⌝ }
 {
-    let few = export_quality::is_short(answer.len(), measures.len());
-    let v = export_band::told_verdict(few, kind, numbers.len(), bounds.len());
-    let b = export_band::band_of(kind, numbers, bounds, lower, upper);
     let c = Counts {
         points: np,
         quads: nq,
         labels: nl,
     };
+    let few = export_quality::is_short(answer.len(), measures.len());
+    let v = export_band::told_verdict(c, few, numbers.len(), bounds.len());
+    let b = export_band::band_of(kind, numbers, bounds, lower, upper);
     let r = export_quality::quality_after(v, b, c, points, quads, labels, work, floats);
     export_quality::put_assessed(answer, measures, r)
 }
@@ -304,23 +301,23 @@ pub extern "C" fn quads_regularize(
         let t = toldOf kind (now (numbers .entry)) (now (bounds .entry)) lower upper in
         let w = workOf (now (work .entry)) (now (floats .entry)) in
         let l = now (answer .entry) in
-        ExportAltersQuads (byTold (isShortAnswer l) t (λ s. regularizeRule s passes x w)) x l r (now (quads .exit))
+        ExportAltersQuads (byTold (x .counts) (isShortAnswer l) t (λ s. regularizeRule s passes x w)) x l r (now (quads .exit))
         (now (answer .exit))) ⌝ }
     ensures cleared { λ _. ⌜ Cleared (now (work .entry)) (now (floats .entry)) (now (work .exit))
         (now (floats .exit)) ⌝ }
 {
-    let v = export_band::told_verdict(
-        answer.len() < export_band::ANSWERS,
-        kind,
-        numbers.len(),
-        bounds.len(),
-    );
-    let b = export_band::band_of(kind, numbers, bounds, lower, upper);
     let c = Counts {
         points: np,
         quads: nq,
         labels: nl,
     };
+    let v = export_band::told_verdict(
+        c,
+        answer.len() < export_band::ANSWERS,
+        numbers.len(),
+        bounds.len(),
+    );
+    let b = export_band::band_of(kind, numbers, bounds, lower, upper);
     let r = export_cleanup::regularize_after(v, b, passes, c, points, quads, labels, work, floats);
     export_band::put_answer(answer, r)
 }
@@ -350,23 +347,23 @@ pub extern "C" fn quads_improve_layout(
         let t = toldOf kind (now (numbers .entry)) (now (bounds .entry)) lower upper in
         let w = workOf (now (work .entry)) (now (floats .entry)) in
         let l = now (answer .entry) in
-        ExportAltersQuads (byTold (isShortAnswer l) t (λ s. improveRule s passes x w)) x l r (now (quads .exit))
+        ExportAltersQuads (byTold (x .counts) (isShortAnswer l) t (λ s. improveRule s passes x w)) x l r (now (quads .exit))
         (now (answer .exit))) ⌝ }
     ensures cleared { λ _. ⌜ Cleared (now (work .entry)) (now (floats .entry)) (now (work .exit))
         (now (floats .exit)) ⌝ }
 {
-    let v = export_band::told_verdict(
-        answer.len() < export_band::ANSWERS,
-        kind,
-        numbers.len(),
-        bounds.len(),
-    );
-    let b = export_band::band_of(kind, numbers, bounds, lower, upper);
     let c = Counts {
         points: np,
         quads: nq,
         labels: nl,
     };
+    let v = export_band::told_verdict(
+        c,
+        answer.len() < export_band::ANSWERS,
+        numbers.len(),
+        bounds.len(),
+    );
+    let b = export_band::band_of(kind, numbers, bounds, lower, upper);
     let r = export_cleanup::improve_after(v, b, passes, c, points, quads, labels, work, floats);
     export_band::put_answer(answer, r)
 }
@@ -396,23 +393,23 @@ pub extern "C" fn quads_coarsen(
         let t = toldOf kind (now (numbers .entry)) (now (bounds .entry)) lower upper in
         let w = workOf (now (work .entry)) (now (floats .entry)) in
         let l = now (answer .entry) in
-        ExportAlters (byTold (isShortAnswer l) t (λ s. coarsenRule s passes x w)) x l r (now (points .exit))
+        ExportAlters (byTold (x .counts) (isShortAnswer l) t (λ s. coarsenRule s passes x w)) x l r (now (points .exit))
         (now (quads .exit)) (now (labels .exit)) (now (answer .exit))) ⌝ }
     ensures cleared { λ _. ⌜ Cleared (now (work .entry)) (now (floats .entry)) (now (work .exit))
         (now (floats .exit)) ⌝ }
 {
-    let v = export_band::told_verdict(
-        answer.len() < export_band::ANSWERS,
-        kind,
-        numbers.len(),
-        bounds.len(),
-    );
-    let b = export_band::band_of(kind, numbers, bounds, lower, upper);
     let c = Counts {
         points: np,
         quads: nq,
         labels: nl,
     };
+    let v = export_band::told_verdict(
+        c,
+        answer.len() < export_band::ANSWERS,
+        numbers.len(),
+        bounds.len(),
+    );
+    let b = export_band::band_of(kind, numbers, bounds, lower, upper);
     let r = export_cleanup::coarsen_after(v, b, passes, c, points, quads, labels, work, floats);
     export_band::put_answer(answer, r)
 }

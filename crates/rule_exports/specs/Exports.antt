@@ -6,22 +6,22 @@ use mathlib.Core.List.{List}
 use lib.Dec.{ltb}
 use lib.Ieee.{Float}
 use lib.ListN.{length, set}
+use Rattle.rule_sheet.specs.declared.Counts.{Counts}
 use Rattle.rule_sheet.specs.declared.Answer.{Answer}
 use Rattle.rule_sheet.specs.declared.Answer.the-variants as answers
-use Rattle.rule_sheet.specs.declared.Verdict.the-variants.{Accepted, Refused}
-use Rattle.rule_sheet.specs.Numbers.{short}
 use Rattle.rule_sheet.specs.Sheet.{Sheet}
 use Rattle.rule_sheet.specs.Lent.{Lent, Room}
 use Rattle.rule_sheet.specs.Outcomes.{Outcome, RunEnd, afterTest}
 use Rattle.rule_sheet.specs.Results.{answerOf, made, shownCounts, Makes, Alters, AltersQuads}
+use Rattle.rule_exports.specs.Told.{beforeVerdict}
 
 -- an answer slice is too short: it has fewer than 4 elements
 abbrev pub isShortAnswer : List ℕ → Bool
 isShortAnswer l = ltb (length l) 4
 
--- an operation that is told no band: 13 of its answer slice comes first
-abbrev pub withAnswer : {A : Type 0} → List ℕ → Outcome A → Outcome A
-withAnswer l o = afterTest (cond (isShortAnswer l) (Refused short) Accepted) o
+-- an operation on a lent sheet of these counts that is told no band: 12, then every 13
+abbrev pub withAnswer : {A : Type 0} → Counts → List ℕ → Outcome A → Outcome A
+withAnswer c l o = afterTest (beforeVerdict c (isShortAnswer l)) o
 
 -- the number that an export returns: 0 if accepted
 unfoldable pub answerNumber : Answer → ℕ

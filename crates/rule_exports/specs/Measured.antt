@@ -2,7 +2,7 @@
 -- measures.
 use Prim.Native.Nat.{ℕ}
 use mathlib.Core.Path.{_≡_}
-use mathlib.Core.Bool.{Bool, cond, _||_}
+use mathlib.Core.Bool.{Bool, cond}
 use mathlib.Core.List.{List, [], _∷_, _++_}
 use lib.Dec.{ltb}
 use lib.ListN.{length, drop, replicate}
@@ -52,14 +52,18 @@ assessedNumber (Refused n) = n
 unfoldable pub fronted : {A : Type 0} → List A → List A → List A
 fronted l s = l ++ drop (length l) s
 
--- the slices of counts and of measures are too short: they have fewer than 10 and 4 elements
-abbrev pub isShortMeasures : List ℕ → List Float → Bool
-isShortMeasures c m = ltb (length c) 10 || ltb (length m) 4
+-- a slice of counts is too short: it has fewer than 10 elements
+abbrev pub isShortCounts : List ℕ → Bool
+isShortCounts c = ltb (length c) 10
 
--- the number n of the export with the answer r, and its two slices c′ and m′ at its end, c and m at its start:
--- untouched if one is too short
+-- a slice of measures is too short: it has fewer than 4 elements
+abbrev pub isShortMeasures : List Float → Bool
+isShortMeasures m = ltb (length m) 4
+
+-- the number n of the export with the answer r, and its two slices c′ and m′ at its end, c and m at its start: each
+-- untouched if it is too short itself
 pub record ShowsMeasures (r : Assessed) (c : List ℕ) (m : List Float) (n : ℕ) (c′ : List ℕ) (m′ : List Float)
     : Type 0 where
   pub number : n ≡ assessedNumber r
-  pub counts : c′ ≡ cond (isShortMeasures c m) c (fronted (countsShown r) c)
-  pub measures : m′ ≡ cond (isShortMeasures c m) m (fronted (measuresShown r) m)
+  pub counts : c′ ≡ cond (isShortCounts c) c (fronted (countsShown r) c)
+  pub measures : m′ ≡ cond (isShortMeasures m) m (fronted (measuresShown r) m)

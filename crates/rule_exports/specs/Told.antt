@@ -11,9 +11,11 @@ use Rattle.field.specs.declared.Field.the-variants.{Plane, Ball, Quadric}
 use Rattle.field.specs.declared.Coefficients.{Coefficients}
 use Rattle.band.specs.declared.Band.{Band}
 use Rattle.setting.specs.Settings.{Setting, settingOf}
+use Rattle.rule_sheet.specs.declared.Counts.{Counts}
 use Rattle.rule_sheet.specs.declared.Verdict.{Verdict}
 use Rattle.rule_sheet.specs.declared.Verdict.the-variants.{Accepted, Refused}
-use Rattle.rule_sheet.specs.Numbers.{box, short}
+use Rattle.rule_sheet.specs.Numbers.{large, short}
+use Rattle.rule_sheet.specs.Lent.{Work, workWith, isLarge}
 use Rattle.rule_sheet.specs.Outcomes.{Outcome, afterTest}
 
 -- what an export is told of the band
@@ -48,22 +50,37 @@ fieldOf kind k =
     cond (eqb kind 0) (Plane (k .k0) (k .k1) (k .k2) (k .k3))
     (cond (eqb kind 1) (Ball (k .k0) (k .k1) (k .k2) (k .k3)) (Quadric k))
 
+-- the lower level of the band that is told. A kind above 2 is none: its band has a lower level that is not a number,
+-- which every test of a band refuses, with 1 in its place.
+unfoldable pub lowerOf : ℕ → Float → Float
+lowerOf kind lower = cond (ltb 2 kind) nan lower
+
 -- the band that is told; its bounds are low x, y, z, then high x, y, z
 unfoldable pub bandOf : Told → Band
 bandOf t = record {
   low = pointAt (t .bounds) 0;
   high = pointAt (t .bounds) 1;
-  lower = t .lower;
+  lower = lowerOf (t .kind) (t .lower);
   upper = t .upper;
   field = fieldOf (t .kind) (coefficientsOf (t .numbers));
 }
 
--- 13 where what the export answers in is too short, or n numbers or m bounds are too few; then 1 for a kind above 2
-unfoldable pub toldVerdict : Bool → ℕ → ℕ → ℕ → Verdict
-toldVerdict tooShort kind n m =
-    cond (tooShort || ltb n 10 || ltb m 6) (Refused short) (cond (ltb 2 kind) (Refused box) Accepted)
+-- 13, short: fewer than ten numbers or six bounds
+abbrev pub isShortTold : Told → Bool
+isShortTold t = ltb (length (t .numbers)) 10 || ltb (length (t .bounds)) 6
 
--- an operation by what its export is told: these tests come before its own
-abbrev pub byTold : {A : Type 0} → Bool → Told → (Setting → Outcome A) → Outcome A
-byTold tooShort t rule =
-    afterTest (toldVerdict tooShort (t .kind) (length (t .numbers)) (length (t .bounds))) (rule (settingOf (bandOf t)))
+-- what comes before the tests of an operation on a lent sheet: 12, then 13 where a slice of the export is too short
+unfoldable pub beforeVerdict : Counts → Bool → Verdict
+beforeVerdict c tooShort = cond (isLarge c) (Refused large) (cond tooShort (Refused short) Accepted)
+
+-- an operation on a lent sheet of these counts, by what its export is told, few where what it answers in is too
+-- short: "12, 13 (counts or work), 1", every 13 before 1
+abbrev pub byTold : {A : Type 0} → Counts → Bool → Told → (Setting → Outcome A) → Outcome A
+byTold c few t rule = afterTest (beforeVerdict c (few || isShortTold t)) (rule (settingOf (bandOf t)))
+
+-- extraction by what its export is told: without numbers and bounds there is no band, so their 13 comes first; then
+-- "1, 2, 3, 13 (work)", where a short answer slice counts as no work
+abbrev pub drawnByTold : {A : Type 0} → Bool → Told → Work → (Setting → Work → Outcome A) → Outcome A
+drawnByTold few t w rule =
+    afterTest (cond (isShortTold t) (Refused short) Accepted)
+    (rule (settingOf (bandOf t)) (cond few (workWith 0 0) w))

@@ -1,15 +1,11 @@
 -- `export_band::at_or_nan` meets its contract. Assumes nothing.
-use mathlib.Core.Path.{_≡_, refl, sym, _∙_}
+use mathlib.Core.Path.{sym, _∙_}
 use lib.ListN.{List·getD-eq-default}
-use lib.Ieee.{nan, ofBits, div, binary64}
+use lib.Ieee.{nan}
 use borrow.Author.Needs.{needs}
+use Rattle.export_band.proofs.Told.{zero-over-zero}
 use Rattle.export_band.proofs.at_or_nan.Statement.{statement}
 use Rattle.export_band.proofs.at_or_nan.Tie as tie
-
--- the value of 0.0 / 0.0
-zero-over-zero : div binary64 (ofBits binary64 0) (ofBits binary64 0) ≡ nan
-unfolding ofBits div
-zero-over-zero = refl
 
 mul-result : tie.Need-mul-result
 mul-result c = search needs

@@ -30,9 +30,12 @@ coefficients-requires c κs = search needs
 field-of-requires : tie.Need-field-of-requires
 field-of-requires c κs = search needs
 
+lower-of-requires : tie.Need-lower-of-requires
+lower-of-requires c κs = search needs
+
 returns : tie.Need-returns
-returns c = let s = c .before .before .before .before .before .before .before .before .before .before .args in
-    band-read (s .kind) (s .numbers .now) (s .bounds .now) (s .lower) (s .upper) (c .before .before .before .before .before .before .before .at-or-nan .ensures) (c .before .before .before .before .before .before .at-or-nan2 .ensures) (c .before .before .before .before .before .at-or-nan3 .ensures) (c .before .before .before .before .at-or-nan4 .ensures) (c .before .before .before .at-or-nan5 .ensures) (c .before .before .at-or-nan6 .ensures) (c .field-of .ensures ∙ ap (fieldOf (s .kind)) (c .before .coefficients .ensures))
+returns c = let s = c .before .before .before .before .before .before .before .before .before .before .before .args in
+    band-read (s .kind) (s .numbers .now) (s .bounds .now) (s .lower) (s .upper) (c .before .before .before .before .before .before .before .before .at-or-nan .ensures) (c .before .before .before .before .before .before .before .at-or-nan2 .ensures) (c .before .before .before .before .before .before .at-or-nan3 .ensures) (c .before .before .before .before .before .at-or-nan4 .ensures) (c .before .before .before .before .at-or-nan5 .ensures) (c .before .before .before .at-or-nan6 .ensures) (c .before .field-of .ensures ∙ ap (fieldOf (s .kind)) (c .before .before .coefficients .ensures)) (c .lower-of .ensures)
 
 pub band-of-spec : {M : Type 1} → statement M
 band-of-spec =
@@ -46,4 +49,5 @@ band-of-spec =
     at-or-nan-requires-6
     coefficients-requires
     field-of-requires
+    lower-of-requires
     returns)

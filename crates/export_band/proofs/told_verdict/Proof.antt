@@ -1,20 +1,17 @@
 -- `export_band::told_verdict` meets its contract. Assumes nothing.
-use borrow.Author.Tests.{lt-ltb, le-ltb}
-use Rattle.rule_exports.specs.Told.{toldVerdict}
+use mathlib.Core.Path.{_∙_}
+use borrow.Author.Needs.{needs}
 use Rattle.export_band.proofs.told_verdict.Statement.{statement}
 use Rattle.export_band.proofs.told_verdict.Tie as tie
 
+is-short-told-requires : tie.Need-is-short-told-requires
+is-short-told-requires c κs = search needs
+
+before-verdict-requires : tie.Need-before-verdict-requires
+before-verdict-requires c κs = search needs
+
 returns : tie.Need-returns
-unfolding toldVerdict
-returns c = simp (c .if1 .taken)
-
-returns-2 : tie.Need-returns-2
-unfolding toldVerdict
-returns-2 c = simp (c .before .if1 .left, lt-ltb _ _ (c .if2 .taken))
-
-returns-3 : tie.Need-returns-3
-unfolding toldVerdict
-returns-3 c = simp (c .before .if1 .left, le-ltb _ _ (c .if2 .left))
+returns c = c .before-verdict .ensures ∙ rw (c .before .is-short-told .ensures)
 
 pub told-verdict-spec : {M : Type 1} → statement M
-told-verdict-spec = tie.close (tie.spec returns returns-2 returns-3)
+told-verdict-spec = tie.close (tie.spec is-short-told-requires before-verdict-requires returns)

@@ -41,7 +41,7 @@ same-length-6 c = search needs
 returns : tie.Need-returns
 returns c = let s = c .before .before .before .before .before .before .before .before .before .before .before .before .before .before .before .before .before .before .before .before .before .before .before .before .before .before .before .before .before .before .before .before .before .args in
     let e = c .before .before .before .before .before .before .before .before .before .before .before .before .before .before .rows-after .ensures in
-    (told-makes (isShortAnswer (s .answer .now)) (toldOf (s .kind) (s .numbers .now) (s .bounds .now) (s .lower) (s .upper)) (λ z. rowsRule z (lentOf (record { points = s .np; quads = s .nq; labels = s .nl }) (s .points .now) (s .quads .now) (s .labels .now)) (workOf (s .work .now) (s .floats .now)) (roomOf (s .new-points .now) (s .new-quads .now) (s .new-labels .now))) (c .before .before .before .before .before .before .before .before .before .before .before .before .before .before .before .before .before .before .before .before .before .told-verdict .ensures) (c .before .before .before .before .before .before .before .before .before .before .before .before .before .before .before .before .before .before .before .before .band-of .ensures) (e .0) (c .before .before .put-answer .ensures), e .1)
+    (told-makes (record { points = s .np; quads = s .nq; labels = s .nl }) (isShortAnswer (s .answer .now)) (toldOf (s .kind) (s .numbers .now) (s .bounds .now) (s .lower) (s .upper)) (λ z. rowsRule z (lentOf (record { points = s .np; quads = s .nq; labels = s .nl }) (s .points .now) (s .quads .now) (s .labels .now)) (workOf (s .work .now) (s .floats .now)) (roomOf (s .new-points .now) (s .new-quads .now) (s .new-labels .now))) (c .before .before .before .before .before .before .before .before .before .before .before .before .before .before .before .before .before .before .before .before .before .told-verdict .ensures) (c .before .before .before .before .before .before .before .before .before .before .before .before .before .before .before .before .before .before .before .before .band-of .ensures) (e .0) (c .before .before .put-answer .ensures), e .1)
 
 pub quads-boundary-rows-spec : {M : Type 1} → statement M
 quads-boundary-rows-spec =

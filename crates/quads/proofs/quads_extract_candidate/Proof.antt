@@ -1,15 +1,15 @@
 -- `quads::quads_extract_candidate` meets its contract. Assumes nothing.
 use borrow.Author.Needs.{needs}
 use Rattle.rule_extract.specs.Drawing.{extractRule}
-use Rattle.export_band.proofs.Exports.{told-makes}
+use Rattle.export_band.proofs.Exports.{drawn-makes}
 use Rattle.rule_sheet.specs.Lent.{roomOf, workOf}
 use Rattle.rule_exports.specs.Told.{toldOf}
 use Rattle.rule_exports.specs.Exports.{isShortAnswer}
 use Rattle.quads.proofs.quads_extract_candidate.Statement.{statement}
 use Rattle.quads.proofs.quads_extract_candidate.Tie as tie
 
-told-verdict-requires : tie.Need-told-verdict-requires
-told-verdict-requires c κs = search needs
+band-verdict-requires : tie.Need-band-verdict-requires
+band-verdict-requires c κs = search needs
 
 band-of-requires : tie.Need-band-of-requires
 band-of-requires c κs = search needs
@@ -41,13 +41,13 @@ same-length-6 c = search needs
 returns : tie.Need-returns
 returns c = let s = c .before .before .before .before .before .before .before .before .before .before .before .before .before .before .before .before .before .before .before .before .before .before .before .before .before .before .before .before .before .before .args in
     let e = c .before .before .before .before .before .before .before .before .before .before .before .before .before .before .extract-after .ensures in
-    (told-makes (isShortAnswer (s .answer .now)) (toldOf (s .kind) (s .numbers .now) (s .bounds .now) (s .lower) (s .upper)) (λ z. extractRule z (s .cells) (workOf (s .work .now) (s .floats .now)) (roomOf (s .new-points .now) (s .new-quads .now) (s .new-labels .now))) (c .before .before .before .before .before .before .before .before .before .before .before .before .before .before .before .before .before .before .before .before .before .told-verdict .ensures) (c .before .before .before .before .before .before .before .before .before .before .before .before .before .before .before .before .before .before .before .before .band-of .ensures) (e .0) (c .before .before .put-answer .ensures), e .1)
+    (drawn-makes (isShortAnswer (s .answer .now)) (toldOf (s .kind) (s .numbers .now) (s .bounds .now) (s .lower) (s .upper)) (workOf (s .work .now) (s .floats .now)) (λ z v. extractRule z (s .cells) v (roomOf (s .new-points .now) (s .new-quads .now) (s .new-labels .now))) (c .before .before .before .before .before .before .before .before .before .before .before .before .before .before .before .before .before .before .before .before .before .band-verdict .ensures) (c .before .before .before .before .before .before .before .before .before .before .before .before .before .before .before .before .before .before .before .before .band-of .ensures) (e .0) (c .before .before .put-answer .ensures), e .1)
 
 pub quads-extract-candidate-spec : {M : Type 1} → statement M
 quads-extract-candidate-spec =
     tie.close
     (tie.spec
-    told-verdict-requires
+    band-verdict-requires
     band-of-requires
     extract-after-requires
     put-answer-requires

@@ -1,9 +1,10 @@
 -- `quads::quads_quality` meets its contract. Assumes nothing.
 use borrow.Author.Needs.{needs}
+use mathlib.Core.Bool.{_||_}
 use Rattle.rule_quality.specs.Quality.{qualityRule}
 use Rattle.rule_sheet.specs.Lent.{lentOf, workOf}
 use Rattle.rule_exports.specs.Told.{toldOf}
-use Rattle.rule_exports.specs.Measured.{isShortMeasures}
+use Rattle.rule_exports.specs.Measured.{isShortCounts, isShortMeasures}
 use Rattle.export_quality.proofs.Shown.{told-shows}
 use Rattle.quads.proofs.quads_quality.Statement.{statement}
 use Rattle.quads.proofs.quads_quality.Tie as tie
@@ -38,7 +39,7 @@ same-length-4 c = search needs
 returns : tie.Need-returns
 returns c = let s = c .before .before .before .before .before .before .before .before .before .before .before .before .before .before .before .before .before .before .before .before .before .before .before .before .before .before .args in
     let e = c .before .before .before .before .before .before .before .before .before .before .before .quality-after .ensures in
-    (told-shows (toldOf (s .kind) (s .numbers .now) (s .bounds .now) (s .lower) (s .upper)) (λ z. qualityRule z (lentOf (record { points = s .np; quads = s .nq; labels = s .nl }) (s .points .now) (s .quads .now) (s .labels .now)) (workOf (s .work .now) (s .floats .now))) (isShortMeasures (s .answer .now) (s .measures .now)) (c .before .before .before .before .before .before .before .before .before .before .before .before .before .before .before .before .is-short .ensures) (c .before .before .before .before .before .before .before .before .before .before .before .before .before .before .before .told-verdict .ensures) (c .before .before .before .before .before .before .before .before .before .before .before .before .before .before .band-of .ensures) (e .0) (c .before .before .before .before .put-assessed .ensures), e .1)
+    (told-shows (record { points = s .np; quads = s .nq; labels = s .nl }) (toldOf (s .kind) (s .numbers .now) (s .bounds .now) (s .lower) (s .upper)) (λ z. qualityRule z (lentOf (record { points = s .np; quads = s .nq; labels = s .nl }) (s .points .now) (s .quads .now) (s .labels .now)) (workOf (s .work .now) (s .floats .now))) (isShortCounts (s .answer .now) || isShortMeasures (s .measures .now)) (c .before .before .before .before .before .before .before .before .before .before .before .before .before .before .before .before .is-short .ensures) (c .before .before .before .before .before .before .before .before .before .before .before .before .before .before .before .told-verdict .ensures) (c .before .before .before .before .before .before .before .before .before .before .before .before .before .before .band-of .ensures) (e .0) (c .before .before .before .before .put-assessed .ensures), e .1)
 
 pub quads-quality-spec : {M : Type 1} → statement M
 quads-quality-spec =

@@ -36,7 +36,7 @@ same-length-6 c = search needs
 returns : tie.Need-returns
 returns c = let s = c .before .before .before .before .before .before .before .before .before .before .before .before .before .before .before .before .before .before .before .before .before .before .before .before .before .before .before .before .before .before .args in
     let e = c .before .before .before .before .before .before .before .before .before .before .before .before .before .before .refine-after .ensures in
-    (answer-makes (refineRule (lentOf (record { points = s .np; quads = s .nq; labels = s .nl }) (s .points .now) (s .quads .now) (s .labels .now)) (workOf (s .work .now) (s .floats .now)) (roomOf (s .new-points .now) (s .new-quads .now) (s .new-labels .now))) (c .before .before .before .before .before .before .before .before .before .before .before .before .before .before .before .before .before .before .before .before .answer-verdict .ensures) (e .0) (c .before .before .put-answer .ensures), e .1)
+    (answer-makes (record { points = s .np; quads = s .nq; labels = s .nl }) (refineRule (lentOf (record { points = s .np; quads = s .nq; labels = s .nl }) (s .points .now) (s .quads .now) (s .labels .now)) (workOf (s .work .now) (s .floats .now)) (roomOf (s .new-points .now) (s .new-quads .now) (s .new-labels .now))) (c .before .before .before .before .before .before .before .before .before .before .before .before .before .before .before .before .before .before .before .before .answer-verdict .ensures) (e .0) (c .before .before .put-answer .ensures), e .1)
 
 pub quads-refine-spec : {M : Type 1} → statement M
 quads-refine-spec =

@@ -64,8 +64,8 @@ pub struct Lent {
     new_labels: Guarded<u8>,
     work: Guarded<u32>,
     floats: Guarded<f64>,
-    answer: Guarded<u64>,
-    measures: Guarded<f64>,
+    pub answer: Guarded<u64>,
+    pub measures: Guarded<f64>,
 }
 
 impl Lent {
@@ -138,7 +138,7 @@ impl Lent {
             (self.answers_fit(before, operation, accepted), "the answer is not as promised"),
             (!accepted || self.sheet_fits(operation), "the sheet has something behind it"),
             (accepted || !operation.makes() || self.made_is_zero(), "a refusal leaves something"),
-            (number == 13 || !self.is_too_short(operation), "a slice that is too short is not refused"),
+            (self.short_is_told(operation, number), "a slice that is too short is not refused in its place"),
         ];
         checks.into_iter().filter(|&(kept, _)| !kept).map(|(_, what)| what).collect()
     }
@@ -170,33 +170,31 @@ impl Lent {
             && (operation == Operation::Quality || stays(&self.measures, &before.measures))
     }
 
-    /// Whether the answer or the measures are too short, or a list of the band that the operation takes.
-    fn is_too_short(&self, operation: Operation) -> bool {
-        let band = self.numbers.list().len() < 10 || self.bounds.list().len() < 6;
-        self.is_mute(operation) || (operation.takes_band() && band)
-    }
-
-    /// Whether the answer or the measures are too short to be written.
-    fn is_mute(&self, operation: Operation) -> bool {
+    /// Whether a short list is refused in its place: a band's with nothing before it but 12, an answer's also behind
+    /// 1, 2 and 3 where a sheet is drawn.
+    fn short_is_told(&self, operation: Operation, number: u32) -> bool {
+        let draws = operation == Operation::Extract;
+        let band = operation.takes_band() && (self.numbers.list().len() < 10 || self.bounds.list().len() < 6);
         let measures = operation == Operation::Quality && self.measures.list().len() < 4;
-        self.answer.list().len() < operation.answers() || measures
+        let mute = self.answer.list().len() < operation.answers() || measures;
+        match (band, mute) {
+            (true, _) if draws => number == 13,
+            (_, true) if draws => matches!(number, 1 | 2 | 3 | 13),
+            (true, _) | (_, true) => matches!(number, 12 | 13),
+            (false, false) => true,
+        }
     }
 
     /// Whether the answer and the measures are written, zero after a refusal, and untouched behind and where they are
     /// too short.
     fn answers_fit(&self, before: &Lent, operation: Operation, accepted: bool) -> bool {
-        let (now, then) = (self.answer.list(), before.answer.list());
-        let (measures, measures_then) = (self.measures.list(), before.measures.list());
-        if self.is_mute(operation) {
-            return same(now, then) && same(measures, measures_then);
+        fn fits<T: Bits>(now: &[T], then: &[T], n: usize, accepted: bool) -> bool {
+            let n = if now.len() < n { 0 } else { n };
+            same(&now[n..], &then[n..]) && (accepted || is_zero(&now[..n]))
         }
-        let n = operation.answers();
-        let behind = same(&now[n..], &then[n..]);
-        let measured = operation == Operation::Quality;
-        behind
-            && (accepted || is_zero(&now[..n]))
-            && (!measured || accepted || is_zero(&measures[..4]))
-            && (!measured || same(&measures[4..], &measures_then[4..]))
+        let measures = if operation == Operation::Quality { 4 } else { 0 };
+        fits(self.answer.list(), before.answer.list(), operation.answers(), accepted)
+            && fits(self.measures.list(), before.measures.list(), measures, accepted)
     }
 
     /// Whether the sheet that was made or altered fits into its slices, with zeros behind it.

@@ -6,6 +6,7 @@ mod call;
 mod common;
 mod guarded;
 mod inputs;
+mod order;
 mod random;
 
 use call::{Lent, OPERATIONS, Operation};
