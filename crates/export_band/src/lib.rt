@@ -30,7 +30,7 @@ const BALL: u32 = 1;
 const QUADRIC: u32 = 2;
 
 // How many numbers a field has, bounds a box, and elements an answer.
-const NUMBERS: usize = 10;
+pub const NUMBERS: usize = 10;
 
 const BOUNDS: usize = 6;
 
@@ -109,7 +109,7 @@ pub fn band_of(kind: u32, numbers: &[f64], bounds: &[f64], lower: f64, upper: f6
 }
 
 // Fewer numbers or bounds than a band has.
-fn is_short_told(numbers: usize, bounds: usize) -> bool
+pub fn is_short_told(numbers: usize, bounds: usize) -> bool
     ensures { λ r. ⌜ r ≡ (ltb numbers 10 || ltb bounds 6) ⌝ }
 {
     (numbers < NUMBERS) | (bounds < BOUNDS)

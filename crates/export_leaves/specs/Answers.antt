@@ -1,7 +1,7 @@
 -- What the exports of single functions answer: a value, or a number, 0 if accepted, with a point or masks in a slice.
 use Prim.Native.Nat.{ℕ, _/_}
 use mathlib.Core.Path.{_≡_}
-use mathlib.Core.Bool.{Bool, cond, _||_}
+use mathlib.Core.Bool.{cond}
 use mathlib.Core.List.{List}
 use lib.Dec.{eqb, ltb}
 use lib.Ieee.{Float, div, ofBits, binary64}
@@ -19,7 +19,7 @@ use Rattle.rule_sheet.specs.declared.Verdict.the-variants as verdicts
 use Rattle.rule_sheet.specs.Sheet.{sheetVerdict}
 use Rattle.rule_sheet.specs.Lent.{Lent, lentOf, held, isLarge}
 use Rattle.rule_sheet.specs.Outcomes.{Outcome, refuses, gives}
-use Rattle.rule_exports.specs.Told.{Told, coefficientsOf, fieldOf, bandOf}
+use Rattle.rule_exports.specs.Told.{Told, coefficientsOf, fieldOf, bandOf, isShortTold}
 use Rattle.rule_exports.specs.Refusals.{box, astray, large, short}
 use Rattle.sheet.specs.Sheet.{masksOf, MasksIf}
 
@@ -32,14 +32,6 @@ unfoldable pub valueAt : ℕ → List Float → Float → Float → Float → Fl
 valueAt kind k x y z =
     cond (ltb (length k) 10) (div binary64 (ofBits binary64 0) (ofBits binary64 0))
     (valueOf (fieldOf kind (coefficientsOf k)) (pointOf x y z))
-
--- n numbers of a field or m bounds are too few
-unfoldable pub isShortBy : ℕ → ℕ → Bool
-isShortBy n m = ltb n 10 || ltb m 6
-
--- too little is told of a band
-abbrev pub isShortTold : Told → Bool
-isShortTold t = isShortBy (length (t .numbers)) (length (t .bounds))
 
 -- 13 where too little is told of a band, else what the band gives
 abbrev pub ofBand : {A : Type 0} → Told → (Band → Outcome A) → Outcome A

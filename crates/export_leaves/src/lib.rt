@@ -12,7 +12,7 @@ ghost use lib.ListN.{length};
 ghost use Rattle.numeric.specs.Root.{sqrtOf};
 ghost use Rattle.rule_sheet.specs.Outcomes.{gives};
 ghost use Rattle.rule_exports.specs.Told.{toldOf};
-ghost use Rattle.export_leaves.specs.Answers.{pointOf, valueAt, isShortBy, ofBand, gradientAt, normalAt};
+ghost use Rattle.export_leaves.specs.Answers.{pointOf, valueAt, ofBand, gradientAt, normalAt};
 ghost use Rattle.export_leaves.specs.Answers.{projectionAt, ShowsPoint, verdictNumber, bandNumber, filling};
 ghost use Rattle.export_leaves.specs.Answers.{sheetTests, toldTests, ShowsMasks};
 
@@ -21,18 +21,6 @@ const ACCEPTED: u32 = 0;
 
 // A projection fails.
 const ASTRAY: u32 = 9;
-
-// How many numbers a field has, and bounds a box.
-const NUMBERS: usize = 10;
-
-const BOUNDS: usize = 6;
-
-// Whether too little is told of a band.
-fn is_short(numbers: usize, bounds: usize) -> bool
-    ensures { λ r. ⌜ r ≡ isShortBy numbers bounds ⌝ }
-{
-    (numbers < NUMBERS) | (bounds < BOUNDS)
-}
 
 // Writes a point to out.
 fn put(out: &mut [f64], p: Point) -> u32
@@ -58,7 +46,7 @@ pub extern "C" fn leaf_sqrt(x: f64) -> f64
 pub extern "C" fn leaf_value(kind: u32, numbers: &[f64], x: f64, y: f64, z: f64) -> f64
     ensures { λ r. ⌜ r ≡ valueAt kind (now (numbers .entry)) x y z ⌝ }
 {
-    if numbers.len() < NUMBERS {
+    if numbers.len() < export_band::NUMBERS {
         return 0.0 / 0.0;
     }
     field::value(
@@ -84,7 +72,7 @@ pub extern "C" fn leaf_gradient(
         let t = toldOf kind (now (numbers .entry)) (now (bounds .entry)) lower upper in
         ShowsPoint (ofBand t (gradientAt (pointOf x y z))) (now (out .entry)) r (now (out .exit))) ⌝ }
 {
-    if is_short(numbers.len(), bounds.len()) {
+    if export_band::is_short_told(numbers.len(), bounds.len()) {
         return sheet::SHORT;
     }
     let b = export_band::band_of(kind, numbers, bounds, lower, upper);
@@ -110,7 +98,7 @@ pub extern "C" fn leaf_normal(
         let t = toldOf kind (now (numbers .entry)) (now (bounds .entry)) lower upper in
         ShowsPoint (ofBand t (normalAt (pointOf x y z) label)) (now (out .entry)) r (now (out .exit))) ⌝ }
 {
-    if is_short(numbers.len(), bounds.len()) {
+    if export_band::is_short_told(numbers.len(), bounds.len()) {
         return sheet::SHORT;
     }
     let b = export_band::band_of(kind, numbers, bounds, lower, upper);
@@ -139,7 +127,7 @@ pub extern "C" fn leaf_project(
         let t = toldOf kind (now (numbers .entry)) (now (bounds .entry)) lower upper in
         ShowsPoint (ofBand t (projectionAt (pointOf x y z) mask)) (now (out .entry)) r (now (out .exit))) ⌝ }
 {
-    if is_short(numbers.len(), bounds.len()) {
+    if export_band::is_short_told(numbers.len(), bounds.len()) {
         return sheet::SHORT;
     }
     let b = export_band::band_of(kind, numbers, bounds, lower, upper);
@@ -162,7 +150,7 @@ pub extern "C" fn leaf_validate(
 ) -> u32
     ensures { λ r. ⌜ r ≡ bandNumber (toldOf kind (now (numbers .entry)) (now (bounds .entry)) lower upper) ⌝ }
 {
-    if is_short(numbers.len(), bounds.len()) {
+    if export_band::is_short_told(numbers.len(), bounds.len()) {
         return sheet::SHORT;
     }
     if band::validate(export_band::band_of(kind, numbers, bounds, lower, upper)) {
@@ -222,7 +210,7 @@ pub extern "C" fn leaf_constraints(
         let x = filling (now (points .entry)) (now (quads .entry)) (now (labels .entry)) in
         ShowsMasks (toldTests t x (length (now (masks .entry)))) x r (now (masks .exit))) ⌝ }
 {
-    if is_short(numbers.len(), bounds.len()) {
+    if export_band::is_short_told(numbers.len(), bounds.len()) {
         return sheet::SHORT;
     }
     let b = export_band::band_of(kind, numbers, bounds, lower, upper);

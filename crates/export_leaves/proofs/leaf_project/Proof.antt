@@ -7,12 +7,12 @@ use Rattle.export_leaves.proofs.Answers.{point-refused, point-short, po
 use Rattle.export_leaves.proofs.leaf_project.Statement.{statement}
 use Rattle.export_leaves.proofs.leaf_project.Tie as tie
 
-is-short-requires : tie.Need-is-short-requires
-is-short-requires c κs = search needs
+is-short-told-requires : tie.Need-is-short-told-requires
+is-short-told-requires c κs = search needs
 
 returns : tie.Need-returns
 returns c =
-    let a = c .before .before .before .before .before .args in point-short (toldOf (a .kind) (a .numbers .now) (a .bounds .now) (a .lower) (a .upper)) (projectionAt (pointOf (a .x) (a .y) (a .z)) (a .mask)) (a .out .now) _ (c .before .is-short .ensures) (c .if1 .taken)
+    let a = c .before .before .before .before .before .args in point-short (toldOf (a .kind) (a .numbers .now) (a .bounds .now) (a .lower) (a .upper)) (projectionAt (pointOf (a .x) (a .y) (a .z)) (a .mask)) (a .out .now) _ (c .before .is-short-told .ensures) (c .if1 .taken)
 
 band-of-requires : tie.Need-band-of-requires
 band-of-requires c κs = search needs
@@ -32,7 +32,7 @@ enum-told c = search needs
 returns-2 : tie.Need-returns-2
 returns-2 c =
     let a = c .before .before .before .before .before .before .before .before .before .before .args in
-    point-shown (toldOf (a .kind) (a .numbers .now) (a .bounds .now) (a .lower) (a .upper)) (projectionAt (pointOf (a .x) (a .y) (a .z)) (a .mask)) (a .out .now) _ (c .before .before .before .before .before .before .is-short .ensures) _ _ _ _ (c .before .before .before .before .before .if1 .left) (c .before .before .before .before .band-of .ensures)
+    point-shown (toldOf (a .kind) (a .numbers .now) (a .bounds .now) (a .lower) (a .upper)) (projectionAt (pointOf (a .x) (a .y) (a .z)) (a .mask)) (a .out .now) _ (c .before .before .before .before .before .before .is-short-told .ensures) _ _ _ _ (c .before .before .before .before .before .if1 .left) (c .before .before .before .before .band-of .ensures)
     (rw (← c .before .before .before .length .ensures, ← c .before .before .project .ensures, c .enum-told .given .1) refl) (point-refused _ _)
 
 put-requires : tie.Need-put-requires
@@ -44,14 +44,14 @@ same-length c = search needs
 returns-3 : tie.Need-returns-3
 returns-3 c =
     let a = c .before .before .before .before .before .before .before .before .before .before .before .before .before .before .before .args in
-    point-shown (toldOf (a .kind) (a .numbers .now) (a .bounds .now) (a .lower) (a .upper)) (projectionAt (pointOf (a .x) (a .y) (a .z)) (a .mask)) (a .out .now) _ (c .before .before .before .before .before .before .before .before .before .before .before .is-short .ensures) _ _ _ _ (c .before .before .before .before .before .before .before .before .before .before .if1 .left) (c .before .before .before .before .before .before .before .before .before .band-of .ensures)
+    point-shown (toldOf (a .kind) (a .numbers .now) (a .bounds .now) (a .lower) (a .upper)) (projectionAt (pointOf (a .x) (a .y) (a .z)) (a .mask)) (a .out .now) _ (c .before .before .before .before .before .before .before .before .before .before .before .is-short-told .ensures) _ _ _ _ (c .before .before .before .before .before .before .before .before .before .before .if1 .left) (c .before .before .before .before .before .before .before .before .before .band-of .ensures)
     (rw (← c .before .before .before .before .before .before .before .before .length .ensures, ← c .before .before .before .before .before .before .before .project .ensures, c .before .before .before .before .before .r .given .1) refl) (c .before .before .put .ensures)
 
 pub leaf-project-spec : {M : Type 1} → statement M
 leaf-project-spec =
     tie.close
     (tie.spec
-    is-short-requires
+    is-short-told-requires
     returns
     band-of-requires
     length-requires
