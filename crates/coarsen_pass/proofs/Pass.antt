@@ -3,12 +3,12 @@ use mathlib.Core.Path.{_≡_, refl, sym, ap, _∙_}
 use mathlib.Core.Logic.{⊎-elim}
 use mathlib.Core.Option.{Option, none, some}
 use mathlib.Core.Bool.{Bool, true, false, cond, not, _&&_}
-use Prim.Native.Nat.{ℕ, zero, suc, _-_, _≤_}
+use Prim.Native.Nat.{ℕ, zero, suc, _≤_}
 use mathlib.Core.List.{List, map}
 use native.Mathlib.Omega.{arith}
-use lib.Dec.{ltb}
 use lib.Ieee.{Float}
 use lib.ListN.{length, getD, length-map}
+use lib.Signed.{ltZ}
 use Rattle.band.specs.declared.Band.{Band}
 use Rattle.lists.proofs.Laws.{is-table}
 use Rattle.rule_sheet.specs.Quads.{Quad, quad}
@@ -17,7 +17,7 @@ use Rattle.rule_sheet.specs.Sheet.{Sheet, pointsOf}
 use Rattle.rule_passes.specs.Choices.{noneQuad, choose, takeOr}
 use Rattle.rule_passes.proofs.Choices.{none-some, cond-some, choose-some}
 use Rattle.rule_coarsen.specs.Merges.{Slot, out, slot}
-use Rattle.rule_coarsen.specs.Coarse.{MergeState, MergeFits, Position, sumBefore, sumAfter, mayMerge, mergedState, tryFace, visit, freshMerge, mergePass}
+use Rattle.rule_coarsen.specs.Coarse.{MergeState, MergeFits, Position, mergeGain, mayMerge, mergedState, tryFace, visit, freshMerge, mergePass}
 use Rattle.rule_coarsen.proofs.MergePass.{slot-inj}
 use Rattle.rule_coarsen.specs.Invariants.{slotsOf}
 use Rattle.coarsen_merge.specs.Steps.{unmarked}
@@ -39,7 +39,7 @@ module _ (n : ℕ) (S0 : List Quad) (labels : List ℕ) (fits : MergeFits) (posi
       let free = not (getD (st .used) q0 true) && not (getD (st .used) q1 true) && not (getD (st .used) q2 true) && not (getD (st .used) q3 true) in
       let may = mayMerge n S0 labels fits position st f q0 q1 q2 q3 in
       let other = mayMerge n S0 labels fits position st f q1 q2 q3 q0 in
-      let more = ltb (sumBefore n S0 labels q0 q1 q2 q3 - sumAfter n S0 labels q0 q1 q2 q3) (sumBefore n S0 labels q1 q2 q3 q0 - sumAfter n S0 labels q1 q2 q3 q0) in
+      let more = ltZ (mergeGain n S0 labels q0 q1 q2 q3) (mergeGain n S0 labels q1 q2 q3 q0) in
       ⊎-elim (λ h. ap (λ (s : MergeState). s .count) (sym (h .1))) (λ h. ap (λ (s : MergeState). s .count) (sym (h .1)))
       (choose-some may other more x y t (cond-some free (choose may other more x y) e .1))
 

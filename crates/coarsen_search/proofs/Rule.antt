@@ -7,7 +7,10 @@ use mathlib.Core.List.{List}
 use native.Mathlib.Omega.{arith}
 use lib.Dec.{leb, ltb}
 use lib.Ieee.{Float}
+use lib.IntN.{ℤ}
 use lib.ListN.{length, getD, take}
+use lib.Signed.{ltZ}
+use Rattle.lists.proofs.Every.{and-left}
 use Rattle.lists.proofs.Laws.{getD-tab}
 use Rattle.lists.proofs.Regions.{part-get}
 use Rattle.points.specs.declared.Point.{Point}
@@ -21,8 +24,9 @@ use Rattle.rule_sheet.specs.Sheet.{pointsOf}
 use Rattle.sheet.specs.Sheet.{masksOf}
 use Rattle.rule_passes.specs.Choices.{choose}
 use Rattle.rule_coarsen.specs.Merges.{Slot, slot}
-use Rattle.rule_coarsen.specs.Coarse.{MergeState, masksJoin, shareOnly, noFurther, nearFree, sumBefore, sumAfter, mayMerge, mergedState, tryFace}
+use Rattle.rule_coarsen.specs.Coarse.{MergeState, masksJoin, shareOnly, noFurther, nearFree, sumBefore, sumAfter, mergeGain, mayMerge, mergedState, tryFace}
 use Rattle.rule_coarsen.specs.MergeFits.{movedTo, mergeFits, mergePosition}
+use Rattle.rule_coarsen.proofs.Gains.{gain-enough, gain-higher}
 use Rattle.pass_shapes.proofs.MergeFits.{merge-refused, merge-onto, position-onto, moved-to, joined-max}
 use Rattle.coarsen_merge.specs.Steps.{masksJoined, unmarked, quadFree, usedOf, noLabels, meetOnly, gainOf, worthIt, allowedIn}
 use Rattle.pass_map.specs.Regions.{wasIn, startIn}
@@ -34,7 +38,7 @@ use Rattle.coarsen_search.specs.declared.Candidate.{Candidate}
 use Rattle.coarsen_search.specs.declared.Choice.{Choice}
 use Rattle.coarsen_search.specs.declared.Choice.the-variants.{None, Take}
 use Rattle.coarsen_search.specs.declared.Diagonal.{Diagonal}
-use Rattle.coarsen_search.proofs.Choices.{allowed-joins}
+use Rattle.coarsen_search.proofs.Choices.{allowed-gains, allowed-joins}
 use Rattle.coarsen_search.specs.Steps.{diagonalOf, betterOf, landingOf, stayAround, weighedOf, afterLanding, afterDiagonal, foundTo, startSheet, fitsIn, positionIn}
 
 zero-add : (v : ℕ) → v ≡ 0 + v
@@ -61,6 +65,13 @@ arrange true true true s f n false t = ap (λ b. b && t) (sym (and-false′ (s &
     and-false′ true = refl
     and-false′ false = refl
 
+-- which gains more matters only where both may be taken
+choose-same : {A : Type 0} (a b c d : Bool) (x y : A) → (a ≡ true → b ≡ true → c ≡ d) → choose a b c x y ≡ choose a b d x y
+choose-same true true c d x y e = ap (λ z. choose true true z x y) (e refl refl)
+choose-same true false c d x y e = refl
+choose-same false true c d x y e = refl
+choose-same false false c d x y e = refl
+
 weighed-is : (np nq : ℕ) (g : Diagonal) (b : Band) (P : List Float) (labels w : List ℕ) (best : Choice) (p : Point) (x : Bool)
     → (stayAround np nq g (b .field) (lengthOf b) p P labels w (g .a) && stayAround np nq g (b .field) (lengthOf b) p P labels w (g .c)) ≡ x
     → weighedOf np nq g (b .field) (lengthOf b) p P labels w best
@@ -73,7 +84,7 @@ module _ (np nq : ℕ) (b : Band) (P : List Float) (labels w : List ℕ) (G : St
   pub may-is : (f a e c d : ℕ) → a < np → c < np
       → (allowedIn np nq f a e c d w && mergeFits b (startSheet np nq labels w) (pointsOf np P) S f a c) ≡ mayMerge np (startIn np nq w) (take nq labels) (fitsIn b np nq labels w) (positionIn b np nq labels w) (record { slots = S; used = usedOf np (usedIn np nq w); points = pointsOf np P; count = k }) f a e c d
   unfolding allowedIn worthIt meetOnly
-  may-is f a e c d ha hc = rw (mask-at np nq (take nq labels) w a M ha, mask-at np nq (take nq labels) w c M hc, masks-join np (startIn np nq w) (take nq labels) a c)
+  may-is f a e c d ha hc = rw (mask-at np nq (take nq labels) w a M ha, mask-at np nq (take nq labels) w c M hc, masks-join np (startIn np nq w) (take nq labels) a c, gain-enough np (startIn np nq w) (take nq labels) a e c d)
       (arrange (masksJoin np (startIn np nq w) (take nq labels) a c) (leb 4 (valence (startIn np nq w) e)) (leb 4 (valence (startIn np nq w) d)) (shareOnly np (startIn np nq w) noLabels a e c d) (noFurther np (startIn np nq w) noLabels f a c)
       (nearFree np (startIn np nq w) noLabels (usedOf np (usedIn np nq w)) a c) (leb (sumAfter np (startIn np nq w) noLabels a e c d) (sumBefore np (startIn np nq w) noLabels a e c d)) (mergeFits b (startSheet np nq labels w) (pointsOf np P) S f a c))
 
@@ -99,6 +110,18 @@ module _ (np nq : ℕ) (b : Band) (P : List Float) (labels w : List ℕ) (G : St
 
   abbrev pub mayAt : Diagonal → Bool
   mayAt g = mayMerge np (startIn np nq w) (take nq labels) (fitsIn b np nq labels w) (positionIn b np nq labels w) (record { slots = S; used = usedOf np (usedIn np nq w); points = pointsOf np P; count = k }) (g .face) (g .a) (g .b) (g .c) (g .d)
+
+  -- the gain of a diagonal; of two that may be merged it tells the better as the differences of the sums do
+  abbrev gainAt : Diagonal → ℤ
+  gainAt g = mergeGain np (startIn np nq w) (take nq labels) (g .a) (g .b) (g .c) (g .d)
+
+  gains : (g : Diagonal) → g .a < np → g .c < np → mayAt g ≡ true → sumAfter np (startIn np nq w) (take nq labels) (g .a) (g .b) (g .c) (g .d) ≤ sumBefore np (startIn np nq w) (take nq labels) (g .a) (g .b) (g .c) (g .d)
+  unfolding gainOf
+  gains g ha hc y = allowed-gains np nq (g .face) (g .a) (g .b) (g .c) (g .d) w
+      (and-left _ (mergeFits b (startSheet np nq labels w) (pointsOf np P) S (g .face) (g .a) (g .c)) (may-is (g .face) (g .a) (g .b) (g .c) (g .d) ha hc ∙ y))
+
+  higher : (g h : Diagonal) → g .a < np → g .c < np → h .a < np → h .c < np → mayAt g ≡ true → mayAt h ≡ true → ltZ (gainAt g) (gainAt h) ≡ ltb (ruleCandidate g .gain) (ruleCandidate h .gain)
+  higher g h ga gc ha hc p q = gain-higher np (startIn np nq w) (take nq labels) (g .a) (g .b) (g .c) (g .d) (h .a) (h .b) (h .c) (h .d) (gains g ga gc p) (gains h ha hc q)
 
   diagonal-is : (g : Diagonal) (best : Choice) → g .a < np → g .c < np
       → afterDiagonal np nq g b (lengthOf b) P labels w best ≡ cond (mayAt g) (betterOf best (ruleCandidate g)) best
@@ -180,10 +203,12 @@ module _ (np nq : ℕ) (b : Band) (P : List Float) (labels w : List ℕ) (G : St
       ≡ applied f (record { slots = S; used = usedOf np (usedIn np nq w); points = pointsOf np P; count = k }) (foundTo np nq b (lengthOf b) P Q labels w f 2)
   unfolding diagonalOf
   face-is Q f h0 h1 h2 h3 e =
-      ap (λ x. cond x (choose (mayAt (diagonalOf Q f 0)) (mayAt (diagonalOf Q f 1)) (ltb (ruleCandidate (diagonalOf Q f 0) .gain) (ruleCandidate (diagonalOf Q f 1) .gain))
+      ap (λ x. cond x (choose (mayAt (diagonalOf Q f 0)) (mayAt (diagonalOf Q f 1)) (ltZ (gainAt (diagonalOf Q f 0)) (gainAt (diagonalOf Q f 1)))
       (mergedState np (startIn np nq w) (take nq labels) (fitsIn b np nq labels w) (positionIn b np nq labels w) st f (corner Q f 0) (corner Q f 2))
       (mergedState np (startIn np nq w) (take nq labels) (fitsIn b np nq labels w) (positionIn b np nq labels w) st f (corner Q f 1) (corner Q f 3))) none) (free-same Q f h0 h1 h2 h3 ∙ e)
-      ∙ (sym (chosen-is f st (mayAt (diagonalOf Q f 0)) (mayAt (diagonalOf Q f 1)) (ruleCandidate (diagonalOf Q f 0)) (ruleCandidate (diagonalOf Q f 1)))
+      ∙ (choose-same (mayAt (diagonalOf Q f 0)) (mayAt (diagonalOf Q f 1)) (ltZ (gainAt (diagonalOf Q f 0)) (gainAt (diagonalOf Q f 1))) (ltb (ruleCandidate (diagonalOf Q f 0) .gain) (ruleCandidate (diagonalOf Q f 1) .gain)) _ _
+      (higher (diagonalOf Q f 0) (diagonalOf Q f 1) h0 h2 h1 h3)
+      ∙ sym (chosen-is f st (mayAt (diagonalOf Q f 0)) (mayAt (diagonalOf Q f 1)) (ruleCandidate (diagonalOf Q f 0)) (ruleCandidate (diagonalOf Q f 1)))
       ∙ ap (applied f st) (sym (found-is Q f h0 h1 h2 h3)))
     where
       st : MergeState
@@ -192,7 +217,7 @@ module _ (np nq : ℕ) (b : Band) (P : List Float) (labels w : List ℕ) (G : St
   -- a quad with a barred corner is not tried
   pub face-barred : (Q : List ℕ) (f : ℕ) → corner Q f 0 < np → corner Q f 1 < np → corner Q f 2 < np → corner Q f 3 < np → quadFree Q (usedIn np nq w) f ≡ false
       → tryFace np (startIn np nq w) (take nq labels) (fitsIn b np nq labels w) (positionIn b np nq labels w) (record { slots = S; used = usedOf np (usedIn np nq w); points = pointsOf np P; count = k }) f (slot (quadAt Q f)) ≡ none
-  face-barred Q f h0 h1 h2 h3 e = ap (λ x. cond x (choose (mayAt (diagonalOf′ 0)) (mayAt (diagonalOf′ 1)) (ltb (ruleCandidate (diagonalOf′ 0) .gain) (ruleCandidate (diagonalOf′ 1) .gain))
+  face-barred Q f h0 h1 h2 h3 e = ap (λ x. cond x (choose (mayAt (diagonalOf′ 0)) (mayAt (diagonalOf′ 1)) (ltZ (gainAt (diagonalOf′ 0)) (gainAt (diagonalOf′ 1)))
       (mergedState np (startIn np nq w) (take nq labels) (fitsIn b np nq labels w) (positionIn b np nq labels w) st f (corner Q f 0) (corner Q f 2))
       (mergedState np (startIn np nq w) (take nq labels) (fitsIn b np nq labels w) (positionIn b np nq labels w) st f (corner Q f 1) (corner Q f 3))) none) (free-same Q f h0 h1 h2 h3 ∙ e)
     where

@@ -18,7 +18,7 @@ ghost use Rattle.rule_regularize.specs.Rule.{swapSheet, swapRule, regularizeRul
 ghost use Rattle.regularize_pass.specs.Conditions.{SwapPassAsks};
 ghost use Rattle.regularize.specs.Contracts.{RunPassesLeaves, CleanAcceptedAsks};
 
-// The least half gain of a swap: more than 0, or 0.
+// The least gain of a swap: more than 0, or 0.
 const GAIN: usize = 1;
 
 const NEUTRAL: usize = 0;

@@ -4,15 +4,19 @@ use mathlib.Core.Path.{_≡_, refl, sym, ap, ap₂, _∙_}
 use mathlib.Core.Bool.{Bool, true, false, _&&_, _||_, true≢false, false≢true}
 use mathlib.Core.List.{List}
 use native.Mathlib.Omega.{arith}
+use lib.Dec.{leb}
+use lib.IntN.{pos}
 use lib.ListN.{length, getD, take}
 use lib.Seq.{getD-take}
+use lib.Signed.{leZ, ltZ}
 use lib.Ieee.{Float}
 use Rattle.lists.proofs.Laws.{getD-tab}
 use Rattle.lists.proofs.Regions.{part-get}
 use Rattle.points.specs.Points.{pointAt}
 use Rattle.rule_sheet.specs.Quads.{Quad, valence}
 use Rattle.rule_sheet.specs.Flat.{quadAt, quadsOf}
-use Rattle.rule_regularize.specs.Swaps.{may}
+use Rattle.rule_regularize.specs.Swaps.{swapGain, may}
+use Rattle.rule_regularize.proofs.Gains.{gain-least, gain-more, gain-higher, half-small}
 use Rattle.pass_shapes.specs.declared.Six.{Six}
 use Rattle.rule_regularize.specs.declared.Held.{Held}
 use Rattle.rule_regularize.specs.SwapFits.{heldOf, nextFits}
@@ -84,16 +88,23 @@ module _ {np nq : ℕ} {t : Trial} {P : List Float} {Q labels w : List ℕ} (T :
     abbrev S0 : List Quad
     S0 = startIn np nq w
 
+    -- the valences now
+    abbrev v : ℕ → ℕ
+    v = valence (quadsOf nq Q)
+
+    gain-is : (a b : ℕ) → leZ (pos (t .least)) (swapGain (v (h .h0)) (v (h .h3)) (v a) (v b)) ≡ leb (v a + v b + 2 + t .least) (v (h .h0) + v (h .h3))
+    gain-is a b = gain-least (v (h .h0)) (v (h .h3)) (v a) (v b) (t .least) ∙ ap (λ (m : ℕ). leb (v a + v b + 2 + m) (v (h .h0) + v (h .h3))) (half-small (t .least) (T .least≤))
+
     may-one : may S0 (take nq labels) (t .least) (fitsIn t np nq P labels) (quadsOf nq Q) i j (hexOf h) 1 (h .h0) (h .h3) (h .h1) (h .h4) ≡ mayTake np nq P h 1 heldIn (openIn np nq (t .least) h 1 w) w
-    may-one = rw (sum-is (h .h1) (h .h4) (B .h1<) (B .h4<), sum-is (h .h0) (h .h3) (B .h0<) (B .h3<), fits-is 1)
+    may-one = rw (gain-is (h .h1) (h .h4), gain-more (v (h .h0)) (v (h .h3)) (v (h .h1)) (v (h .h4)), sum-is (h .h1) (h .h4) (B .h1<) (B .h4<), sum-is (h .h0) (h .h3) (B .h0<) (B .h3<), fits-is 1)
 
     may-two : may S0 (take nq labels) (t .least) (fitsIn t np nq P labels) (quadsOf nq Q) i j (hexOf h) 2 (h .h0) (h .h3) (h .h2) (h .h5) ≡ mayTake np nq P h 2 heldIn (openIn np nq (t .least) h 2 w) w
-    may-two = rw (sum-is (h .h2) (h .h5) (B .h2<) (B .h5<), sum-is (h .h0) (h .h3) (B .h0<) (B .h3<), fits-is 2)
+    may-two = rw (gain-is (h .h2) (h .h5), gain-more (v (h .h0)) (v (h .h3)) (v (h .h2)) (v (h .h5)), sum-is (h .h2) (h .h5) (B .h2<) (B .h5<), sum-is (h .h0) (h .h3) (B .h0<) (B .h3<), fits-is 2)
 
     pick-is : bestOf np nq P h heldIn (openIn np nq (t .least) h 1 w) (openIn np nq (t .least) h 2 w) w
         ≡ pickOf S0 (take nq labels) (t .least) (fitsIn t np nq P labels) (quadsOf nq Q) i j (hexOf h)
     unfolding pickOf
-    pick-is = rw (may-one, may-two, sum-is (h .h2) (h .h5) (B .h2<) (B .h5<), sum-is (h .h1) (h .h4) (B .h1<) (B .h4<))
+    pick-is = rw (may-one, may-two, gain-higher (v (h .h0)) (v (h .h3)) (v (h .h1)) (v (h .h4)) (v (h .h2)) (v (h .h5)), sum-is (h .h2) (h .h5) (B .h2<) (B .h5<), sum-is (h .h1) (h .h4) (B .h1<) (B .h4<))
 
     pub pick-none : (first second : Bool) → first ≡ openIn np nq (t .least) h 1 w → second ≡ openIn np nq (t .least) h 2 w → (first || second) ≡ false
         → 0 ≡ pickOf S0 (take nq labels) (t .least) (fitsIn t np nq P labels) (quadsOf nq Q) i j (hexOf h)

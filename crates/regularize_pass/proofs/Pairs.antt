@@ -6,17 +6,18 @@ use mathlib.Core.Option.{none}
 use mathlib.Core.List.{List, [], _∷_}
 use native.Mathlib.Omega.{arith}
 use native.Mathlib.Numerals.{add-one}
-use lib.Dec.{eqb, ltb}
+use lib.Dec.{eqb}
+use lib.Signed.{ltZ}
 use lib.ListN.{length, getD, take}
 use lib.Seq.{getD-take}
 use lib.Ieee.{Float}
 use borrow.Author.Tests.{eqb-true, ne-eqb}
 use Rattle.lists.proofs.Every.{and-left, and-right}
 use Rattle.lists.proofs.Regions.{kept-refl}
-use Rattle.rule_sheet.specs.Quads.{Quad, quad, corners, valence}
+use Rattle.rule_sheet.specs.Quads.{Quad, quad, corners}
 use Rattle.rule_sheet.specs.Flat.{quadAt, quadsOf}
 use Rattle.sheet.specs.Flat.{from, to, before}
-use Rattle.rule_regularize.specs.Swaps.{Fits, State, swapOne, swapTwo, sixDiffer, barList, may, swapQuads}
+use Rattle.rule_regularize.specs.Swaps.{Fits, State, swapOne, swapTwo, sixDiffer, barList, gainIn, may, swapQuads}
 use Rattle.rule_sheet.specs.Quads.{turn}
 use Rattle.rule_passes.specs.Choices.{noneQuad, choose, takeOr}
 use Rattle.rule_sheet.proofs.Weigh.{corners-turn}
@@ -138,7 +139,7 @@ module _ {np nq : ℕ} {t : Trial} {P : List Float} {Q labels w : List ℕ} (T :
       ∙ takes tests
       (may S0 (take nq labels) (t .least) fits S (c / 4) (d / 4) (hexOf h) 1 (h .h0) (h .h3) (h .h1) (h .h4))
       (may S0 (take nq labels) (t .least) fits S (c / 4) (d / 4) (hexOf h) 2 (h .h0) (h .h3) (h .h2) (h .h5))
-      (ltb (valence S (h .h2) + valence S (h .h5)) (valence S (h .h1) + valence S (h .h4))) (stateOf np nq Q w count) one two
+      (ltZ (gainIn S (h .h0) (h .h3) (h .h1) (h .h4)) (gainIn S (h .h0) (h .h3) (h .h2) (h .h5))) (stateOf np nq Q w count) one two
       ∙ ap (λ (k : ℕ). cond (eqb k 0) (stateOf np nq Q w count) (cond (eqb k 1) one two)) tests-are
       ∙ ap (λ (s : State). cond (eqb K 0) (stateOf np nq Q w count) s) (after-is K)
 

@@ -2,14 +2,14 @@
 use Prim.Native.Nat.{ℕ, _+_, _*_, _/_}
 use mathlib.Core.Bool.{Bool, cond, _&&_}
 use mathlib.Core.List.{List}
-use lib.Dec.{ltb}
 use lib.ListN.{take}
+use lib.Signed.{ltZ}
 use lib.Ieee.{Float}
 use Rattle.points.specs.Points.{pointAt}
-use Rattle.rule_sheet.specs.Quads.{Quad, valence}
+use Rattle.rule_sheet.specs.Quads.{Quad}
 use Rattle.rule_sheet.specs.Flat.{quadsOf}
 use Rattle.rule_sheet.specs.Sheet.{pointsOf}
-use Rattle.rule_regularize.specs.Swaps.{Hex, Fits, State, may, swapPass}
+use Rattle.rule_regularize.specs.Swaps.{Hex, Fits, State, gainIn, may, swapPass}
 use Rattle.rule_passes.specs.Choices.{choose, takeOr}
 use Rattle.pass_shapes.specs.declared.Six.{Six}
 use Rattle.rule_regularize.specs.declared.Held.{Held}
@@ -30,10 +30,10 @@ diagonal first second better = takeOr 0 (choose first second better 1 2)
 
 -- the diagonal that the rule takes at six different corners
 unfoldable pub pickOf : List Quad → List ℕ → ℕ → Fits → List Quad → ℕ → ℕ → Hex → ℕ
-pickOf S0 labels m fits S i j h = diagonal
-    (may S0 labels m fits S i j h 1 (h .h0) (h .h3) (h .h1) (h .h4))
-    (may S0 labels m fits S i j h 2 (h .h0) (h .h3) (h .h2) (h .h5))
-    (ltb (valence S (h .h2) + valence S (h .h5)) (valence S (h .h1) + valence S (h .h4)))
+pickOf S0 labels least fits S i j h = diagonal
+    (may S0 labels least fits S i j h 1 (h .h0) (h .h3) (h .h1) (h .h4))
+    (may S0 labels least fits S i j h 2 (h .h0) (h .h3) (h .h2) (h .h5))
+    (ltZ (gainIn S (h .h0) (h .h3) (h .h1) (h .h4)) (gainIn S (h .h0) (h .h3) (h .h2) (h .h5)))
 
 -- a diagonal that is open may be taken
 abbrev pub mayTake : (np nq : ℕ) → List Float → Six → ℕ → Held → Bool → List ℕ → Bool

@@ -14,7 +14,7 @@ ghost use Rattle.regularize_swap.specs.Conditions.{BeginPassLeaves};
 ghost use Rattle.regularize_pass.specs.Steps.{fitsIn, diagonal, pickOf, mayTake, bestOf, choiceIn, tryIn, stepIn};
 ghost use Rattle.regularize_pass.specs.Conditions.{TryAsks, StepLeaves, SwapPassAsks, SwapPassLeaves};
 
-// What swaps are tried with: the least half gain, the field, the length of the band.
+// What swaps are tried with: the least gain, the field, the length of the band.
 pub struct Trial {
     pub least: usize,
     pub field: Field,

@@ -3,11 +3,13 @@ use mathlib.Core.Path.{_≡_, refl, _∙_, subst}
 use mathlib.Core.Logic.{_⊎_, inl, inr}
 use mathlib.Core.Option.{Option, none, some}
 use mathlib.Core.Bool.{Bool, true, not, _&&_}
-use Prim.Native.Nat.{ℕ, zero, suc, _-_, _<_}
+use Prim.Native.Nat.{ℕ, zero, suc, _<_}
 use mathlib.Core.List.{List, [], _∷_}
 use native.Mathlib.Omega.{arith}
-use lib.Dec.{leb, ltb}
+use lib.Dec.{leb}
+use lib.IntN.{pos}
 use lib.ListN.{length, getD, set, length-set}
+use lib.Signed.{leZ, ltZ}
 use Rattle.lists.proofs.Every.{and-left, and-right}
 use Rattle.points.specs.declared.Point.{Point}
 use Rattle.points.specs.Points.{finiteP, origin}
@@ -18,7 +20,7 @@ use Rattle.rule_passes.specs.Choices.{choose, takeOr}
 use Rattle.rule_sheet.proofs.Base.{is-self}
 use Rattle.rule_passes.proofs.Choices.{none-some, cond-some, choose-some}
 use Rattle.rule_coarsen.specs.Merges.{Slot, out, slot, gathered}
-use Rattle.rule_coarsen.specs.Coarse.{MergeState, MergeFits, Position, masksJoin, shareOnly, noFurther, nearFree, sumBefore, sumAfter, mayMerge, mergedState, tryFace, visit, freshMerge, mergePass}
+use Rattle.rule_coarsen.specs.Coarse.{MergeState, MergeFits, Position, masksJoin, shareOnly, noFurther, nearFree, mergeGain, mayMerge, mergedState, tryFace, visit, freshMerge, mergePass}
 
 -- ---- a test of every element
 
@@ -51,7 +53,7 @@ module _ (n : ℕ) (S0 : List Quad) (labels : List ℕ) (fits : MergeFits) (posi
       -- what the rule asks beside `fits`
       allowed : Bool
       allowed = masksJoin n S0 labels a c && leb 4 (valence S0 b) && leb 4 (valence S0 d) && shareOnly n S0 labels a b c d
-          && noFurther n S0 labels f a c && nearFree n S0 labels (st .used) a c && leb (sumAfter n S0 labels a b c d) (sumBefore n S0 labels a b c d)
+          && noFurther n S0 labels f a c && nearFree n S0 labels (st .used) a c && leZ (pos 0) (mergeGain n S0 labels a b c d)
 
   face-placed : (st t : MergeState) (f : ℕ) (s : Slot) → Placed st → tryFace n S0 labels fits position st f s ≡ some t → Placed t
   face-placed st t f out p e = absurd (none-some e)
@@ -67,7 +69,7 @@ module _ (n : ℕ) (S0 : List Quad) (labels : List ℕ) (fits : MergeFits) (posi
       second = mayMerge n S0 labels fits position st f q1 q2 q3 q0
 
       gains : Bool
-      gains = ltb (sumBefore n S0 labels q0 q1 q2 q3 - sumAfter n S0 labels q0 q1 q2 q3) (sumBefore n S0 labels q1 q2 q3 q0 - sumAfter n S0 labels q1 q2 q3 q0)
+      gains = ltZ (mergeGain n S0 labels q0 q1 q2 q3) (mergeGain n S0 labels q1 q2 q3 q0)
 
       one : MergeState
       one = mergedState n S0 labels fits position st f q0 q2

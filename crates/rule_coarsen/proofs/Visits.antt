@@ -1,14 +1,16 @@
 -- The passes of the rule are passes of merges. Assumes nothing.
-use mathlib.Core.Path.{_≡_, refl, ap, _∙_, subst}
+use mathlib.Core.Path.{_≡_, refl, ap, sym, _∙_, subst}
 use mathlib.Core.Logic.{_⊎_, inl, inr, _≢_}
 use mathlib.Core.Option.{Option, none, some}
 use mathlib.Core.Bool.{Bool, true, false, _&&_, _||_, not, cond}
-use Prim.Native.Nat.{ℕ, zero, suc, _+_, _*_, _-_, _≤_, _<_}
+use Prim.Native.Nat.{ℕ, zero, suc, _+_, _*_, _≤_, _<_}
 use mathlib.Core.List.{List, [], _∷_, map}
 use native.Mathlib.Omega.{arith}
 use native.Mathlib.Decide.{decLt}
 use lib.Dec.{eqb, leb, ltb}
+use lib.IntN.{pos}
 use lib.ListN.{length, getD, replicate}
+use lib.Signed.{leZ, ltZ}
 use borrow.Author.Tests.{lt-ltb, eqb-true, leb-true, ne-eqb}
 use Rattle.rule_sheet.specs.Quads.{uses, isEdge, hasLabel, Quad, quad, is, sum, corners, at, valence, side, touches}
 use Rattle.rule_sheet.specs.Sheet.{Sheet}
@@ -20,10 +22,11 @@ use Rattle.rule_sheet.proofs.Sums.{sum-at}
 use Rattle.rule_sheet.proofs.Weigh.{no-edge}
 use Rattle.rule_passes.proofs.Choices.{choose-some, none-some, cond-some, not-true, and-true}
 use Rattle.rule_sheet.proofs.Weigh.{at-point-le, is-le, side-at-end}
-use Rattle.rule_coarsen.specs.Coarse.{MergeFits, Position, shareOnly, noFurther, nearFree, freshMerge, mergedState, hasCorner, MergeState, mark, near, masksJoin, sumBefore, sumAfter, mayMerge, tryFace, visit, mergePass}
+use Rattle.rule_coarsen.specs.Coarse.{MergeFits, Position, shareOnly, noFurther, nearFree, freshMerge, mergedState, hasCorner, MergeState, mark, near, masksJoin, mergeGain, mayMerge, tryFace, visit, mergePass}
 use Rattle.rule_coarsen.specs.Merges.{Slot, out, slot, merged}
 use Rattle.rule_coarsen.specs.Invariants.{MInv, Used}
 use Rattle.rule_coarsen.proofs.MergePass.{merge-kept, minv-more}
+use Rattle.rule_coarsen.proofs.Gains.{gain-enough}
 use Rattle.rule_coarsen.proofs.Joins.{Mergeable, BarPoints, Merges, done, merge}
 use Rattle.lists.proofs.Every.{or-split, every-at, and-left}
 
@@ -107,7 +110,7 @@ module _ (n : ℕ) (S0 : List Quad) (labels : List ℕ) (fits : MergeFits) (posi
     where
       go : (masksJoin n S0 labels a c ≡ true) × (leb 4 (valence S0 b) ≡ true) × (leb 4 (valence S0 d) ≡ true) × (shareOnly n S0 labels a b c d ≡ true)
           × (noFurther n S0 labels f a c ≡ true) × (nearFree n S0 labels (st .used) a c ≡ true)
-          × (leb (sumAfter n S0 labels a b c d) (sumBefore n S0 labels a b c d) ≡ true) × (fits (st .points) (st .slots) f a c ≡ true)
+          × (leZ (pos 0) (mergeGain n S0 labels a b c d) ≡ true) × (fits (st .points) (st .slots) f a c ≡ true)
           → Mergeable S0 labels (st .slots) (λ v. getD (st .used) v true ≡ true) f a b c d
       go (mj, fb, fd, sh, nm, un, ga, fi) = record {
         face = face;
@@ -123,7 +126,7 @@ module _ (n : ℕ) (S0 : List Quad) (labels : List ℕ) (fits : MergeFits) (posi
         share = λ x nb nd. shared x nb nd (decLt x n);
         no-more = λ j l ne ha hc. no-more j l ne ha hc;
         masks = λ j h. joined j h (decLt j 4);
-        gain = leb-true _ _ ga;
+        gain = leb-true _ _ (sym (gain-enough n S0 labels a b c d) ∙ ga);
       }
         where
           shared : (x : ℕ) → x ≢ b → x ≢ d → Dec (x < n) → (side S0 a x + side S0 x a ≡ 0) ⊎ (side S0 c x + side S0 x c ≡ 0)
@@ -202,11 +205,11 @@ module _ (n : ℕ) (S0 : List Quad) (labels : List ℕ) (fits : MergeFits) (posi
       x2 = mergedState n S0 labels fits position st f q1 q3
 
       tested : ((not (getD (st .used) q0 true) && not (getD (st .used) q1 true) && not (getD (st .used) q2 true) && not (getD (st .used) q3 true)) ≡ true)
-          × (choose b1 b2 (ltb (sumBefore n S0 labels q0 q1 q2 q3 - sumAfter n S0 labels q0 q1 q2 q3) (sumBefore n S0 labels q1 q2 q3 q0 - sumAfter n S0 labels q1 q2 q3 q0)) x1 x2 ≡ some t) → MStep st t
+          × (choose b1 b2 (ltZ (mergeGain n S0 labels q0 q1 q2 q3) (mergeGain n S0 labels q1 q2 q3 q0)) x1 x2 ≡ some t) → MStep st t
       tested (a, c) = free (and4 _ _ _ _ a)
         where
           free : (not (getD (st .used) q0 true) ≡ true) × (not (getD (st .used) q1 true) ≡ true) × (not (getD (st .used) q2 true) ≡ true) × (not (getD (st .used) q3 true) ≡ true) → MStep st t
-          free (u0, u1, u2, u3) = chosen (choose-some b1 b2 (ltb (sumBefore n S0 labels q0 q1 q2 q3 - sumAfter n S0 labels q0 q1 q2 q3) (sumBefore n S0 labels q1 q2 q3 q0 - sumAfter n S0 labels q1 q2 q3 q0)) x1 x2 t c)
+          free (u0, u1, u2, u3) = chosen (choose-some b1 b2 (ltZ (mergeGain n S0 labels q0 q1 q2 q3) (mergeGain n S0 labels q1 q2 q3 q0)) x1 x2 t c)
             where
               chosen : ((b1 ≡ true) × (x1 ≡ t)) ⊎ ((b2 ≡ true) × (x2 ≡ t)) → MStep st t
               chosen (inl (y, p)) = subst (λ u. MStep st u) p (take-merge st f q0 q1 q2 q3 (quad q0 q1 q2 q3) 0 q refl u0 u1 u2 u3 y)

@@ -5,7 +5,9 @@ use mathlib.Core.Option.{Option, none}
 use mathlib.Core.Bool.{Bool, true, false, cond, _&&_, _||_, not}
 use mathlib.Core.List.{List, [], _∷_, map}
 use lib.Dec.{eqb, leb, ltb}
+use lib.IntN.{ℤ, pos, _-ℤ_}
 use lib.ListN.{length, getD, set, replicate}
+use lib.Signed.{leZ, ltZ}
 use Rattle.lists.specs.Every.{every}
 use Rattle.points.specs.declared.Point.{Point}
 use Rattle.rule_sheet.specs.Quads.{Quad, quad, sum, uses, valence, isEdge, hasLabel}
@@ -64,6 +66,10 @@ module _ (n : ℕ) (S0 : List Quad) (labels : List ℕ) where
   abbrev pub sumAfter : ℕ → ℕ → ℕ → ℕ → ℕ
   sumAfter a b c d = sq (valence S0 a + valence S0 c - 2) + (sq (valence S0 b - 1) + sq (valence S0 d - 1))
 
+  -- "Gain here is the fall in demand 3's sum": the sum before, "less the same" after
+  unfoldable pub mergeGain : ℕ → ℕ → ℕ → ℕ → ℤ
+  mergeGain a b c d = pos (sumBefore a b c d) -ℤ pos (sumAfter a b c d)
+
   -- "The merged points share only the other two corners as neighbours"
   abbrev pub shareOnly : ℕ → ℕ → ℕ → ℕ → Bool
   shareOnly a b c d = every (λ x. eqb x b || eqb x d || not (isEdge S0 a x) || not (isEdge S0 c x)) n
@@ -85,7 +91,7 @@ module _ (n : ℕ) (S0 : List Quad) (labels : List ℕ) (fits : MergeFits) (posi
   mayMerge st f a b c d =
       masksJoin n S0 labels a c && leb 4 (valence S0 b) && leb 4 (valence S0 d) && shareOnly n S0 labels a b c d
       && noFurther n S0 labels f a c && nearFree n S0 labels (st .used) a c
-      && leb (sumAfter n S0 labels a b c d) (sumBefore n S0 labels a b c d) && fits (st .points) (st .slots) f a c
+      && leZ (pos 0) (mergeGain n S0 labels a b c d) && fits (st .points) (st .slots) f a c
 
   -- the state after the merge of the corners a and c of quad f
   abbrev pub mergedState : MergeState → ℕ → ℕ → ℕ → MergeState
@@ -104,8 +110,7 @@ module _ (n : ℕ) (S0 : List Quad) (labels : List ℕ) (fits : MergeFits) (posi
       cond (not (getD (st .used) q0 true) && not (getD (st .used) q1 true) && not (getD (st .used) q2 true)
       && not (getD (st .used) q3 true))
       (choose (mayMerge st f q0 q1 q2 q3) (mayMerge st f q1 q2 q3 q0)
-      (ltb (sumBefore n S0 labels q0 q1 q2 q3 - sumAfter n S0 labels q0 q1 q2 q3)
-      (sumBefore n S0 labels q1 q2 q3 q0 - sumAfter n S0 labels q1 q2 q3 q0))
+      (ltZ (mergeGain n S0 labels q0 q1 q2 q3) (mergeGain n S0 labels q1 q2 q3 q0))
       (mergedState st f q0 q2) (mergedState st f q1 q3))
       none
 

@@ -3,19 +3,22 @@ use mathlib.Core.Path.{_≡_, refl, ap, ap₂, sym, _∙_, subst}
 use mathlib.Core.Logic.{_⊎_, inl, inr, _≢_}
 use mathlib.Core.Option.{Option, none, some}
 use mathlib.Core.Bool.{Bool, true, false, _&&_, _||_, not, true≢false}
-use Prim.Native.Nat.{ℕ, zero, suc, _+_, _-_, _<_}
+use Prim.Native.Nat.{ℕ, zero, suc, _+_, _-_, _≤_, _<_}
 use mathlib.Core.List.{List, [], _∷_, _++_, List·Memᴰ, List·Memᴰ·head, List·Memᴰ·not-nil, List·Memᴰ·cases-cons, Memᴰ·append-left, Memᴰ·append-right}
 use native.Mathlib.Omega.{arith}
 use native.Mathlib.Decide.{ℕ-discrete}
-use lib.Dec.{eqb, leb, ltb}
+use lib.Dec.{eqb, leb}
+use lib.IntN.{pos}
 use lib.ListN.{length, getD, replicate, length-replicate}
+use lib.Signed.{leZ, ltZ}
 use borrow.Author.Tests.{eqb-true, leb-true, lt-ltb, le-leb}
 use Rattle.rule_sheet.specs.Edges.{joinTo, edgesFrom, edgeIf, Pair, pair, edgesOf}
 use Rattle.rule_sheet.specs.Quads.{uses, Quad, quad, is, valence, side, isEdge}
-use Rattle.rule_regularize.specs.Swaps.{Fits, hex, fresh, swapOne, swapTwo, Place, places, State, meets, barList, sixDiffer, may, swapQuads, tryPlaces, tryEdge, sweep, swapPass, NoSwap}
+use Rattle.rule_regularize.specs.Swaps.{Fits, hex, fresh, swapOne, swapTwo, Place, places, State, meets, barList, sixDiffer, gainIn, may, swapQuads, tryPlaces, tryEdge, sweep, swapPass, NoSwap}
 use Rattle.rule_sheet.specs.Quads.{turn}
 use Rattle.rule_passes.specs.Choices.{noneQuad, choose, takeOr}
 use Rattle.rule_sheet.proofs.Base.{is-self}
+use Rattle.rule_regularize.proofs.Gains.{halfOf, gain-least}
 use Rattle.rule_regularize.proofs.Passes.{Six, OneOf, is0, is1, is2, is3, is4, is5, Hexagon, Bar, Pass, stop, one, two}
 use Rattle.rule_sheet.specs.Claims.{Has}
 use Rattle.lists.specs.Sort.{consIf}
@@ -91,7 +94,7 @@ module _ (S0 : List Quad) (labels : List ℕ) (m : ℕ) (fits : Fits) where
   record Step (st t : State) : Type 1 where
     counted : t .count ≡ suc (st .count)
     lengths : length (st .barred) ≡ length S0 → length (t .barred) ≡ length S0
-    before : (S′ : List Quad) (c : ℕ) → length (st .barred) ≡ length S0 → Pass S0 labels m (t .quads) (Barred (t .barred)) S′ c → Pass S0 labels m (st .quads) (Barred (st .barred)) S′ (suc c)
+    before : (S′ : List Quad) (c : ℕ) → length (st .barred) ≡ length S0 → Pass S0 labels (halfOf m) (t .quads) (Barred (t .barred)) S′ c → Pass S0 labels (halfOf m) (st .quads) (Barred (st .barred)) S′ (suc c)
 
   module _ (st t : State) (i j ei ej h0 h1 h2 h3 h4 h5 : ℕ) (eq : turn ei (getD (st .quads) i noneQuad) ≡ quad h0 h3 h4 h5) (er : turn ej (getD (st .quads) j noneQuad) ≡ quad h3 h0 h1 h2)
       (fi : not (getD (st .barred) i true) ≡ true) (fj : not (getD (st .barred) j true) ≡ true) (la : getD labels i 8 ≡ getD labels j 8) (six : Six h0 h1 h2 h3 h4 h5) where
@@ -107,28 +110,34 @@ module _ (S0 : List Quad) (labels : List ℕ) (m : ℕ) (fits : Fits) where
     barred-more e k (inl b) = bar-more S0 (st .barred) (λ q. meets q h0 h1 h2 h3 h4 h5) e k (inl b)
     barred-more e k (inr (v, o, h)) = bar-more S0 (st .barred) (λ q. meets q h0 h1 h2 h3 h4 h5) e k (inr (meets-true (getD S0 k noneQuad) v h0 h1 h2 h3 h4 h5 o h))
 
+    -- a gain that is enough, by the valences
+    enough : (a b c d : ℕ) → leZ (pos m) (gainIn (st .quads) a b c d) ≡ true → valence (st .quads) c + valence (st .quads) d + 2 + halfOf m ≤ valence (st .quads) a + valence (st .quads) b
+    enough a b c d g = leb-true _ _ (sym (gain-least (valence (st .quads) a) (valence (st .quads) b) (valence (st .quads) c) (valence (st .quads) d) m) ∙ g)
+
     take-one : may S0 labels m fits (st .quads) i j (hex h0 h1 h2 h3 h4 h5) 1 h0 h3 h1 h4 ≡ true → Step st (record { quads = swapOne (st .quads) i j h0 h1 h2 h3 h4 h5; barred = bars; count = suc (st .count) })
     unfolding bars
-    take-one y = go (and3 (not (isEdge S0 h1 h4)) (leb (valence (st .quads) h1 + valence (st .quads) h4 + 2 + m) (valence (st .quads) h0 + valence (st .quads) h3)) (fits (st .quads) i j (hex h0 h1 h2 h3 h4 h5) 1 (ltb (valence (st .quads) h1 + valence (st .quads) h4 + 2) (valence (st .quads) h0 + valence (st .quads) h3))) y)
+    take-one y = go (and3 _ _ _ y)
       where
-        go : (not (isEdge S0 h1 h4) ≡ true) × (leb (valence (st .quads) h1 + valence (st .quads) h4 + 2 + m) (valence (st .quads) h0 + valence (st .quads) h3) ≡ true) × (fits (st .quads) i j (hex h0 h1 h2 h3 h4 h5) 1 (ltb (valence (st .quads) h1 + valence (st .quads) h4 + 2) (valence (st .quads) h0 + valence (st .quads) h3)) ≡ true)
+        go : (not (isEdge S0 h1 h4) ≡ true) × (leZ (pos m) (gainIn (st .quads) h0 h3 h1 h4) ≡ true)
+            × (fits (st .quads) i j (hex h0 h1 h2 h3 h4 h5) 1 (ltZ (pos 0) (gainIn (st .quads) h0 h3 h1 h4)) ≡ true)
             → Step st (record { quads = swapOne (st .quads) i j h0 h1 h2 h3 h4 h5; barred = bars; count = suc (st .count) })
         go (p, g, f) = record {
           counted = refl;
           lengths = λ e. bar-length S0 (st .barred) (λ q. meets q h0 h1 h2 h3 h4 h5) e;
-          before = λ S′ c e rest. one i j h0 h1 h2 h3 h4 h5 hexagon (no-edge S0 h1 h4 p) (leb-true _ _ g) (barred-more e) rest;
+          before = λ S′ c e rest. one i j h0 h1 h2 h3 h4 h5 hexagon (no-edge S0 h1 h4 p) (enough h0 h3 h1 h4 g) (barred-more e) rest;
         }
 
     take-two : may S0 labels m fits (st .quads) i j (hex h0 h1 h2 h3 h4 h5) 2 h0 h3 h2 h5 ≡ true → Step st (record { quads = swapTwo (st .quads) i j h0 h1 h2 h3 h4 h5; barred = bars; count = suc (st .count) })
     unfolding bars
-    take-two y = go (and3 (not (isEdge S0 h2 h5)) (leb (valence (st .quads) h2 + valence (st .quads) h5 + 2 + m) (valence (st .quads) h0 + valence (st .quads) h3)) (fits (st .quads) i j (hex h0 h1 h2 h3 h4 h5) 2 (ltb (valence (st .quads) h2 + valence (st .quads) h5 + 2) (valence (st .quads) h0 + valence (st .quads) h3))) y)
+    take-two y = go (and3 _ _ _ y)
       where
-        go : (not (isEdge S0 h2 h5) ≡ true) × (leb (valence (st .quads) h2 + valence (st .quads) h5 + 2 + m) (valence (st .quads) h0 + valence (st .quads) h3) ≡ true) × (fits (st .quads) i j (hex h0 h1 h2 h3 h4 h5) 2 (ltb (valence (st .quads) h2 + valence (st .quads) h5 + 2) (valence (st .quads) h0 + valence (st .quads) h3)) ≡ true)
+        go : (not (isEdge S0 h2 h5) ≡ true) × (leZ (pos m) (gainIn (st .quads) h0 h3 h2 h5) ≡ true)
+            × (fits (st .quads) i j (hex h0 h1 h2 h3 h4 h5) 2 (ltZ (pos 0) (gainIn (st .quads) h0 h3 h2 h5)) ≡ true)
             → Step st (record { quads = swapTwo (st .quads) i j h0 h1 h2 h3 h4 h5; barred = bars; count = suc (st .count) })
         go (p, g, f) = record {
           counted = refl;
           lengths = λ e. bar-length S0 (st .barred) (λ q. meets q h0 h1 h2 h3 h4 h5) e;
-          before = λ S′ c e rest. two i j h0 h1 h2 h3 h4 h5 hexagon (no-edge S0 h2 h5 p) (leb-true _ _ g) (barred-more e) rest;
+          before = λ S′ c e rest. two i j h0 h1 h2 h3 h4 h5 hexagon (no-edge S0 h2 h5 p) (enough h0 h3 h2 h5 g) (barred-more e) rest;
         }
 
   swap-step : (st t : State) (i j ei ej : ℕ) (q r : Quad) → turn ei (getD (st .quads) i noneQuad) ≡ q → turn ej (getD (st .quads) j noneQuad) ≡ r → swapQuads S0 labels m fits st i j q r ≡ some t → Step st t
@@ -151,7 +160,7 @@ module _ (S0 : List Quad) (labels : List ℕ) (m : ℕ) (fits : Fits) where
       b2 = may S0 labels m fits (st .quads) i j (hex q0 r2 r3 q1 q2 q3) 2 q0 q1 r3 q3
 
       b3 : Bool
-      b3 = ltb (valence (st .quads) r3 + valence (st .quads) q3) (valence (st .quads) r2 + valence (st .quads) q2)
+      b3 = ltZ (gainIn (st .quads) q0 q1 r2 q2) (gainIn (st .quads) q0 q1 r3 q3)
 
       tested : ((not (getD (st .barred) i true) && not (getD (st .barred) j true) && eqb (getD labels i 8) (getD labels j 8) && eqb r1 q0 && eqb r0 q1 && sixDiffer q0 r2 r3 q1 q2 q3) ≡ true) × (choose b1 b2 b3 x1 x2 ≡ some t) → Step st t
       tested (a, c) = parts (and6 _ _ _ _ _ _ a)
@@ -176,7 +185,7 @@ module _ (S0 : List Quad) (labels : List ℕ) (m : ℕ) (fits : Fits) where
   record Swept (st t : State) : Type 1 where
     swaps : ℕ
     counts : t .count ≡ st .count + swaps
-    passed : Pass S0 labels m (st .quads) (Barred (st .barred)) (t .quads) swaps
+    passed : Pass S0 labels (halfOf m) (st .quads) (Barred (st .barred)) (t .quads) swaps
 
   sweep-pass : (l : List Pair) (st : State) → length (st .barred) ≡ length S0 → Swept st (sweep S0 labels m fits st l)
   sweep-pass [] st e = record { swaps = 0; counts = omega arith; passed = stop }
@@ -231,12 +240,12 @@ edges-has n S a b ab bn h =
 
 -- The passes of a call.
 module _ (n : ℕ) (labels : List ℕ) (m : ℕ) (fits : Fits) where
-  pub pass-made : (S : List Quad) → Pass S labels m S (Barred (replicate (length S) false)) ((swapPass n labels m fits S) .quads) ((swapPass n labels m fits S) .count)
+  pub pass-made : (S : List Quad) → Pass S labels (halfOf m) S (Barred (replicate (length S) false)) ((swapPass n labels m fits S) .quads) ((swapPass n labels m fits S) .count)
   unfolding swapPass
   pass-made S = go (sweep-pass S labels m fits (edgesOf n S) (fresh S) (length-replicate (length S) false))
     where
-      go : Swept S labels m fits (fresh S) (sweep S labels m fits (fresh S) (edgesOf n S)) → Pass S labels m S (Barred (replicate (length S) false)) ((sweep S labels m fits (fresh S) (edgesOf n S)) .quads) ((sweep S labels m fits (fresh S) (edgesOf n S)) .count)
-      go h = subst (λ c. Pass S labels m S (Barred (replicate (length S) false)) ((sweep S labels m fits (fresh S) (edgesOf n S)) .quads) c) (omega (arith, h .counts)) (h .passed)
+      go : Swept S labels m fits (fresh S) (sweep S labels m fits (fresh S) (edgesOf n S)) → Pass S labels (halfOf m) S (Barred (replicate (length S) false)) ((sweep S labels m fits (fresh S) (edgesOf n S)) .quads) ((sweep S labels m fits (fresh S) (edgesOf n S)) .count)
+      go h = subst (λ c. Pass S labels (halfOf m) S (Barred (replicate (length S) false)) ((sweep S labels m fits (fresh S) (edgesOf n S)) .quads) c) (omega (arith, h .counts)) (h .passed)
 
   -- A pass without a swap changes nothing and leaves none.
   pub pass-none : (S : List Quad) → (swapPass n labels m fits S) .count ≡ 0 → ((swapPass n labels m fits S) .quads ≡ S) × NoSwap n labels m fits S

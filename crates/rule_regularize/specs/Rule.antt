@@ -8,24 +8,24 @@ use Rattle.rule_sheet.specs.Lent.{Lent, Work, held}
 use Rattle.rule_sheet.specs.Outcomes.{Outcome, gives, RunEnd, afterTest}
 use Rattle.rule_admission.specs.Admission.{admits}
 use Rattle.rule_passes.specs.Runs.{capped}
-use Rattle.rule_regularize.specs.Swaps.{swapRun}
+use Rattle.rule_regularize.specs.Swaps.{regularizeGain, improveGain, swapRun}
 use Rattle.rule_regularize.specs.SwapFits.{swapFits}
 
--- at most k passes over a sheet, half the gain of each swap at least m
+-- at most k passes over a sheet, each swap of which gains at least leastGain
 abbrev pub swapSheet : ℕ → Setting → ℕ → Sheet → RunEnd Sheet
-swapSheet m s k t =
-    let e = swapRun (length (t .points)) (t .labels) m (swapFits s (t .points) (t .labels)) k (t .quads) in
+swapSheet leastGain s k t =
+    let e = swapRun (length (t .points)) (t .labels) leastGain (swapFits s (t .points) (t .labels)) k (t .quads) in
     record { left = withQuads t (e .left); count = capped (e .count) }
 
 -- the sheet that is left and the swaps made: "Order for a lent sheet: 12, 13 (counts or work), 1, 5, 6, 7"; "Zero
 -- passes still validate."
 unfoldable pub swapRule : ℕ → Setting → ℕ → Lent → Work → Outcome (RunEnd Sheet)
-swapRule m s k x w = afterTest (admits s x w) (gives (swapSheet m s k (held x)))
+swapRule leastGain s k x w = afterTest (admits s x w) (gives (swapSheet leastGain s k (held x)))
 
--- "regularize needs more than 0"
+-- `regularize`
 abbrev pub regularizeRule : Setting → ℕ → Lent → Work → Outcome (RunEnd Sheet)
-regularizeRule = swapRule 1
+regularizeRule = swapRule regularizeGain
 
--- "improve_layout also takes 0"
+-- `improve_layout`
 abbrev pub improveRule : Setting → ℕ → Lent → Work → Outcome (RunEnd Sheet)
-improveRule = swapRule 0
+improveRule = swapRule improveGain

@@ -5,8 +5,10 @@ use mathlib.Core.Path.{_≡_}
 use mathlib.Core.Option.{Option, none}
 use mathlib.Core.Bool.{Bool, true, false, cond, _&&_, _||_, not}
 use mathlib.Core.List.{List, [], _∷_}
-use lib.Dec.{eqb, leb, ltb}
+use lib.Dec.{eqb, ltb}
+use lib.IntN.{ℤ, pos, _+ℤ_, _-ℤ_, _*ℤ_}
 use lib.ListN.{length, getD, set, replicate}
+use lib.Signed.{leZ, ltZ}
 use Rattle.lists.specs.Sort.{consIf}
 use Rattle.rule_sheet.specs.Quads.{Quad, quad, turn, is, uses, valence, side, isEdge}
 use Rattle.rule_sheet.specs.Edges.{Pair, pair, edgesOf}
@@ -73,6 +75,14 @@ barList [] bs f = []
 barList (q ∷ S) [] f = []
 barList (q ∷ S) (b ∷ bs) f = (b || f q) ∷ barList S bs f
 
+-- "Gain is 2 × (va + vb − vc − vd) − 4"
+unfoldable pub swapGain : ℕ → ℕ → ℕ → ℕ → ℤ
+swapGain va vb vc vd = pos 2 *ℤ (pos va +ℤ pos vb -ℤ pos vc -ℤ pos vd) -ℤ pos 4
+
+-- the gain where the diagonal from c to d takes the place of the edge from a to b
+abbrev pub gainIn : List Quad → ℕ → ℕ → ℕ → ℕ → ℤ
+gainIn S a b c d = swapGain (valence S a) (valence S b) (valence S c) (valence S d)
+
 -- a pass's state: the quads now, which of them are barred, the swaps so far
 pub record State : Type 0 where
   pub quads : List Quad
@@ -85,14 +95,22 @@ pub record State : Type 0 where
 abbrev pub Fits : Type 0
 Fits = List Quad → ℕ → ℕ → Hex → ℕ → Bool → Bool
 
--- A pass over the quads S0. Half the gain is at least m: 1 for `regularize`, 0 for `improve_layout`.
-module _ (S0 : List Quad) (labels : List ℕ) (m : ℕ) (fits : Fits) where
+-- the least gain of a swap: "regularize needs more than 0"
+abbrev pub regularizeGain : ℕ
+regularizeGain = 1
+
+-- "improve_layout also takes 0"
+abbrev pub improveGain : ℕ
+improveGain = 0
+
+-- A pass over the quads S0, each swap of which gains at least leastGain.
+module _ (S0 : List Quad) (labels : List ℕ) (leastGain : ℕ) (fits : Fits) where
   -- May the diagonal from c to d take the place of the edge from a to b? "The new diagonal may not be an edge of
-  -- the map"; "Gain is 2 × (va + vb − vc − vd) − 4": half of it is va + vb − (vc + vd + 2).
+  -- the map".
   abbrev pub may : List Quad → ℕ → ℕ → Hex → ℕ → ℕ → ℕ → ℕ → ℕ → Bool
   may S i j h k a b c d =
-      not (isEdge S0 c d) && leb (valence S c + valence S d + 2 + m) (valence S a + valence S b)
-      && fits S i j h k (ltb (valence S c + valence S d + 2) (valence S a + valence S b))
+      not (isEdge S0 c d) && leZ (pos leastGain) (gainIn S a b c d)
+      && fits S i j h k (ltZ (pos 0) (gainIn S a b c d))
 
   -- the swap of quads i and j, read from their shared edge on: both unbarred, "running opposite ways", "The six
   -- corners must differ and the labels agree". "A swap bars every quad at its six corners for that pass."
@@ -101,7 +119,7 @@ module _ (S0 : List Quad) (labels : List ℕ) (m : ℕ) (fits : Fits) where
       cond (not (getD (st .barred) i true) && not (getD (st .barred) j true) && eqb (getD labels i 8) (getD labels j 8)
       && eqb r1 q0 && eqb r0 q1 && sixDiffer q0 r2 r3 q1 q2 q3)
       (choose (may S i j h 1 q0 q1 r2 q2) (may S i j h 2 q0 q1 r3 q3)
-      (ltb (valence S r3 + valence S q3) (valence S r2 + valence S q2))
+      (ltZ (gainIn S q0 q1 r2 q2) (gainIn S q0 q1 r3 q3))
       (record { quads = swapOne S i j q0 r2 r3 q1 q2 q3; barred = bars; count = suc (st .count) })
       (record { quads = swapTwo S i j q0 r2 r3 q1 q2 q3; barred = bars; count = suc (st .count) }))
       none
@@ -142,15 +160,16 @@ fresh S = record { quads = S; barred = replicate (length S) false; count = 0 }
 
 -- one pass over a sheet of n points: "Edges go in ascending order of (smaller, larger) point number."
 unfoldable pub swapPass : ℕ → List ℕ → ℕ → Fits → List Quad → State
-swapPass n labels m fits S = sweep S labels m fits (fresh S) (edgesOf n S)
+swapPass n labels leastGain fits S = sweep S labels leastGain fits (fresh S) (edgesOf n S)
 
 -- at most k passes: the quads that are left, and "the swaps made in all its passes"
 abbrev pub swapRun : ℕ → List ℕ → ℕ → Fits → ℕ → List Quad → RunEnd (List Quad)
-swapRun n labels m fits k S =
-    run (λ T. (swapPass n labels m fits T) .count) (λ T. (swapPass n labels m fits T) .quads) k S 0
+swapRun n labels leastGain fits k S =
+    run (λ T. (swapPass n labels leastGain fits T) .count) (λ T. (swapPass n labels leastGain fits T) .quads) k S 0
 
 -- "No swap is left if, on the sheet left with nothing barred, no edge meets regularize's rule with what that call
 -- brought"
 unfoldable pub NoSwap : ℕ → List ℕ → ℕ → Fits → List Quad → Type 0
-NoSwap n labels m fits S =
-    (a b : ℕ) → a < b → b < n → 0 < side S a b + side S b a → tryEdge S labels m fits (fresh S) (pair a b) ≡ none
+NoSwap n labels leastGain fits S =
+    (a b : ℕ) → a < b → b < n → 0 < side S a b + side S b a
+    → tryEdge S labels leastGain fits (fresh S) (pair a b) ≡ none

@@ -14,6 +14,7 @@ use Rattle.rule_passes.specs.Runs.{capped, run}
 use Rattle.rule_regularize.specs.Swaps.{swapOne, swapTwo, Fits, swapPass, swapRun}
 use Rattle.rule_regularize.proofs.Passes.{Bar, Pass, stop, one, two}
 use Rattle.rule_regularize.proofs.SwapPass.{Inv, inv-more, inv-start, Stepped, step-one, step-two}
+use Rattle.rule_regularize.proofs.Gains.{halfOf}
 use Rattle.rule_regularize.proofs.Sweep.{Barred, pass-made}
 use Rattle.rule_passes.proofs.Runs.{Ran, run-keeps, capped-small}
 use Rattle.rule_sheet.specs.Sound.{AcceptedSheet}
@@ -57,18 +58,18 @@ module _ (n : ℕ) (labels : List ℕ) (m : ℕ) (fits : Fits) where
   Proper S = Below n S × All Differ S
 
   abbrev Falls : List Quad → List Quad → ℕ → Type 0
-  Falls S T c = (length T ≡ length S) × (squared n T + 2 * (c * m) ≤ squared n S)
+  Falls S T c = (length T ≡ length S) × (squared n T + 2 * (c * halfOf m) ≤ squared n S)
 
   one-pass : (S : List Quad) → Proper S → Proper (next S) × Falls S (next S) (count S)
   one-pass S (b, d) =
-      let k : Fell n (2 * (count S * m)) S (next S) = pass-fell S labels m n S (Barred (replicate (length S) false)) (next S) (count S) (pass-made n labels m fits S) (inv-start S (Barred (replicate (length S) false))) d b in
+      let k : Fell n (2 * (count S * halfOf m)) S (next S) = pass-fell S labels (halfOf m) n S (Barred (replicate (length S) false)) (next S) (count S) (pass-made n labels m fits S) (inv-start S (Barred (replicate (length S) false))) d b in
       ((k .below, k .four), (k .len, k .falls))
 
   all-passes : (k : ℕ) (S : List Quad) → Proper S → Falls S (swapRun n labels m fits k S .left) (swapRun n labels m fits k S .count)
-  all-passes k S p = go (run-keeps count next Proper Falls (λ T g. (refl, omega (arith, zero-mul m))) (λ T U W c d x y. (y .0 ∙ x .0, omega (arith, x .1, y .1, add-mul c d m))) one-pass k S 0 p)
+  all-passes k S p = go (run-keeps count next Proper Falls (λ T g. (refl, omega (arith, zero-mul (halfOf m)))) (λ T U W c d x y. (y .0 ∙ x .0, omega (arith, x .1, y .1, add-mul c d (halfOf m)))) one-pass k S 0 p)
     where
       go : Ran count next Proper Falls S 0 (run count next k S 0) → Falls S (run count next k S 0 .left) (run count next k S 0 .count)
-      go r = (r .kept .0, omega (arith, r .kept .1, ap (λ c. c * m) (r .counts)))
+      go r = (r .kept .0, omega (arith, r .kept .1, ap (λ c. c * halfOf m) (r .counts)))
 
 pub uncapped : (s : Sheet) (fits : Fits) (k : ℕ) → AcceptedSheet s
     → capped (swapRun (length (s .points)) (s .labels) 1 fits k (s .quads) .count) ≡ swapRun (length (s .points)) (s .labels) 1 fits k (s .quads) .count

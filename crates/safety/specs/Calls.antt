@@ -18,7 +18,7 @@ use Rattle.rule_sheet.specs.Lent.{Lent, Work, Room, lentOf, held}
 use Rattle.rule_sheet.specs.Sound.{Sound, SameEuler, squaredOf}
 use Rattle.rule_sheet.specs.Results.{Makes, Alters, AltersQuads}
 use Rattle.rule_finer.specs.Subdivide.{subdivideRule}
-use Rattle.rule_regularize.specs.Swaps.{NoSwap}
+use Rattle.rule_regularize.specs.Swaps.{regularizeGain, NoSwap}
 use Rattle.rule_regularize.specs.SwapFits.{swapFits}
 use Rattle.rule_regularize.specs.Rule.{regularizeRule, improveRule}
 use Rattle.rule_coarsen.specs.Rule.{coarsenRule}
@@ -141,8 +141,8 @@ Unchanged (c ∷ cs) = (isRefused (answerIn c) ≡ true → (left c ≡ lent c) 
 -- brought: the same call once more counts 0 and changes nothing."
 -- x is what the call left.
 pub record NoneLeft (s : Setting) (k : ℕ) (x : Lent) (w : Work) : Type 0 where
-  pub no-swap : NoSwap (length (held x .points)) (held x .labels) 1 (swapFits s (held x .points) (held x .labels))
-      (held x .quads)
+  pub no-swap : NoSwap (length (held x .points)) (held x .labels) regularizeGain
+      (swapFits s (held x .points) (held x .labels)) (held x .quads)
   pub again : (r : Answer) (Q : List ℕ) → Contract (regularizeCall s k x w r Q)
       → (r ≡ Done (record { count = 0; sheet = x .counts })) × (Q ≡ x .quads)
 

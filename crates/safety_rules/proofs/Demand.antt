@@ -28,6 +28,7 @@ use Rattle.rule_sheet.proofs.Weigh.{rings-closed}
 use Rattle.rule_sheet.proofs.Labels.{label-sum-map}
 use Rattle.rule_regularize.proofs.Passes.{Pass}
 use Rattle.rule_regularize.proofs.SwapPass.{pass-kept, inv-start}
+use Rattle.rule_regularize.proofs.Gains.{halfOf}
 use Rattle.rule_regularize.proofs.Sweep.{Barred, pass-made, pass-none}
 use Rattle.rule_passes.proofs.Runs.{Ran, run-keeps, run-ends, run-again}
 use Rattle.rule_coarsen.specs.Merges.{Slot, out, slot, live, liveLabels, order, renumber, gathered}
@@ -121,21 +122,21 @@ module _ (s : Sheet) (m : ℕ) (fits : Fits) where
   GoodQuads S = Good (withQuads s S)
 
   Fell : List Quad → List Quad → ℕ → Type 0
-  Fell S T c = (length T ≡ length S) × (squared (length (s .points)) T + 2 * (c * m) ≤ squared (length (s .points)) S)
+  Fell S T c = (length T ≡ length S) × (squared (length (s .points)) T + 2 * (c * halfOf m) ≤ squared (length (s .points)) S)
 
   one-swap-pass : (S : List Quad) → GoodQuads S → GoodQuads (step S) × Fell S (step S) (swapCount S)
   unfolding GoodQuads Fell
-  one-swap-pass S g = go (one-pass m (withQuads s S) (step S) (Barred (replicate (length S) false)) (swapCount S) (pass-made (length (s .points)) (s .labels) m fits S) g)
+  one-swap-pass S g = go (one-pass (halfOf m) (withQuads s S) (step S) (Barred (replicate (length S) false)) (swapCount S) (pass-made (length (s .points)) (s .labels) m fits S) g)
     where
-      go : Swapped (withQuads s S) (step S) (2 * (swapCount S * m)) → Good (withQuads s (step S)) × ((length (step S) ≡ length S) × (squared (length (s .points)) (step S) + 2 * (swapCount S * m) ≤ squared (length (s .points)) S))
+      go : Swapped (withQuads s S) (step S) (2 * (swapCount S * halfOf m)) → Good (withQuads s (step S)) × ((length (step S) ≡ length S) × (squared (length (s .points)) (step S) + 2 * (swapCount S * halfOf m) ≤ squared (length (s .points)) S))
       go k = (k .good, (k .len, k .falls))
 
-  pub swaps-kept : (k : ℕ) → Good s → Swapped s ((swapRun (length (s .points)) (s .labels) m fits k (s .quads)) .left) (2 * ((swapRun (length (s .points)) (s .labels) m fits k (s .quads)) .count * m))
+  pub swaps-kept : (k : ℕ) → Good s → Swapped s ((swapRun (length (s .points)) (s .labels) m fits k (s .quads)) .left) (2 * ((swapRun (length (s .points)) (s .labels) m fits k (s .quads)) .count * halfOf m))
   unfolding GoodQuads Fell
-  swaps-kept k a = go (run-keeps swapCount step GoodQuads Fell (λ S g. (refl, omega (arith, zero-mul m))) (λ S T Q c d p q. (q .0 ∙ p .0, omega (arith, p .1, q .1, add-mul c d m))) one-swap-pass k (s .quads) 0 a)
+  swaps-kept k a = go (run-keeps swapCount step GoodQuads Fell (λ S g. (refl, omega (arith, zero-mul (halfOf m)))) (λ S T Q c d p q. (q .0 ∙ p .0, omega (arith, p .1, q .1, add-mul c d (halfOf m)))) one-swap-pass k (s .quads) 0 a)
     where
-      go : Ran swapCount step GoodQuads Fell (s .quads) 0 (run swapCount step k (s .quads) 0) → Swapped s ((run swapCount step k (s .quads) 0) .left) (2 * ((run swapCount step k (s .quads) 0) .count * m))
-      go r = record { good = r .good; len = r .kept .0; falls = omega (arith, r .kept .1, ap (λ c. c * m) (r .counts)) }
+      go : Ran swapCount step GoodQuads Fell (s .quads) 0 (run swapCount step k (s .quads) 0) → Swapped s ((run swapCount step k (s .quads) 0) .left) (2 * ((run swapCount step k (s .quads) 0) .count * halfOf m))
+      go r = record { good = r .good; len = r .kept .0; falls = omega (arith, r .kept .1, ap (λ c. c * halfOf m) (r .counts)) }
 
 -- a sheet after swaps has the same Euler number
 pub swapped-euler : (s : Sheet) (S : List Quad) (w : ℕ) → Good s → Swapped s S w → SameEuler s (withQuads s S)

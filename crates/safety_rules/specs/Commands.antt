@@ -15,7 +15,7 @@ use Rattle.rule_sheet.specs.Lent.{limit}
 use Rattle.rule_finer.specs.Finer.{fourLabels, finer}
 use Rattle.refine.specs.Finer.{finerCount}
 use Rattle.rule_sheet.specs.Outcomes.{RunEnd}
-use Rattle.rule_regularize.specs.Swaps.{Fits, swapRun, NoSwap}
+use Rattle.rule_regularize.specs.Swaps.{Fits, regularizeGain, improveGain, swapRun, NoSwap}
 use Rattle.rule_coarsen.specs.Merges.{Slot}
 use Rattle.rule_coarsen.specs.Coarse.{MergeFits, Position, coarseRun}
 use Rattle.rule_sheet.specs.Sound.{Sound, SameEuler, squaredOf}
@@ -43,9 +43,9 @@ pub data Command : Type 0 where
       → FinitePosition fits position → Command
   subdivideCall : (accepted : Bool) (placed : Sheet → ℕ → Point) → Command
 
--- the quads that passes of swaps leave, and their count; m is 1 for `regularize` and 0 for `improve_layout`
+-- the quads that passes of swaps leave, and their count; each swap gains at least leastGain
 abbrev pub swapsOf : ℕ → ℕ → (List Point → Fits) → Sheet → RunEnd (List Quad)
-swapsOf m k fits s = swapRun (length (s .points)) (s .labels) m (fits (s .points)) k (s .quads)
+swapsOf leastGain k fits s = swapRun (length (s .points)) (s .labels) leastGain (fits (s .points)) k (s .quads)
 
 -- the finer sheet, unless it is too large (13) or a point of it is not finite (5): "after a refusal the sheet
 -- before it"
@@ -56,9 +56,9 @@ subdivided placed s =
 
 -- the sheet that a call leaves
 abbrev pub leaves : Command → Sheet → Sheet
-leaves (regularizeCall true k fits) s = withQuads s ((swapsOf 1 k fits s) .left)
+leaves (regularizeCall true k fits) s = withQuads s ((swapsOf regularizeGain k fits s) .left)
 leaves (regularizeCall false k fits) s = s
-leaves (improveCall true k fits) s = withQuads s ((swapsOf 0 k fits s) .left)
+leaves (improveCall true k fits) s = withQuads s ((swapsOf improveGain k fits s) .left)
 leaves (improveCall false k fits) s = s
 leaves (coarsenCall true k fits position finite) s = (coarseRun fits position k s) .left
 leaves (coarsenCall false k fits position finite) s = s
@@ -67,7 +67,7 @@ leaves (subdivideCall false placed) s = s
 
 -- regularize's count: "a refused call adds 0"
 abbrev pub counts : Command → Sheet → ℕ
-counts (regularizeCall true k fits) s = (swapsOf 1 k fits s) .count
+counts (regularizeCall true k fits) s = (swapsOf regularizeGain k fits s) .count
 counts (regularizeCall false k fits) s = 0
 counts (improveCall x k fits) s = 0
 counts (coarsenCall x k fits position finite) s = 0
@@ -92,9 +92,10 @@ pub record Preserved (s t : Sheet) (c : ℕ) : Type 0 where
 -- an accepted call of `regularize` with k passes on the sheet t leaves no swap, and "the same call once more counts
 -- 0 and changes nothing"
 pub record RuleLeavesNone (t : Sheet) (k : ℕ) (fits : List Point → Fits) : Type 0 where
-  pub none-left : NoSwap (length (t .points)) (t .labels) 1 (fits (t .points)) ((swapsOf 1 k fits t) .left)
-  pub again : swapsOf 1 k fits (leaves (regularizeCall true k fits) t)
-      ≡ record { left = (swapsOf 1 k fits t) .left; count = 0 }
+  pub none-left : NoSwap (length (t .points)) (t .labels) regularizeGain (fits (t .points))
+      ((swapsOf regularizeGain k fits t) .left)
+  pub again : swapsOf regularizeGain k fits (leaves (regularizeCall true k fits) t)
+      ≡ record { left = (swapsOf regularizeGain k fits t) .left; count = 0 }
 
 -- what every list keeps, and what `regularize` leaves after it, given more passes than half the sum that
 -- it finds
