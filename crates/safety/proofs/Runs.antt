@@ -16,9 +16,10 @@ use Rattle.rule_sheet.specs.Results.{answerOf, made, shown, padded, pointsLeft,
 use Rattle.rule_finer.specs.Subdivide.{subdivideRule}
 use Rattle.rule_regularize.specs.Rule.{regularizeRule, improveRule}
 use Rattle.rule_coarsen.specs.Rule.{coarsenRule}
-use Rattle.safety_rules.proofs.Stars.{cubeSheet, cube-sound}
+use Rattle.cases.specs.Cases.{cube}
 use Rattle.safety.specs.Calls.{Call, regularizeCall, improveCall, coarsenCall, subdivideCall, Contract, lent, left, answerIn, isRefused, next, Run, Demand3, EveryList}
 use Rattle.safety.proofs.Slices.{held-padded}
+use Rattle.safety.proofs.Cube.{cube-sound}
 use Rattle.safety.proofs.Calls.{demand3}
 
 -- what a caller brings to a call beside the sheet
@@ -86,8 +87,8 @@ demand3-from x l a = demand3 (held x) (callsFrom x l) a (runs x l)
 abbrev pub inSlices : Sheet → ℕ → ℕ → ℕ → Lent
 inSlices s p q l = lentOf (countsOf s) (padded zeroF p (flatPoints (s .points))) (padded 0 q (flatQuads (s .quads))) (padded 0 l (s .labels))
 
-pub cube-demand3 : (p q l : ℕ) (turns : List Turn) → Demand3 cubeSheet (callsFrom (inSlices cubeSheet p q l) turns)
+pub cube-demand3 : (p q l : ℕ) (turns : List Turn) → Demand3 cube (callsFrom (inSlices cube p q l) turns)
 unfolding EveryList
 cube-demand3 p q l turns =
-    let x = inSlices cubeSheet p q l in
-    demand3 cubeSheet (callsFrom x turns) cube-sound (subst (λ (s : Sheet). Run s (callsFrom x turns)) (held-padded cubeSheet p q l) (runs x turns))
+    let x = inSlices cube p q l in
+    demand3 cube (callsFrom x turns) cube-sound (subst (λ (s : Sheet). Run s (callsFrom x turns)) (held-padded cube p q l) (runs x turns))

@@ -1,0 +1,73 @@
+-- The theorem about the table of the starred cases, by computation. Assumes nothing.
+use mathlib.Core.Path.{refl}
+use lib.Ieee.{ofBits, add, sub, mul, div, neg, lt, le, ne, ofInt}
+use Rattle.lists.specs.Every.{every, countTo}
+use Rattle.lists.specs.Sort.{tabulate, bucket}
+use Rattle.numeric.specs.Num.{float, minOf, maxOf, halfwayOf}
+use Rattle.numeric.specs.Root.{sqrtOf}
+use Rattle.points.specs.Points.{addP, subP, mulP, timesP, dotP, crossP, normP, halfwayP, centreP, finiteP, pointAt}
+use Rattle.band.specs.Bands.{lengthOf, faceNormalOf, sideOf, normalWith, axisValidOf, levelsValidOf, validOf}
+use Rattle.projection.specs.Project.{axisBits, onFaceOf, onFacesOf, withinOf, insideOf, closeOf, projectWith, projectOf}
+use Rattle.shape.specs.Shapes.{cornerOf, shapeOf}
+use Rattle.smoothing.specs.Rounded.{reciprocalOf}
+use Rattle.smoothing.specs.Smooth.{sumOf}
+use Rattle.rule_sheet.specs.Quads.{maskOf, packTo}
+use Rattle.rule_sheet.specs.Edges.{edgesOf, joinTo, joinOf}
+use Rattle.rule_sheet.specs.Flat.{quadsOf, flatQuads}
+use Rattle.rule_sheet.specs.Places.{centreOf}
+use Rattle.rule_sheet.specs.Tests.{inRange, distinct, goodCorners, goodMask, goodMasks}
+use Rattle.rule_sheet.specs.Sheet.{pointsOf, flatPoints, isBare, quadsVerdict, sheetVerdict}
+use Rattle.rule_sheet.specs.Lent.{isLarge, isShort, isShortWork, lentVerdict}
+use Rattle.rule_sheet.specs.Squared.{squared}
+use Rattle.rule_admission.specs.Admission.{domainVerdict, admitsAfter}
+use Rattle.rule_passes.specs.Shapes.{quadShape, noWorse}
+use Rattle.rule_regularize.specs.Swaps.{swapGain, swapPass}
+use Rattle.rule_regularize.specs.SwapFits.{lesserShape, heldOf, nextShape, shapeFits, nextFits, fitsWith, swapFits}
+use Rattle.rule_regularize.specs.Rule.{swapRule}
+use Rattle.rule_coarsen.specs.Coarse.{mergeGain, mergePass}
+use Rattle.rule_coarsen.specs.MergeFits.{joinedMask, movedTo, movedAt, quadStays, mergeFits}
+use Rattle.rule_coarsen.specs.Rule.{coarsenVerdict, coarsenRule}
+use Rattle.rule_finer.specs.Finer.{asked, midOf, cenOf, finer, newPoints, finerSheet, refined, refineRule}
+use Rattle.rule_finer.specs.Smoothed.{those, edgeQuads, pointQuads, paired, labelCount, centreAt}
+use Rattle.rule_rows.specs.Rows.{isCopied, copies, numberOf, labelCentres, inward, tryFrom, copyOf, copiedQuads, sidesOf, edgeSides, rowSides, stripAt, rowsSheet, rowsMade, rowed, rowsRule}
+use Rattle.cases.specs.Cases.{cube, swapPatch, mergePatch, AllHold, cases}
+
+pub cases-hold : AllHold cases
+unfolding cube swapPatch mergePatch cases ofBits add sub mul div neg lt le ne ofInt every countTo tabulate bucket
+    float minOf maxOf halfwayOf sqrtOf addP subP mulP timesP dotP crossP normP halfwayP centreP finiteP pointAt
+    lengthOf faceNormalOf sideOf normalWith axisValidOf levelsValidOf validOf axisBits onFaceOf onFacesOf withinOf
+    insideOf closeOf projectWith projectOf cornerOf shapeOf reciprocalOf sumOf maskOf packTo edgesOf joinTo joinOf
+    quadsOf flatQuads centreOf inRange distinct goodCorners goodMask goodMasks pointsOf flatPoints isBare quadsVerdict
+    sheetVerdict isLarge isShort isShortWork lentVerdict squared domainVerdict admitsAfter quadShape noWorse swapGain
+    swapPass lesserShape heldOf nextShape shapeFits nextFits fitsWith swapFits swapRule mergeGain mergePass joinedMask
+    movedTo movedAt quadStays mergeFits coarsenVerdict coarsenRule asked midOf cenOf finer newPoints finerSheet
+    refined refineRule those edgeQuads pointQuads paired labelCount centreAt isCopied copies numberOf labelCentres
+    inward tryFrom copyOf copiedQuads sidesOf edgeSides rowSides stripAt rowsSheet rowsMade rowed rowsRule
+cases-hold = (
+  (refl, refl, refl, refl, refl, refl),
+  (
+    (refl, refl, refl),
+    (
+      (refl, refl),
+      (
+        (refl, refl, refl, refl),
+        (
+          (refl, refl, refl, refl),
+          (
+            (refl, refl, refl, refl),
+            (
+              (refl, refl, refl),
+              (
+                (refl, refl, refl),
+                (
+                  (refl, refl, refl),
+                  (refl, (refl, tt)),
+                ),
+              ),
+            ),
+          ),
+        ),
+      ),
+    ),
+  ),
+)

@@ -1,0 +1,2 @@
+-- `Cases` has the theorem about the table.
+pub mod Cases

@@ -1,0 +1,177 @@
+-- The cases that document 01 marks with *, "proved of the definitions together, by a table and one theorem about it". A
+-- row says what is asked of the rules and what they must answer.
+use Prim.Native.Nat.{ℕ, suc, _+_, _-_, _*_}
+use mathlib.Core.Path.{_≡_}
+use mathlib.Core.Bool.{Bool, true, false}
+use mathlib.Core.List.{List, [], _∷_, _++_, map}
+use lib.IntN.{ℤ, pos, negsuc, _+ℤ_, _-ℤ_}
+use lib.ListN.{length, replicate}
+use lib.Ieee.{Float, fin}
+use Rattle.numeric.specs.Num.{zeroF, half}
+use Rattle.numeric.specs.Root.{sqrtOf}
+use Rattle.points.specs.declared.Point.{Point}
+use Rattle.points.specs.Points.{one, origin}
+use Rattle.field.specs.declared.Field.the-variants.{Plane}
+use Rattle.setting.specs.Settings.{Setting, settingOf}
+use Rattle.rule_sheet.specs.declared.Verdict.{Verdict}
+use Rattle.rule_sheet.specs.declared.Verdict.the-variants.{Accepted}
+use Rattle.rule_sheet.specs.Quads.{Quad, quad, num, valence}
+use Rattle.rule_sheet.specs.Flat.{flatQuads}
+use Rattle.rule_sheet.specs.Sheet.{Sheet, flatPoints, countsOf}
+use Rattle.rule_sheet.specs.Lent.{Lent, Work, Room, lentOf, workWith, roomWith}
+use Rattle.rule_sheet.specs.Outcomes.{Outcome, refuses, gives}
+use Rattle.rule_sheet.specs.Sound.{edgeCount, squaredOf}
+use Rattle.rule_admission.specs.Admission.{admits}
+use Rattle.rule_regularize.specs.Swaps.{gainIn}
+use Rattle.rule_regularize.specs.Rule.{regularizeRule, improveRule}
+use Rattle.rule_coarsen.specs.Coarse.{mergeGain}
+use Rattle.rule_coarsen.specs.Rule.{coarsenRule}
+use Rattle.rule_finer.specs.Finer.{refineRule}
+use Rattle.rule_rows.specs.Rows.{rowsRule}
+
+-- ---- what the rules are asked with
+
+-- the point (a, b, c)
+abbrev pub point : Float → Float → Float → Point
+point a b c = record { x = a; y = b; z = c }
+
+-- the unit box; the levels and the field, a plane, matter to no row
+abbrev pub unitBox : Setting
+unitBox = settingOf (record {
+  low = origin;
+  high = point one one one;
+  lower = zeroF;
+  upper = one;
+  field = Plane zeroF zeroF one zeroF;
+})
+
+-- a sheet in slices that just hold it
+abbrev pub lentSheet : Sheet → Lent
+lentSheet s = lentOf (countsOf s) (flatPoints (s .points)) (flatQuads (s .quads)) (s .labels)
+
+-- work slices that are just enough for it
+abbrev pub workFor : Sheet → Work
+workFor s = let n = length (s .points) + length (s .quads) in workWith (64 * n) (16 * n)
+
+-- result slices of p points and q quads
+abbrev pub roomFor : ℕ → ℕ → Room
+roomFor p q = roomWith (3 * p) (4 * q) q
+
+-- a rule accepts, and what it makes has the property P
+abbrev pub Gives : {A : Type 0} → Outcome A → (A → Type 0) → Type 0
+Gives (refuses n) P = ⊥
+Gives (gives x) P = P x
+
+-- ---- the cube
+
+-- "Unit cube as its own box, 6 quads labelled 2 to 7": point x + 2 y + 4 z, the quads of the faces x = 0, x = 1, y = 0,
+-- y = 1, z = 0, z = 1, each counterclockwise seen from outside
+unfoldable pub cube : Sheet
+cube = record {
+  points = point zeroF zeroF zeroF ∷ point one zeroF zeroF ∷ point zeroF one zeroF ∷ point one one zeroF
+      ∷ point zeroF zeroF one ∷ point one zeroF one ∷ point zeroF one one ∷ point one one one ∷ [];
+  quads = quad 0 4 6 2 ∷ quad 1 3 7 5 ∷ quad 0 1 5 4 ∷ quad 2 6 7 3 ∷ quad 0 2 3 1 ∷ quad 4 5 7 6 ∷ [];
+  labels = 2 ∷ 3 ∷ 4 ∷ 5 ∷ 6 ∷ 7 ∷ [];
+}
+
+-- ---- patches of quads on the face z = 1, with given numbers of quads at some points
+
+-- k quads at v, whose other corners are p, p + 1 and p + 2
+abbrev pub spokes : ℕ → ℕ → ℕ → List Quad
+spokes k v p = replicate k (quad v p (p + 1) (p + 2))
+
+-- points and quads, all labelled 7
+abbrev pub patch : List Point → List Quad → Sheet
+patch ps S = record { points = ps; quads = S; labels = replicate (length S) 7 }
+
+-- Two quads along the edge from 0 to 1, and the diagonal from 2 to 3 that may take its place and makes two squares of
+-- them. The points 0, 1, 2 and 3 have va, vb, vc and vd quads; so many are at 4 and 5 that the diagonal from 4 to 5 is
+-- never taken.
+unfoldable pub swapPatch : ℕ → ℕ → ℕ → ℕ → Sheet
+swapPatch va vb vc vd = patch
+    (point zeroF zeroF one ∷ point one half one ∷ point half zeroF one ∷ point half half one ∷ point one zeroF one
+    ∷ point zeroF half one ∷ replicate 3 (point zeroF zeroF one))
+    (quad 0 1 3 5 ∷ quad 1 0 2 4 ∷ (spokes (va - 2) 0 6 ++ spokes (vb - 2) 1 6 ++ spokes (vc - 1) 2 6
+    ++ spokes (vd - 1) 3 6 ++ spokes va 4 6 ++ spokes vb 5 6))
+
+-- The quad of the points 0, 1, 2 and 3, which have va, vb, vc and vd quads: 0 and 2 may be merged.
+unfoldable pub mergePatch : ℕ → ℕ → ℕ → ℕ → Sheet
+mergePatch va vc vb vd = patch
+    (point zeroF zeroF one ∷ point one zeroF one ∷ point one one one ∷ point zeroF one one
+    ∷ replicate 12 (point half half one))
+    (quad 0 1 2 3 ∷ (spokes (va - 1) 0 4 ++ spokes (vc - 1) 2 7 ++ spokes (vb - 1) 1 10 ++ spokes (vd - 1) 3 13))
+
+-- the quads at the points 0, 1, 2 and 3
+abbrev pub valences : Sheet → List ℕ
+valences s = map (valence (s .quads)) (0 ∷ 1 ∷ 2 ∷ 3 ∷ [])
+
+-- ---- the cases
+
+pub data Case : Type 0 where
+  -- a sheet: its points, edges and quads, points − edges + quads, demand 3's sum
+  sheetCase : (s : Sheet) (points edges quads : ℕ) (euler : ℤ) (sum : ℕ) → Case
+  -- `refine` of a sheet: the points and quads of the finer sheet, demand 3's sum
+  refineCase : (s : Sheet) (points quads sum : ℕ) → Case
+  -- `boundary_rows` of a sheet: the points and quads of the sheet with rows
+  rowsCase : (s : Sheet) (points quads : ℕ) → Case
+  -- a swap, from an edge of valences va and vb to a diagonal of valences vc and vd: its gain, and whether `regularize`
+  -- and `improve_layout` take it
+  swapCase : (va vb vc vd : ℕ) (gain : ℤ) (regularizes improves : Bool) → Case
+  -- a merge of points of valences va and vc beside vb and vd: its gain, and whether `coarsen` takes it
+  mergeCase : (va vc vb vd : ℕ) (gain : ℤ) (taken : Bool) → Case
+  -- a square root
+  rootCase : (of is : Float) → Case
+
+-- what a row says: the answers of the rules
+abbrev pub Holds : Case → Type 0
+Holds (sheetCase s points edges quads euler sum) =
+    (admits unitBox (lentSheet s) (workFor s) ≡ Accepted) × (length (s .points) ≡ points) × (edgeCount s ≡ edges)
+    × (length (s .quads) ≡ quads) × (pos points -ℤ pos edges +ℤ pos quads ≡ euler) × (squaredOf s ≡ sum)
+Holds (refineCase s points quads sum) =
+    Gives (refineRule (lentSheet s) (workFor s) (roomFor points quads))
+    (λ t. (length (t .points) ≡ points) × (length (t .quads) ≡ quads) × (squaredOf t ≡ sum))
+Holds (rowsCase s points quads) =
+    Gives (rowsRule unitBox (lentSheet s) (workFor s) (roomFor points quads))
+    (λ t. (length (t .points) ≡ points) × (length (t .quads) ≡ quads))
+Holds (swapCase va vb vc vd gain regularizes improves) =
+    let s = swapPatch va vb vc vd in
+    (valences s ≡ va ∷ vb ∷ vc ∷ vd ∷ []) × (gainIn (s .quads) 0 1 2 3 ≡ gain)
+    × Gives (regularizeRule unitBox 1 (lentSheet s) (workFor s)) (λ e. e .count ≡ num regularizes)
+    × Gives (improveRule unitBox 1 (lentSheet s) (workFor s)) (λ e. e .count ≡ num improves)
+Holds (mergeCase va vc vb vd gain taken) =
+    let s = mergePatch va vc vb vd in
+    (valences s ≡ va ∷ vb ∷ vc ∷ vd ∷ []) × (mergeGain (length (s .points)) (s .quads) (s .labels) 0 1 2 3 ≡ gain)
+    × Gives (coarsenRule unitBox 1 (lentSheet s) (workFor s)) (λ e. e .count ≡ num taken)
+Holds (rootCase of is) = sqrtOf of ≡ is
+
+-- the same of every row
+abbrev pub AllHold : List Case → Type 0
+AllHold [] = Unit {0}
+AllHold (c ∷ cs) = Holds c × AllHold cs
+
+-- ---- the table
+
+unfoldable pub cases : List Case
+cases =
+    -- "Unit cube as its own box, 6 quads labelled 2 to 7: 8 − 12 + 6 = 2; squared sum 8."
+    sheetCase cube 8 12 6 (pos 2) 8 ∷
+    -- "Refined: 26 points, 24 quads, sum 8."
+    refineCase cube 26 24 8 ∷
+    -- "With rows: 32 points, 30 quads."
+    rowsCase cube 32 30 ∷
+    -- "Swap valences 5,5 to 3,3: gain 4."
+    swapCase 5 5 3 3 (pos 4) true true ∷
+    -- "5,4 to 3,3: 2."
+    swapCase 5 4 3 3 (pos 2) true true ∷
+    -- "5,5 to 4,4: 0, only improve_layout."
+    swapCase 5 5 4 4 (pos 0) false true ∷
+    -- "Merge 3,3 beside 5,5: gain 4."
+    mergeCase 3 3 5 5 (pos 4) true ∷
+    -- "3,3 beside 4,4: 0, taken."
+    mergeCase 3 3 4 4 (pos 0) true ∷
+    -- "4,4 beside 4,4: −6."
+    mergeCase 4 4 4 4 (negsuc 5) false ∷
+    -- "Root of 4 is 2; of 2^−1074 is 2^−537."
+    rootCase (fin false 1 (pos 2)) (fin false 1 (pos 1)) ∷
+    rootCase (fin false 1 (negsuc 1073)) (fin false 1 (negsuc 536)) ∷
+    []
