@@ -1,6 +1,6 @@
 -- The cases that document 01 marks with *, "proved of the definitions together, by a table and one theorem about it". A
 -- row says what is asked of the rules and what they must answer.
-use Prim.Native.Nat.{ℕ, suc, _+_, _-_, _*_}
+use Prim.Native.Nat.{ℕ, _+_, _-_, _*_}
 use mathlib.Core.Path.{_≡_}
 use mathlib.Core.Bool.{Bool, true, false}
 use mathlib.Core.List.{List, [], _∷_, _++_, map}
@@ -13,7 +13,6 @@ use Rattle.points.specs.declared.Point.{Point}
 use Rattle.points.specs.Points.{one, origin}
 use Rattle.field.specs.declared.Field.the-variants.{Plane}
 use Rattle.setting.specs.Settings.{Setting, settingOf}
-use Rattle.rule_sheet.specs.declared.Verdict.{Verdict}
 use Rattle.rule_sheet.specs.declared.Verdict.the-variants.{Accepted}
 use Rattle.rule_sheet.specs.Quads.{Quad, quad, num, valence}
 use Rattle.rule_sheet.specs.Flat.{flatQuads}

@@ -8,7 +8,7 @@ use lib.Dec.{leb}
 use lib.IntN.{pos}
 use lib.ListN.{length, getD, take}
 use lib.Seq.{getD-take}
-use lib.Signed.{leZ, ltZ}
+use lib.Signed.{leZ}
 use lib.Ieee.{Float}
 use Rattle.lists.proofs.Laws.{getD-tab}
 use Rattle.lists.proofs.Regions.{part-get}

@@ -1,5 +1,5 @@
 -- The choice between the two diagonals of an edge by what the slices hold, and the steps of a pass.
-use Prim.Native.Nat.{ℕ, _+_, _*_, _/_}
+use Prim.Native.Nat.{ℕ, _*_, _/_}
 use mathlib.Core.Bool.{Bool, cond, _&&_}
 use mathlib.Core.List.{List}
 use lib.ListN.{take}

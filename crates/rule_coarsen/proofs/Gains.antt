@@ -1,11 +1,11 @@
 -- The gain of a merge by the sums before and after it. Assumes nothing.
-use Prim.Native.Nat.{ℕ, _+_, _-_, _≤_, _<_}
-use mathlib.Core.Path.{_≡_, refl, sym, _∙_}
+use Prim.Native.Nat.{ℕ, _+_, _-_, _≤_}
+use mathlib.Core.Path.{_≡_, _∙_}
 use mathlib.Core.Bool.{true}
 use mathlib.Core.List.{List}
 use native.Mathlib.Omega.{arith}
 use lib.Dec.{leb, ltb}
-use lib.IntN.{pos, _-ℤ_}
+use lib.IntN.{pos}
 use lib.Signed.{leZ, ltZ}
 use Rattle.rule_sheet.specs.Quads.{Quad, valence}
 use Rattle.rule_passes.proofs.Differences.{Difference, of-two, same-le, same-lt, least-is, less-is}
