@@ -10,7 +10,7 @@ use Rattle.band.specs.Bands.{lengthOf, faceNormalOf, sideOf, normalWith, axisVa
 use Rattle.projection.specs.Project.{axisBits, onFaceOf, onFacesOf, withinOf, insideOf, closeOf, projectWith, projectOf}
 use Rattle.shape.specs.Shapes.{cornerOf, shapeOf}
 use Rattle.smoothing.specs.Rounded.{reciprocalOf}
-use Rattle.smoothing.specs.Smooth.{sumOf}
+use Rattle.smoothing.specs.Smooth.{sumOf, quadCentre}
 use Rattle.rule_sheet.specs.Quads.{maskOf, packTo}
 use Rattle.rule_sheet.specs.Edges.{edgesOf, joinTo, joinOf}
 use Rattle.rule_sheet.specs.Flat.{quadsOf, flatQuads}
@@ -36,7 +36,7 @@ pub cases-hold : AllHold cases
 unfolding cube swapPatch mergePatch cases ofBits add sub mul div neg lt le ne ofInt every countTo tabulate bucket
     float minOf maxOf halfwayOf sqrtOf addP subP mulP timesP dotP crossP normP halfwayP centreP finiteP pointAt
     lengthOf faceNormalOf sideOf normalWith axisValidOf levelsValidOf validOf axisBits onFaceOf onFacesOf withinOf
-    insideOf closeOf projectWith projectOf cornerOf shapeOf reciprocalOf sumOf maskOf packTo edgesOf joinTo joinOf
+    insideOf closeOf projectWith projectOf cornerOf shapeOf reciprocalOf sumOf quadCentre maskOf packTo edgesOf joinTo joinOf
     quadsOf flatQuads centreOf inRange distinct goodCorners goodMask goodMasks pointsOf flatPoints isBare quadsVerdict
     sheetVerdict isLarge isShort isShortWork lentVerdict squared domainVerdict admitsAfter quadShape noWorse swapGain
     swapPass lesserShape heldOf nextShape shapeFits nextFits fitsWith swapFits swapRule mergeGain mergePass joinedMask
