@@ -13,7 +13,7 @@ use std::path::Path;
 const EXPORTS: &str = "quads";
 
 /// The crates whose definitions are the claims.
-pub const CLAIMS: [&str; 2] = ["safety", "subdivide_exact"];
+const CLAIMS: [&str; 3] = ["safety", "subdivide_exact", "cases"];
 
 /// What the head of a file says whose definitions are not believed, though it stands in a crate of rules.
 const NOT_A_RULE: &str = "Not a rule";
@@ -40,7 +40,9 @@ pub struct Beliefs<'a> {
     pub of_doors: BTreeSet<Node>,
     /// What the contracts of the exports rest on.
     pub of_exports: BTreeSet<Node>,
-    /// What the claims rest on.
+    /// The crates of claims, and what the definitions of each rest on.
+    pub claims: Vec<(&'static str, BTreeSet<Node>)>,
+    /// What all of these rest on.
     pub of_claims: BTreeSet<Node>,
     /// All of these.
     pub all: BTreeSet<Node>,
@@ -73,6 +75,12 @@ fn doors(tree: &Tree) -> Vec<Contract<'_>> {
     })
 }
 
+/// The definitions of a crate.
+fn stated<'a>(tree: &'a Tree, name: &'a str) -> impl Iterator<Item = Node> + 'a {
+    let files = tree.specs.iter().enumerate().filter(move |(_, file)| file.library == name);
+    files.flat_map(|(i, file)| (0..file.spec.definitions.len()).map(move |j| Node::Definition(i, j)))
+}
+
 impl<'a> Beliefs<'a> {
     /// Finds what is believed of a tree.
     pub fn of(tree: &'a Tree) -> Beliefs<'a> {
@@ -83,11 +91,11 @@ impl<'a> Beliefs<'a> {
         let doors = doors(tree);
         let exports = contracts(tree, |library, one| library == EXPORTS && one.export);
         let (of_doors, of_exports) = (cited(&doors), cited(&exports));
-        let claims = tree.specs.iter().enumerate().filter(|(_, file)| CLAIMS.contains(&&*file.library));
-        let stated = claims.flat_map(|(i, file)| (0..file.spec.definitions.len()).map(move |j| Node::Definition(i, j)));
-        let of_claims = graph.closure(stated);
+        let claims = CLAIMS.map(|name| (name, graph.closure(stated(tree, name))));
+        let claims: Vec<_> = claims.into_iter().filter(|(_, nodes)| !nodes.is_empty()).collect();
+        let of_claims: BTreeSet<Node> = claims.iter().flat_map(|(_, nodes)| nodes).cloned().collect();
         let all = of_doors.iter().chain(&of_exports).chain(&of_claims).cloned().collect();
-        Beliefs { tree, doors, exports, of_doors, of_exports, of_claims, all, lost: graph.lost }
+        Beliefs { tree, doors, exports, of_doors, of_exports, claims, of_claims, all, lost: graph.lost }
     }
 
     /// Whether a definition is believed.
@@ -122,9 +130,10 @@ impl<'a> Beliefs<'a> {
         if self.exports.is_empty() {
             found.push(format!("crates/{EXPORTS}: no export is found"));
         }
-        if self.of_claims.is_empty() {
-            found.push(format!("crates/{}/specs: no claim is found", CLAIMS[0]));
-        }
+        let is_stated = |name: &str| self.claims.iter().any(|(claims, _)| *claims == name);
+        let listed = |name: &str| name == CLAIMS[0] || self.tree.catalogue.family(name).is_some();
+        let empty = CLAIMS.into_iter().filter(|name| listed(name) && !is_stated(name));
+        found.extend(empty.map(|name| format!("crates/{name}/specs: no claim is found")));
         found
     }
 

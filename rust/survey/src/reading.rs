@@ -1,5 +1,5 @@
 //! The page docs/READING.md.
-use crate::believe::{Beliefs, CLAIMS, Contract};
+use crate::believe::{Beliefs, Contract};
 use crate::closure::Node;
 use crate::document::Document;
 use crate::prose::{counted, listed, number, sentence, wrapped};
@@ -85,14 +85,14 @@ fn beginnings(beliefs: &Beliefs) -> String {
     };
     let whole = counted(tree.specs.iter().map(|file| file.spec.definitions.len()).sum(), "definition");
     let lines = counted(tree.specs.iter().map(|file| file.spec.lines).sum(), "line");
-    let claims = CLAIMS.map(|name| format!("crates/{name}/specs")).join(" and ");
+    let claimed = |(name, nodes): &(&str, BTreeSet<Node>)| row(&format!("claims of crates/{name}/specs"), nodes);
     [
         "\n## Where it begins\n\n".to_string(),
         "| the contracts or claims | definitions | lines | unbroken | without comments |\n|---|---|---|---|---|\n"
             .to_string(),
         row(&format!("operations: {}", functions(tree, &beliefs.doors)), &beliefs.of_doors),
         row(&format!("exports: {}", functions(tree, &beliefs.exports)), &beliefs.of_exports),
-        row(&format!("claims: the definitions of {claims}"), &beliefs.of_claims),
+        beliefs.claims.iter().map(claimed).collect(),
         row("all", &beliefs.all),
         format!("\nThe folders specs/ of all crates have {whole} in {lines}.\n"),
     ]

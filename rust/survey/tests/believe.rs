@@ -18,7 +18,7 @@ fn a_tree_is_read_from_its_words_to_its_claims() {
     for line in [
         "| operations: `add::add` | 4 | 13 | 13 | 8 |",
         "| exports: `quads::quads_add` | 4 | 13 | 13 | 8 |",
-        "| claims: the definitions of crates/safety/specs and crates/subdivide_exact/specs | 2 | 6 | 6 | 4 |",
+        "| claims of crates/safety/specs | 2 | 6 | 6 | 4 |",
         "| all | 5 | 16 | 16 | 10 |",
         "The folders specs/ of all crates have 7 definitions in 38 lines.",
         "- [Numbers](../crates/numbers/specs/Numbers.antt), 1 definition of 2, 4 lines. Whole numbers.",
