@@ -1,17 +1,16 @@
 -- The copies, the copied quads and the strips over flat lists are those of the rule. Assumes nothing.
 use Prim.Native.Nat.{ℕ, zero, suc, _+_, _*_, _/_, _%_, _≤_, _<_}
 use mathlib.Core.Path.{_≡_, refl, sym, ap, _∙_}
-use mathlib.Core.Bool.{Bool, true, false, cond, not, _&&_, _||_}
-use mathlib.Core.Logic.{⊎-elim}
+use mathlib.Core.Bool.{Bool, true, false, not, _&&_, _||_}
 use mathlib.Core.List.{List, [], _∷_, map}
 use native.Mathlib.Omega.{arith}
 use lib.Dec.{eqb}
-use lib.ListN.{length, getD, take, length-map, List·getD-eq-default}
+use lib.ListN.{length, getD, take, length-map}
 use lib.Seq.{getD-take}
 use lib.Ieee.{Float}
 use Rattle.lists.specs.Sort.{tabulate, itself, consIf, keep}
 use Rattle.lists.specs.Every.{every}
-use Rattle.lists.proofs.Laws.{lt-or-le, getD-tab, length-tab, tab-add}
+use Rattle.lists.proofs.Laws.{getD-tab, length-tab, tab-add}
 use Rattle.lists.proofs.Every.{count-ext, every-ext}
 use Rattle.lists.proofs.Order.{Each, each-bucket, below-tab}
 use Rattle.setting.specs.Settings.{Setting}
@@ -26,16 +25,18 @@ use Rattle.sheet.proofs.Edges.{join-ext}
 use Rattle.sheet.proofs.Masks.{bit-pack}
 use Rattle.sheet.proofs.Tests.{length-points}
 use Rattle.sheet.proofs.Fronts.{flat-quads-snoc}
-use Rattle.incidence.specs.Corners.{edgeOrder}
 use Rattle.refine.proofs.Edges.{sorted}
 use Rattle.rule_finer.specs.Smoothed.{those, labelCount}
 use Rattle.subdivide_points.specs.Steps.{cornerCentre, flatSheet}
 use Rattle.subdivide_points.proofs.Quads.{quadOf, point-quads}
-use Rattle.subdivide_points.proofs.Moved.{centreIn, map-map, map-ext, each-append, those-below, ones-count, point-is, centre-is}
+use Rattle.subdivide_points.proofs.Moved.{centreIn, map-map, map-ext, those-below, ones-count, point-is, centre-is}
 use Rattle.rule_rows.specs.Rows.{keyOf, isCopied, copies, numberOf, isLabelled, labelCentres, inward, copyOf, cornerFor, copiedAt, copiedQuads, labelOf, stripAt, rowSides}
 use Rattle.projection.specs.Project.{isOnto, ontoOf}
-use Rattle.rows.specs.Steps.{copiedBy, copiedIn, numberIn, ofLabel, centresOf, inwardAt, copyAt, foundAt, copiesTo, cornerLabel, cornerIn, seamCorners, seamAt, seamsTo, seamsOf, stripIn, Labelled}
+use Rattle.rows_gather.specs.Steps.{copiedBy, copiedIn, numberIn, cornerLabel, seamsOf, Labelled}
+use Rattle.rows_copies.specs.Steps.{ofLabel, centresOf, inwardAt, copyAt, foundAt, copiesTo}
+use Rattle.rows_quads.specs.Steps.{cornerIn, stripIn}
 use Rattle.rows.proofs.Seams.{sideAt, row-sides}
+use Rattle.rows_gather.proofs.Lists.{seams-low}
 
 -- ---- lists
 
@@ -146,23 +147,6 @@ module _ {np nq : ℕ} {P : List Float} {Q labels : List ℕ} (L : Labelled np n
 
   -- ---- the strips
 
-  order-low : (j : ℕ) → 0 < nq → getD (edgeOrder np nq Q) j 0 < 4 * nq
-  order-low j some = ⊎-elim
-      (λ (h : j < 4 * nq). sorted (L .held .cornered) .below j h)
-      (λ (h : 4 * nq ≤ j). rw (List·getD-eq-default (edgeOrder np nq Q) 0 {n = j} (omega (arith, sorted (L .held .cornered) .len))) (omega arith))
-      (lt-or-le j (4 * nq))
-
-  pub seams-low : (n : ℕ) → 0 < nq → Each 0 (λ c. c < 4 * nq) (seamsTo Q labels (4 * nq) (edgeOrder np nq Q) n)
-  unfolding seamsTo joinTo seamCorners
-  seams-low zero some = λ i h. absurd (omega arith)
-  seams-low (suc n) some = each-append 0 (λ c. c < 4 * nq) (joinTo (seamCorners Q labels (4 * nq) (edgeOrder np nq Q)) n) (seamCorners Q labels (4 * nq) (edgeOrder np nq Q) n) (seams-low n some) (go (seamAt Q labels (4 * nq) (edgeOrder np nq Q) n))
-    where
-      go : (b : Bool) → Each 0 (λ c. c < 4 * nq) (cond b (getD (edgeOrder np nq Q) n 0 ∷ getD (edgeOrder np nq Q) (n + 1) 0 ∷ []) [])
-      go true zero h = order-low n some
-      go true (suc zero) h = order-low (n + 1) some
-      go true (suc (suc i)) h = absurd (omega arith)
-      go false i h = absurd (omega arith)
-
   strip-is : (c : ℕ) → c < 4 * nq → stripIn np Q labels M c ≡ stripAt (flatSheet np nq P Q labels) (sideAt Q labels c)
   unfolding stripIn stripAt
   strip-is c h =
@@ -174,7 +158,7 @@ module _ {np nq : ℕ} {P : List Float} {Q labels : List ℕ} (L : Labelled np n
   unfolding seamsOf
   strips-are some =
       rw (row-sides np nq P Q labels (sorted (L .held .cornered) .len), map-map (stripAt (flatSheet np nq P Q labels)) (sideAt Q labels) (seamsOf np nq Q labels))
-      (map-ext 0 _ _ (seamsOf np nq Q labels) (λ i h. strip-is _ (seams-low (4 * nq) some i h)))
+      (map-ext 0 _ _ (seamsOf np nq Q labels) (λ i h. strip-is _ (seams-low L (4 * nq) some i h)))
 
   pub strip-labels : map (cornerLabel labels) (seamsOf np nq Q labels) ≡ map labelOf (rowSides (flatSheet np nq P Q labels))
   strip-labels = rw (row-sides np nq P Q labels (sorted (L .held .cornered) .len)) (sym (map-map labelOf (sideAt Q labels) (seamsOf np nq Q labels)))

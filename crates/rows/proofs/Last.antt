@@ -38,7 +38,7 @@ use Rattle.rule_finer.specs.Smoothed.{paired, labelCount}
 use Rattle.subdivide_points.proofs.Moved.{each-append}
 use Rattle.rule_rows.specs.Rows.{row, keyOf, isCopied, copies, numberOf, orElse, tryFrom, copyOf, cornerFor, copiedQuad, copiedAt, copiedQuads, Side, side, labelOf, lowOf, highOf, fourSides, sidesOf, edgeSides, twoLabels, rowSides, stripAt, rowsSheet, rowsMade, rowed}
 use Rattle.numeric.specs.Num.{half}
-use Rattle.rows.proofs.Put.{length-rows}
+use Rattle.rows_copies.proofs.Put.{length-rows}
 
 -- ---- a copy that is found is finite
 

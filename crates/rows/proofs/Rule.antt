@@ -1,5 +1,5 @@
 -- From the three slices to the sheet with rows, and to the rule. Assumes nothing.
-use Prim.Native.Nat.{ℕ, suc, _+_, _-_, _*_, _≤_}
+use Prim.Native.Nat.{ℕ, _+_, _-_, _*_, _≤_}
 use mathlib.Core.Path.{_≡_, refl, sym, ap, _∙_}
 use mathlib.Core.Bool.{Bool, true, false, not, _||_}
 use mathlib.Core.List.{List, [], _∷_, _++_, map}
@@ -8,13 +8,11 @@ use lib.ListN.{length, take, length-append, length-map}
 use lib.Seq.{length-take-le}
 use lib.Ieee.{Float}
 use borrow.Author.Tests.{leb-true}
-use borrow.Rule.Slice.PartMut.{putMid, midOf}
 use Rattle.lists.specs.Sort.{tabulate}
 use Rattle.lists.specs.Every.{every}
 use Rattle.lists.specs.Regions.{part}
 use Rattle.lists.proofs.Every.{and-left, every-at}
 use Rattle.lists.proofs.Regions.{part-of}
-use Rattle.lists.proofs.Parts.{put-end, length-end}
 use Rattle.setting.specs.Settings.{Setting}
 use Rattle.rule_sheet.specs.declared.Counts.{Counts}
 use Rattle.rule_sheet.specs.declared.Verdict.{Verdict}
@@ -28,7 +26,6 @@ use Rattle.rule_sheet.specs.Lent.{Lent, Work, lentOf, Room, roomWith, isLarge, 
 use Rattle.sheet.specs.Sheet.{masksOf, LentSheet}
 use Rattle.sheet.proofs.Tests.{or-left, or-right, holds-of, length-points, bare-is, labels-match, tested, some-quad, proper-of, corners-tested}
 use Rattle.rule_sheet.specs.declared.Answer.{Answer}
-use Rattle.rule_sheet.specs.declared.Answer.the-variants as answers
 use Rattle.rule_sheet.specs.Outcomes.{gives, afterTest}
 use Rattle.sheet.specs.Results.{Front, Fills}
 use Rattle.rule_admission.specs.Admission.{settingVerdict, admits}
@@ -42,31 +39,15 @@ use Rattle.subdivide_points.specs.Steps.{flatSheet}
 use Rattle.sheet.proofs.Fronts.{points-front, quads-front}
 use Rattle.rule_rows.specs.Rows.{copies, numberOf, copyOf, copiedQuads, labelOf, stripAt, rowSides, rowsSheet, rowsMade, rowed, rowsRule}
 use Rattle.projection.specs.Project.{isOnto}
-use Rattle.rows.specs.Steps.{numberIn, pointsAfter, foundAt, copiesTo, cornerLabel, cornerIn, seamsOf, stripIn, masksAt, countsAfter, madeBy, Worked, Gathered, Gathering, Finished, Tested}
-use Rattle.rows.proofs.Copies.{number-le}
+use Rattle.rows_gather.specs.Steps.{numberIn, pointsAfter, cornerLabel, seamsOf, masksAt, countsAfter, Worked, Gathered, Gathering}
+use Rattle.rows_copies.specs.Steps.{foundAt, copiesTo}
+use Rattle.rows_quads.specs.Steps.{cornerIn, stripIn}
+use Rattle.rows.specs.Steps.{madeBy, Finished, Tested}
+use Rattle.rows_gather.proofs.Numbers.{number-le}
 use Rattle.rows.proofs.Seams.{sideAt, row-sides}
-use Rattle.rows.proofs.Put.{length-rows}
+use Rattle.rows_copies.proofs.Put.{length-rows}
 use Rattle.rows.proofs.Flat.{number-is, found-is, copies-are, copied-quads, length-copied, strips-are, strip-labels}
-
--- a slice whose front is written, and what lies behind it by a part to the end
-pub front-behind : {A : Type 0} {l m s y : List A} (a : ℕ) → Front l s → length l ≡ a → Front m y → length y ≡ length (midOf a (length s - a) s) → Front (l ++ m) (putMid a (length s - a) s y)
-front-behind {A} {l} {m} {s} {y} a F e G n =
-    let h : a ≤ length s = omega (arith, F .fits) in
-    let k : length y ≡ length s - a = n ∙ length-end a s in
-    let t : take a s ≡ l = rw (← e) (F .is) in
-    let q : putMid a (length s - a) s y ≡ l ++ y = put-end a s y h ∙ rw t in
-    rw q (record {
-      fits = rw (length-append l m, length-append l y) (omega (arith, G .fits));
-      is = rw (length-append l m, take-more l y (length m), G .is);
-    })
-  where
-    take-more : (l y : List A) (n : ℕ) → take (length l + n) (l ++ y) ≡ l ++ take n y
-    take-more [] y n = let e : 0 + n ≡ n = omega arith in rw e
-    take-more (x ∷ l) y n = let e : suc (length l) + n ≡ suc (length l + n) = omega arith in rw (e, take-more l y n)
-
--- a part to the end has room
-pub end-room : {A : Type 0} (a m : ℕ) (s d : List A) → length s ≡ length d → a + m ≤ length d → m ≤ length (midOf a (length s - a) s)
-end-room a m s d e h = omega (arith, length-end a s)
+use Rattle.rule_sheet.specs.declared.Answer.the-variants as answers
 
 -- ---- the three slices
 

@@ -26,7 +26,7 @@ use Rattle.edges.proofs.Blocks.{block, byLarger, off, off-suc, row-length, at-o
 use Rattle.edges.proofs.EdgeKinds.{kindOf, kind-first, kind-later}
 use Rattle.subdivide_points.specs.Steps.{flatSheet}
 use Rattle.rule_rows.specs.Rows.{Side, side, lowOf, highOf, fourSides, sidesOf, edgeSides, twoLabels, rowSides}
-use Rattle.rows.specs.Steps.{cornerLabel, seamAt, seamCorners, seamsTo, seamsOf}
+use Rattle.rows_gather.specs.Steps.{cornerLabel, seamAt, seamCorners, seamsTo, seamsOf}
 use Rattle.edges.specs.Steps.{isTwo, pairAt}
 
 -- ---- joins
