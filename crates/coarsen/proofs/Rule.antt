@@ -13,7 +13,6 @@ use Rattle.rule_sheet.specs.declared.Counts.{Counts}
 use Rattle.rule_sheet.specs.declared.Tally.{Tally}
 use Rattle.rule_sheet.specs.declared.Answer.the-variants.{Done, Refused}
 use Rattle.rule_sheet.specs.declared.Verdict.{Verdict}
-use Rattle.rule_sheet.specs.declared.Verdict.the-variants as verdicts
 use Rattle.rule_sheet.specs.Flat.{flatQuads}
 use Rattle.rule_sheet.specs.Sheet.{Sheet, flatPoints, countsOf}
 use Rattle.rule_sheet.specs.Lent.{Lent, Work, held, roomIn, lentVerdict}
@@ -26,8 +25,9 @@ use Rattle.sheet.proofs.Tests.{lent-is}
 use Rattle.sheet.proofs.Results.{fills-leaves}
 use Rattle.sheet.proofs.Fronts.{front-points, front-quads}
 use Rattle.admission.proofs.Admitted.{admitted}
-use Rattle.coarsen.specs.Passes.{Coarsenable, Remains}
-use Rattle.coarsen.proofs.Accepted.{counts-of}
+use Rattle.coarsen_passes.specs.Passes.{Coarsenable, Remains}
+use Rattle.coarsen_passes.proofs.Fine.{counts-of}
+use Rattle.rule_sheet.specs.declared.Verdict.the-variants as verdicts
 
 -- ---- what the passes leave, once it is cleared behind the sheet
 

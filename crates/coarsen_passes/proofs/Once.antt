@@ -36,8 +36,8 @@ use Rattle.coarsen_pass.specs.Steps.{sheetIn, bandPass}
 use Rattle.coarsen_pass.specs.Conditions.{MergePassAsks, MergePassLeaves}
 use Rattle.coarsen_pass.proofs.Pass.{passed-none}
 use Rattle.rule_coarsen.specs.Rule.{coarseSheet}
-use Rattle.coarsen.specs.Passes.{Coarsenable, Remains}
-use Rattle.coarsen.proofs.Accepted.{fine-by}
+use Rattle.coarsen_passes.specs.Passes.{Coarsenable, Remains}
+use Rattle.coarsen_passes.proofs.Fine.{fine-by}
 
 -- slices that begin with a sheet hold it
 begins-sheet : {s : Sheet} {d : Counts} {P : List Float} {Q labels : List ℕ} → Begins s d P Q labels → sheetOf d P Q labels ≡ s

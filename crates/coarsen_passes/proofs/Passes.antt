@@ -15,9 +15,9 @@ use Rattle.rule_coarsen.specs.Rule.{coarseSheet}
 use Rattle.sheet.proofs.Flat.{length-quads}
 use Rattle.sheet.proofs.Tests.{length-points}
 use Rattle.safety_rules.proofs.Fine.{Fine}
-use Rattle.coarsen.specs.Passes.{Coarsenable, Remains}
-use Rattle.coarsen.proofs.Accepted.{counts-of, passes-fine, passes-accepted, passes-fewer, runFrom, run-next, run-last}
-use Rattle.coarsen.proofs.Once.{fine}
+use Rattle.coarsen_passes.specs.Passes.{Coarsenable, Remains}
+use Rattle.coarsen_passes.proofs.Fine.{counts-of, passes-fine, passes-accepted, passes-fewer, runFrom, run-next, run-last}
+use Rattle.coarsen_passes.proofs.Once.{fine}
 
 -- after some passes, of which there may be k over the sheet in P₀, Q₀ and L₀: the slices hold a sheet of d, and `left` passes over it end as all do
 pub record Running (s : Setting) (k : ℕ) (c : Counts) (P₀ : List Float) (Q₀ L₀ w₀ : List ℕ) (z₀ : List Float) (d : Counts) (P : List Float) (Q L w : List ℕ) (z : List Float) (total left : ℕ) : Type 0 where

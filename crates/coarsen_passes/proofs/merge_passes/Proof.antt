@@ -1,11 +1,11 @@
--- `coarsen::merge_passes` meets its contract. Assumes nothing.
+-- `coarsen_passes::merge_passes` meets its contract. Assumes nothing.
 use Prim.Native.Nat.{_<_}
 use mathlib.Core.Path.{_∙_}
 use native.Mathlib.Omega.{arith}
 use borrow.Author.Needs.{needs}
-use Rattle.coarsen.proofs.Passes.{Running, running-start, running-end, running-next, total-fits, running-none, running-more}
-use Rattle.coarsen.proofs.merge_passes.Statement.{statement}
-use Rattle.coarsen.proofs.merge_passes.Tie as tie
+use Rattle.coarsen_passes.proofs.Passes.{Running, running-start, running-end, running-next, total-fits, running-none, running-more}
+use Rattle.coarsen_passes.proofs.merge_passes.Statement.{statement}
+use Rattle.coarsen_passes.proofs.merge_passes.Tie as tie
 
 abbrev Inv-loop : tie.InvT-loop
 Inv-loop b passes points₀ quads₀ labels₀ w₀ floats₀ len sheet₀ total₀ left₀ points quads labels w floats sheet total left = Running b passes sheet₀ points₀ quads₀ labels₀ w₀ floats₀ sheet points quads labels w floats total left

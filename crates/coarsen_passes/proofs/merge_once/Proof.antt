@@ -1,9 +1,9 @@
--- `coarsen::merge_once` meets its contract. Assumes nothing.
+-- `coarsen_passes::merge_once` meets its contract. Assumes nothing.
 use borrow.Author.Needs.{needs}
-use Rattle.coarsen.proofs.Once.{mergeable, once-none, compacting, once-some}
+use Rattle.coarsen_passes.proofs.Once.{mergeable, once-none, compacting, once-some}
 use native.Mathlib.Omega.{arith}
-use Rattle.coarsen.proofs.merge_once.Statement.{statement}
-use Rattle.coarsen.proofs.merge_once.Tie as tie
+use Rattle.coarsen_passes.proofs.merge_once.Statement.{statement}
+use Rattle.coarsen_passes.proofs.merge_once.Tie as tie
 
 merge-pass-requires : tie.Need-merge-pass-requires
 merge-pass-requires c κs = let t = c .before .before .before .before .before .before .before .before .before in (mergeable (t .pre .0), t .pre .1)
