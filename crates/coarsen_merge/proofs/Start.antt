@@ -8,8 +8,7 @@ use lib.Dec.{leb}
 use lib.ListN.{length, getD}
 use borrow.Rule.Slice.PartMut.{midOf}
 use Rattle.lists.specs.Every.{every}
-use Rattle.lists.specs.Sort.{tabulate}
-use Rattle.lists.specs.Regions.{Kept}
+use Rattle.lists.specs.Regions.{Kept, part}
 use Rattle.lists.proofs.Laws.{getD-tab, length-tab, bucket-le}
 use Rattle.lists.proofs.Order.{each-bucket, below-tab}
 use Rattle.lists.proofs.Regions.{part-of, part-len, part-get, part-kept}
@@ -23,10 +22,10 @@ use Rattle.pass_map.proofs.Maps.{map-kept, was-kept}
 use Rattle.rule_coarsen.specs.Coarse.{nearFree}
 use Rattle.coarsen_merge.specs.declared.Span.{Span}
 use Rattle.coarsen_merge.specs.declared.Sums.{Sums}
-use Rattle.coarsen_merge.specs.Steps.{masksJoined, notFurther, sharesAt, sharesNone, freeAround, noneFurther, sharedOnly, usedOf, noLabels, meetOnly, gainOf, worthIt, renamedAt, renamedQuads}
-use Rattle.coarsen_merge.specs.Conditions.{ListAsks, StartHolds, CornersOfLeaves, FaceAsks, RenameAsks}
+use Rattle.coarsen_merge.specs.Steps.{masksJoined, notFurther, sharesAt, sharesNone, freeAround, noneFurther, sharedOnly, usedOf, noLabels, meetOnly, gainOf, worthIt}
+use Rattle.coarsen_merge.specs.Conditions.{ListAsks, StartHolds, CornersOfLeaves, FaceAsks}
 use Rattle.pass_map.specs.Regions.{wasAt, pointStartsAt, pointsAt, valencesAt, wasIn, startIn}
-use Rattle.coarsen_merge.specs.Regions.{usedAt, removedAt, usedIn, Steady}
+use Rattle.coarsen_merge.specs.Regions.{usedAt, removedAt, usedIn, Steady, touchedAt}
 use Rattle.coarsen_merge.proofs.Around.{further-is, further-turned, free-is, share-is, share-turned}
 
 -- ---- the corners of a point
@@ -195,15 +194,19 @@ start-kept G K = record {
   valences = rw (was-steady G K) (part-kept (G .valences) K (λ i p q. omega arith));
 }
 
--- ---- the corners of a point in a slice of quads
-pub nameable-lent : {np nq x : ℕ} {s : Span} {w : List ℕ} (n : ℕ) → StartHolds np nq w → CornersOfLeaves np nq x s w → 4 * nq ≤ n → RenameAsks (midOf (s .from) (s .to - s .from) w) n
-nameable-lent {np} {nq} {x} {s} {w} n G S h = rw (S .list) (record { known = λ i l. let k = corners-listed x G .known i l in omega arith })
-
-pub renamed-lent : {np nq x : ℕ} {s : Span} {w : List ℕ} (a : ℕ) (Q R : List ℕ) → CornersOfLeaves np nq x s w
-    → R ≡ tabulate (renamedAt (midOf (s .from) (s .to - s .from) w) Q a (length (midOf (s .from) (s .to - s .from) w))) (length Q) → R ≡ renamedQuads (wasIn np nq w) nq x a Q
-unfolding renamedQuads
-renamed-lent {np} {nq} {x} {s} {w} a Q R S h = rw (S .list) at h
-
 -- where the mark of quad f stands
 pub removed-in : {np nq : ℕ} {P : ℕ → Type 0} {v w : List ℕ} (f : ℕ) → StartHolds np nq v → Kept P v w → f < nq → removedAt np nq + f < length w
 removed-in f G K h = omega (arith, G .map .work .long, K .len)
+
+-- ---- the marks
+
+-- what is read for the point v
+pub record Read (at np v : ℕ) (w : List ℕ) : Type 0 where
+  pub in-w : at + v < length w
+  pub is : getD w (at + v) 0 ≡ getD (part at np w) v 0
+
+pub read-at : {at np : ℕ} {w : List ℕ} (v : ℕ) → at + np ≤ length w → v < np → Read at np v w
+read-at {at} {np} {w} v f h = record { in-w = omega arith; is = part-get 0 v (part-of at np w f) h }
+
+pub touch-read : {np nq : ℕ} {w : List ℕ} (v : ℕ) → StartHolds np nq w → v < np → Read (touchedAt np nq) np v w
+touch-read v G h = let r = G .map .work .long in read-at v (omega arith) h

@@ -1,12 +1,12 @@
--- The merge as the code makes it: masks as numbers, loops over the corners of a point, the tests of a tried diagonal,
--- the marks of the points near a merge, and the new name of a point in the quads around it.
+-- The tests of a tried diagonal as the code makes them: masks as numbers, loops over the corners of a point, and the state
+-- of a pass.
 use Prim.Native.Nat.{ℕ, _+_, _-_, _/_, _%_}
-use mathlib.Core.Bool.{Bool, cond, not, _&&_, _||_}
+use mathlib.Core.Bool.{Bool, not, _&&_, _||_}
 use mathlib.Core.List.{List, []}
 use lib.Dec.{eqb, leb}
 use lib.Ieee.{Float}
 use lib.ListN.{length, getD}
-use Rattle.lists.specs.Every.{every, some}
+use Rattle.lists.specs.Every.{every}
 use Rattle.lists.specs.Sort.{tabulate}
 use Rattle.rule_sheet.specs.Flat.{corner, quadAt, quadsOf}
 use Rattle.rule_sheet.specs.Quads.{Quad, isEdge, valence}
@@ -139,45 +139,3 @@ unfoldable pub allowedIn : ℕ → ℕ → ℕ → ℕ → ℕ → ℕ → ℕ �
 allowedIn np nq f a b c d w =
     worthIt np nq a b c d w
     && (meetOnly np nq f a b c d w && nearFree np (startIn np nq w) noLabels (usedOf np (usedIn np nq w)) a c)
-
--- ---- what a merge writes
-
--- element i of a list is v
-abbrev pub isAt : List ℕ → ℕ → ℕ → Bool
-isAt xs v i = eqb (getD xs i 0) v
-
--- the mark of point v: 1 where one of the first m elements of a list is v, else what it was
-abbrev pub markedBy : List ℕ → List ℕ → ℕ → ℕ → ℕ
-markedBy xs U m v = cond (some (isAt xs v) m) 1 (getD U v 0)
-
--- 1 where quad q has the corner v, else what it was
-abbrev pub markedIn : List ℕ → List ℕ → ℕ → ℕ → ℕ
-markedIn Q U q v = cond (hasCorner (quadAt Q q) v) 1 (getD U v 0)
-
--- the quad of corner t of a list has the corner v
-abbrev pub reaches : List ℕ → List ℕ → ℕ → ℕ → Bool
-reaches cs Q v t = hasCorner (quadAt Q (getD cs t 0 / 4)) v
-
--- the mark of point v once the quads of the first m corners of a list are marked
-abbrev pub markedTo : List ℕ → List ℕ → List ℕ → ℕ → ℕ → ℕ
-markedTo cs Q U m v = cond (some (reaches cs Q v) m) 1 (getD U v 0)
-
--- quad q has the corners x and v
-abbrev pub joins : List ℕ → ℕ → ℕ → ℕ → Bool
-joins Q x v q = hasCorner (quadAt Q q) x && hasCorner (quadAt Q q) v
-
--- the mark of point v: 1 where one of n quads has x and v
-abbrev pub markedNear : List ℕ → List ℕ → ℕ → ℕ → ℕ → ℕ
-markedNear Q U n x v = cond (some (joins Q x v) n) 1 (getD U v 0)
-
--- the point at corner i: a where it is one of the first m of a list, else what it was
-abbrev pub renamedAt : List ℕ → List ℕ → ℕ → ℕ → ℕ → ℕ
-renamedAt cs Q a m i = cond (some (isAt cs i) m) a (getD Q i 0)
-
--- the quads R with a at the corners where Q, of n quads, has c
-unfoldable pub renamedQuads : List ℕ → ℕ → ℕ → ℕ → List ℕ → List ℕ
-renamedQuads Q n c a R = tabulate (renamedAt (pointCorners Q n c) R a (length (pointCorners Q n c))) (length R)
-
--- the marks of the points near a and c
-abbrev pub markedBoth : List ℕ → List ℕ → ℕ → ℕ → ℕ → ℕ → List ℕ
-markedBoth Q U np nq a c = tabulate (markedNear Q (tabulate (markedNear Q U nq a) np) nq c) np

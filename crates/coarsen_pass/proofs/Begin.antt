@@ -23,7 +23,7 @@ use Rattle.pass_map.proofs.Maps.{work-kept, start-is}
 use Rattle.coarsen_merge.specs.Regions.{usedAt, removedAt, touchedAt}
 use Rattle.coarsen_merge.specs.Conditions.{StartHolds}
 use Rattle.coarsen_merge.proofs.Start.{start-kept}
-use Rattle.coarsen_merge.proofs.Bars.{touched-fresh}
+use Rattle.coarsen_bars.proofs.Bars.{touched-fresh}
 use Rattle.coarsen_pass.specs.Conditions.{ClearMarksLeaves, PrepareAsks, PrepareLeaves}
 
 -- ---- masks

@@ -36,15 +36,17 @@ use Rattle.rule_coarsen.specs.Coarse.{MergeState, mergedState, tryFace}
 use Rattle.rule_coarsen.specs.Invariants.{MInv, Used, slotAt, slotsOf}
 use Rattle.rule_coarsen.proofs.Visits.{face-step}
 use Rattle.rule_coarsen.specs.MergeFits.{mergeFits, mergePosition}
-use Rattle.coarsen_merge.specs.Steps.{unmarked, quadFree, usedOf, stateOf, isAt, renamedAt, renamedQuads}
+use Rattle.coarsen_merge.specs.Steps.{unmarked, quadFree, usedOf, stateOf}
+use Rattle.coarsen_bars.specs.Steps.{isAt, renamedAt, renamedQuads}
 use borrow.Rule.Slice.PartMut.{midOf}
 use Rattle.coarsen_merge.specs.Regions.{usedAt, removedAt, touchedAt, endedAt, usedIn, removedIn, Steady}
 use Rattle.pass_map.specs.Regions.{wasIn, startIn}
-use Rattle.coarsen_merge.specs.Conditions.{StartHolds, MergeAsks, MergeLeaves}
+use Rattle.coarsen_merge.specs.Conditions.{StartHolds}
+use Rattle.coarsen_bars.specs.Conditions.{MergeAsks, MergeLeaves}
 use Rattle.coarsen_merge.proofs.Around.{quad-get, free-corner}
-use Rattle.coarsen_merge.proofs.Bars.{touched-as}
+use Rattle.coarsen_bars.proofs.Bars.{touched-as}
 use Rattle.coarsen_merge.proofs.Start.{lent-used, was-steady, start-kept}
-use Rattle.coarsen_merge.proofs.States.{stands, state-merged}
+use Rattle.coarsen_bars.proofs.States.{stands, state-merged}
 use Rattle.rule_coarsen.proofs.Slots.{slot-get}
 use Rattle.coarsen_search.specs.declared.Candidate.{Candidate}
 use Rattle.coarsen_search.specs.declared.Choice.{Choice}

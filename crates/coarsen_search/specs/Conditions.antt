@@ -15,7 +15,8 @@ use Rattle.rule_coarsen.specs.Invariants.{MInv, Used, slotsOf}
 use Rattle.pass_map.specs.Regions.{pointsAt, startIn}
 use Rattle.coarsen_merge.specs.Regions.{usedIn, removedIn, Steady}
 use Rattle.coarsen_merge.specs.Steps.{usedOf}
-use Rattle.coarsen_merge.specs.Conditions.{StartHolds, TouchedHolds, Masked, FaceAsks, MergeAsks, MergeLeaves}
+use Rattle.coarsen_merge.specs.Conditions.{StartHolds, TouchedHolds, Masked, FaceAsks}
+use Rattle.coarsen_bars.specs.Conditions.{MergeAsks, MergeLeaves}
 use Rattle.coarsen_search.specs.declared.Candidate.{Candidate}
 use Rattle.coarsen_search.specs.declared.Choice.{Choice}
 use Rattle.coarsen_search.specs.declared.Choice.the-variants.{None, Take}

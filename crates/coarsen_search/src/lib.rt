@@ -343,7 +343,7 @@ fn take(
     match choice {
         Choice::None => 0,
         Choice::Take(m) => {
-            coarsen_merge::merge(np, nq, f, m.a, m.c, m.to, points, quads, w);
+            coarsen_bars::merge(np, nq, f, m.a, m.c, m.to, points, quads, w);
             1
         }
     }

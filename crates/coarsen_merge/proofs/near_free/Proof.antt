@@ -1,6 +1,6 @@
 -- `coarsen_merge::near_free` meets its contract. Assumes nothing.
 use borrow.Author.Needs.{needs}
-use Rattle.coarsen_merge.proofs.Bars.{touch-read}
+use Rattle.coarsen_merge.proofs.Start.{touch-read}
 use Rattle.coarsen_merge.proofs.near_free.Statement.{statement}
 use Rattle.coarsen_merge.proofs.near_free.Tie as tie
 

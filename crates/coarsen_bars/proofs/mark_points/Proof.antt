@@ -1,13 +1,13 @@
--- `coarsen_merge::mark_points` meets its contract. Assumes nothing.
+-- `coarsen_bars::mark_points` meets its contract. Assumes nothing.
 use native.Mathlib.Omega.{arith}
 use borrow.Author.Needs.{needs}
 use mathlib.Core.Path.{refl}
 use Prim.Native.Nat.{_+_, _-_}
 use lib.ListN.{getD}
 use Rattle.lists.specs.Regions.{part}
-use Rattle.coarsen_merge.proofs.Marks.{Pointing, pointing-start, PointTurn, point-turn, pointing-end}
-use Rattle.coarsen_merge.proofs.mark_points.Statement.{statement}
-use Rattle.coarsen_merge.proofs.mark_points.Tie as tie
+use Rattle.coarsen_bars.proofs.Marks.{Pointing, pointing-start, PointTurn, point-turn, pointing-end}
+use Rattle.coarsen_bars.proofs.mark_points.Statement.{statement}
+use Rattle.coarsen_bars.proofs.mark_points.Tie as tie
 
 abbrev Inv-loop : tie.InvT-loop
 Inv-loop from m to np w₀ j₀ w j = Pointing (part from m w₀) (part to np w₀) from m to np w₀ w j

@@ -1,11 +1,11 @@
--- `coarsen_merge::touch_around` meets its contract. Assumes nothing.
+-- `coarsen_bars::touch_around` meets its contract. Assumes nothing.
 use native.Mathlib.Omega.{arith}
 use borrow.Author.Needs.{needs}
 use mathlib.Core.Path.{refl}
 use Prim.Native.Nat.{_-_}
-use Rattle.coarsen_merge.proofs.Bars.{TouchingAround, touching-start, touching-turn, rounding-end}
-use Rattle.coarsen_merge.proofs.touch_around.Statement.{statement}
-use Rattle.coarsen_merge.proofs.touch_around.Tie as tie
+use Rattle.coarsen_bars.proofs.Bars.{TouchingAround, touching-start, touching-turn, rounding-end}
+use Rattle.coarsen_bars.proofs.touch_around.Statement.{statement}
+use Rattle.coarsen_bars.proofs.touch_around.Tie as tie
 
 abbrev Inv-loop : tie.InvT-loop
 Inv-loop np nq x w₀ from m t₀ w t = TouchingAround np nq x from m w₀ w t

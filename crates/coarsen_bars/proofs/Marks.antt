@@ -1,7 +1,7 @@
 -- The loops that mark points and rename corners. Assumes nothing.
 use mathlib.Core.Path.{_≡_, refl, sym, ap, _∙_}
 use mathlib.Core.Bool.{Bool, true, false, cond, _&&_, or-true, or-false}
-use Prim.Native.Nat.{ℕ, _+_, _*_, _/_, _≤_, _<_, zero-le}
+use Prim.Native.Nat.{ℕ, _+_, _*_, _/_, _≤_, _<_, zero-le, _-_}
 use mathlib.Core.List.{List}
 use native.Mathlib.Omega.{arith}
 use native.Mathlib.Numerals.{add-one}
@@ -20,9 +20,14 @@ use Rattle.sheet.specs.Edges.{allCorners, pointCorners}
 use Rattle.incidence.specs.Marks.{hits}
 use Rattle.incidence.proofs.Marks.{hits-uses}
 use Rattle.rule_coarsen.specs.Coarse.{hasCorner}
-use Rattle.coarsen_merge.specs.Steps.{isAt, markedBy, markedIn, reaches, markedTo, markedNear, renamedAt}
-use Rattle.coarsen_merge.specs.Conditions.{MarkPointsAsks, RenameAsks}
+use Rattle.coarsen_bars.specs.Steps.{isAt, markedBy, markedIn, reaches, markedTo, markedNear, renamedAt, renamedQuads}
+use Rattle.coarsen_bars.specs.Conditions.{MarkPointsAsks, RenameAsks}
 use Rattle.coarsen_merge.proofs.Corners.{has-one}
+use borrow.Rule.Slice.PartMut.{midOf}
+use Rattle.coarsen_merge.specs.declared.Span.{Span}
+use Rattle.coarsen_merge.specs.Conditions.{StartHolds, CornersOfLeaves}
+use Rattle.pass_map.specs.Regions.{wasIn}
+use Rattle.coarsen_merge.proofs.Start.{corners-listed}
 
 -- ---- one element more
 
@@ -175,3 +180,12 @@ name-turn {cs} {Q} {R} {a} {t} c N h e =
 
 pub naming-end : {cs Q R : List ℕ} {a t : ℕ} → Naming cs Q a R t → length cs ≤ t → R ≡ tabulate (renamedAt cs Q a (length cs)) (length Q)
 naming-end {cs} {Q} {R} {a} {t} N h = let e : t ≡ length cs = omega (arith, N .t≤) in rw e at (N .is)
+
+-- ---- the corners of a point in a slice of quads
+pub nameable-lent : {np nq x : ℕ} {s : Span} {w : List ℕ} (n : ℕ) → StartHolds np nq w → CornersOfLeaves np nq x s w → 4 * nq ≤ n → RenameAsks (midOf (s .from) (s .to - s .from) w) n
+nameable-lent {np} {nq} {x} {s} {w} n G S h = rw (S .list) (record { known = λ i l. let k = corners-listed x G .known i l in omega arith })
+
+pub renamed-lent : {np nq x : ℕ} {s : Span} {w : List ℕ} (a : ℕ) (Q R : List ℕ) → CornersOfLeaves np nq x s w
+    → R ≡ tabulate (renamedAt (midOf (s .from) (s .to - s .from) w) Q a (length (midOf (s .from) (s .to - s .from) w))) (length Q) → R ≡ renamedQuads (wasIn np nq w) nq x a Q
+unfolding renamedQuads
+renamed-lent {np} {nq} {x} {s} {w} a Q R S h = rw (S .list) at h

@@ -1,11 +1,11 @@
--- `coarsen_merge::bar_quad` meets its contract. Assumes nothing.
+-- `coarsen_bars::bar_quad` meets its contract. Assumes nothing.
 use native.Mathlib.Omega.{arith}
 use borrow.Author.Needs.{needs}
 use mathlib.Core.Path.{refl}
 use Prim.Native.Nat.{_-_}
-use Rattle.coarsen_merge.proofs.Bars.{Barring, barring-start, bar-turn, barring-end}
-use Rattle.coarsen_merge.proofs.bar_quad.Statement.{statement}
-use Rattle.coarsen_merge.proofs.bar_quad.Tie as tie
+use Rattle.coarsen_bars.proofs.Bars.{Barring, barring-start, bar-turn, barring-end}
+use Rattle.coarsen_bars.proofs.bar_quad.Statement.{statement}
+use Rattle.coarsen_bars.proofs.bar_quad.Tie as tie
 
 abbrev Inv-loop : tie.InvT-loop
 Inv-loop np nq q w₀ from j₀ w j = Barring np nq q w₀ w j

@@ -14,27 +14,18 @@ use Rattle.lists.proofs.Laws.{getD-tab, is-tab}
 use Rattle.lists.proofs.Regions.{part-of, part-len, part-get, part-set, part-set-out, part-as, part-kept, kept-set, kept-refl, kept-then, kept-less}
 use Rattle.rule_sheet.specs.Flat.{corner}
 use Rattle.sheet.specs.Edges.{pointCorners}
 use Rattle.coarsen_merge.specs.declared.Span.{Span}
-use Rattle.coarsen_merge.specs.Steps.{unmarked, freeAround, markedBy, markedIn, reaches, markedTo, joins, markedNear, renamedQuads, markedBoth}
+use Rattle.coarsen_merge.specs.Steps.{unmarked, freeAround}
+use Rattle.coarsen_bars.specs.Steps.{markedBy, markedIn, reaches, markedTo, joins, markedNear, renamedQuads, markedBoth}
 use Rattle.pass_map.specs.Regions.{wasAt, pointsAt, wasIn}
 use Rattle.coarsen_merge.specs.Regions.{usedAt, removedAt, touchedAt, usedIn, touchedIn, Steady}
-use Rattle.coarsen_merge.specs.Conditions.{StartHolds, TouchedHolds, CornersOfLeaves, MarkPointsAsks, BarLeaves, MergeLeaves}
-use Rattle.coarsen_merge.proofs.Marks.{pointing-start, more-points, quad-marks, near-marks, more-marks}
-use Rattle.coarsen_merge.proofs.Start.{corners-listed, used-length, was-steady, start-kept}
-use Rattle.coarsen_merge.proofs.Touches.{mark-put, free-put, free-again, free-fresh}
+use Rattle.coarsen_merge.specs.Conditions.{StartHolds, TouchedHolds, CornersOfLeaves}
+use Rattle.coarsen_bars.specs.Conditions.{MarkPointsAsks, BarLeaves, MergeLeaves}
+use Rattle.coarsen_bars.proofs.Marks.{pointing-start, more-points, quad-marks, near-marks, more-marks}
+use Rattle.coarsen_merge.proofs.Start.{corners-listed, used-length, was-steady, start-kept, Read, read-at}
+use Rattle.coarsen_bars.proofs.Touches.{mark-put, free-put, free-again, free-fresh}
 
 -- ---- the marks
-
--- what is read for the point v
-pub record Read (at np v : ℕ) (w : List ℕ) : Type 0 where
-  pub in-w : at + v < length w
-  pub is : getD w (at + v) 0 ≡ getD (part at np w) v 0
-
-pub read-at : {at np : ℕ} {w : List ℕ} (v : ℕ) → at + np ≤ length w → v < np → Read at np v w
-read-at {at} {np} {w} v f h = record { in-w = omega arith; is = part-get 0 v (part-of at np w f) h }
-
-pub touch-read : {np nq : ℕ} {w : List ℕ} (v : ℕ) → StartHolds np nq w → v < np → Read (touchedAt np nq) np v w
-touch-read v G h = let r = G .map .work .long in read-at v (omega arith) h
 
 pub used-read : {np nq : ℕ} {w : List ℕ} (v : ℕ) → StartHolds np nq w → v < np → Read (usedAt np nq) np v w
 used-read v G h = let r = G .map .work .long in read-at v (omega arith) h

@@ -1,11 +1,11 @@
--- `coarsen_merge::merge` meets its contract. Assumes nothing.
+-- `coarsen_bars::merge` meets its contract. Assumes nothing.
 use native.Mathlib.Omega.{arith}
 use borrow.Author.Needs.{needs}
 use Rattle.coarsen_merge.proofs.Start.{start-kept, removed-in}
-use Rattle.coarsen_merge.proofs.Bars.{only-points, joined-of}
+use Rattle.coarsen_bars.proofs.Bars.{only-points, joined-of}
 use Rattle.lists.proofs.Regions.{kept-then}
-use Rattle.coarsen_merge.proofs.merge.Statement.{statement}
-use Rattle.coarsen_merge.proofs.merge.Tie as tie
+use Rattle.coarsen_bars.proofs.merge.Statement.{statement}
+use Rattle.coarsen_bars.proofs.merge.Tie as tie
 
 put-point-requires : tie.Need-put-point-requires
 put-point-requires c κs = let m = c .before .before .before .before .pre .1 .0 in let a = m .a< in let p = m .points in omega arith

@@ -15,10 +15,11 @@ use Rattle.lists.proofs.Laws.{eq-or-ne}
 use Rattle.rule_sheet.specs.Flat.{corner, quadAt}
 use Rattle.sheet.specs.Edges.{pointCorners}
 use Rattle.rule_coarsen.specs.Coarse.{hasCorner}
-use Rattle.coarsen_merge.specs.Steps.{unmarked, quadFree, freeAround, joins}
+use Rattle.coarsen_merge.specs.Steps.{unmarked, quadFree, freeAround}
+use Rattle.coarsen_bars.specs.Steps.{joins}
 use Rattle.coarsen_merge.specs.Conditions.{ListAsks}
 use Rattle.coarsen_merge.proofs.Corners.{within, has-one}
 use Rattle.coarsen_merge.proofs.Around.{around-every, free-quad}
 
 -- ---- Bools
 

@@ -33,12 +33,14 @@ use Rattle.rule_coarsen.specs.Coarse.{hasCorner, near, mark, MergeState, MergeF
 use Rattle.rule_coarsen.specs.Invariants.{MInv, Used, weigh, slotAt, slotsOf}
 use Rattle.rule_coarsen.proofs.MergePass.{slot-inj}
 use Rattle.rule_coarsen.proofs.Visits.{near-of}
-use Rattle.coarsen_merge.specs.Steps.{unmarked, isMarked, usedOf, stateOf, isAt, joins, markedNear, markedBoth, renamedAt, renamedQuads}
+use Rattle.coarsen_merge.specs.Steps.{unmarked, isMarked, usedOf, stateOf}
+use Rattle.coarsen_bars.specs.Steps.{isAt, joins, markedNear, markedBoth, renamedAt, renamedQuads}
 use Rattle.rule_coarsen.proofs.Slots.{slot-get}
 use Rattle.pass_map.specs.Regions.{wasIn, startIn}
 use Rattle.coarsen_merge.specs.Regions.{usedIn, removedIn, removedAt}
-use Rattle.coarsen_merge.specs.Conditions.{StartHolds, MergeAsks, MergeLeaves}
+use Rattle.coarsen_merge.specs.Conditions.{StartHolds}
+use Rattle.coarsen_bars.specs.Conditions.{MergeAsks, MergeLeaves}
 use Rattle.coarsen_merge.proofs.Around.{quad-get, used-get, near-find}
 
 -- ---- points
 

@@ -1,12 +1,12 @@
--- `coarsen_merge::rename_corners` meets its contract. Assumes nothing.
+-- `coarsen_bars::rename_corners` meets its contract. Assumes nothing.
 use native.Mathlib.Omega.{arith}
 use borrow.Author.Needs.{needs}
 use mathlib.Core.Path.{refl}
 use Prim.Native.Nat.{_-_}
 use lib.ListN.{length, getD}
-use Rattle.coarsen_merge.proofs.Marks.{Naming, naming-start, NameTurn, name-turn, naming-end}
-use Rattle.coarsen_merge.proofs.rename_corners.Statement.{statement}
-use Rattle.coarsen_merge.proofs.rename_corners.Tie as tie
+use Rattle.coarsen_bars.proofs.Marks.{Naming, naming-start, NameTurn, name-turn, naming-end}
+use Rattle.coarsen_bars.proofs.rename_corners.Statement.{statement}
+use Rattle.coarsen_bars.proofs.rename_corners.Tie as tie
 
 abbrev Inv-loop : tie.InvT-loop
 Inv-loop cs a quads₀ t₀ quads t = Naming cs quads₀ a quads t

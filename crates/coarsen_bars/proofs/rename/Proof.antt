@@ -1,9 +1,9 @@
--- `coarsen_merge::rename` meets its contract. Assumes nothing.
+-- `coarsen_bars::rename` meets its contract. Assumes nothing.
 use native.Mathlib.Omega.{arith}
 use borrow.Author.Needs.{needs}
-use Rattle.coarsen_merge.proofs.Start.{nameable-lent, renamed-lent}
-use Rattle.coarsen_merge.proofs.rename.Statement.{statement}
-use Rattle.coarsen_merge.proofs.rename.Tie as tie
+use Rattle.coarsen_bars.proofs.Marks.{nameable-lent, renamed-lent}
+use Rattle.coarsen_bars.proofs.rename.Statement.{statement}
+use Rattle.coarsen_bars.proofs.rename.Tie as tie
 
 corners-of-requires : tie.Need-corners-of-requires
 corners-of-requires c κs = search needs

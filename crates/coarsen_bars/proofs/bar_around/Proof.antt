@@ -1,11 +1,11 @@
--- `coarsen_merge::bar_around` meets its contract. Assumes nothing.
+-- `coarsen_bars::bar_around` meets its contract. Assumes nothing.
 use native.Mathlib.Omega.{arith}
 use borrow.Author.Needs.{needs}
 use mathlib.Core.Path.{refl}
 use Prim.Native.Nat.{_-_}
-use Rattle.coarsen_merge.proofs.Bars.{BarringAround, around-start, around-turn, around-end}
-use Rattle.coarsen_merge.proofs.bar_around.Statement.{statement}
-use Rattle.coarsen_merge.proofs.bar_around.Tie as tie
+use Rattle.coarsen_bars.proofs.Bars.{BarringAround, around-start, around-turn, around-end}
+use Rattle.coarsen_bars.proofs.bar_around.Statement.{statement}
+use Rattle.coarsen_bars.proofs.bar_around.Tie as tie
 
 abbrev Inv-loop : tie.InvT-loop
 Inv-loop np nq v w₀ from m t₀ w t = BarringAround np nq v from m w₀ w t

@@ -1,11 +1,11 @@
--- `coarsen_merge::bar_point` meets its contract. Assumes nothing.
+-- `coarsen_bars::bar_point` meets its contract. Assumes nothing.
 use borrow.Author.Needs.{needs}
 use mathlib.Core.Path.{sym, ap, _∙_}
 use Prim.Native.Nat.{ℕ}
 use lib.Dec.{eqb}
-use Rattle.coarsen_merge.proofs.Bars.{used-read, grounds-barred, barred-again, barred-first}
-use Rattle.coarsen_merge.proofs.bar_point.Statement.{statement}
-use Rattle.coarsen_merge.proofs.bar_point.Tie as tie
+use Rattle.coarsen_bars.proofs.Bars.{used-read, grounds-barred, barred-again, barred-first}
+use Rattle.coarsen_bars.proofs.bar_point.Statement.{statement}
+use Rattle.coarsen_bars.proofs.bar_point.Tie as tie
 
 add-at : tie.Need-add-at
 add-at c = search needs

@@ -1,13 +1,13 @@
--- `coarsen_merge::touch_quad` meets its contract. Assumes nothing.
+-- `coarsen_bars::touch_quad` meets its contract. Assumes nothing.
 use borrow.Author.Needs.{needs}
 use Rattle.pass_map.specs.Regions.{wasIn, wasAt}
 use Rattle.coarsen_merge.specs.Regions.{touchedIn}
-use Rattle.coarsen_merge.proofs.Bars.{touch-marking, quad-listed}
-use Rattle.coarsen_merge.proofs.Marks.{quad-marks}
+use Rattle.coarsen_bars.proofs.Bars.{touch-marking, quad-listed}
+use Rattle.coarsen_bars.proofs.Marks.{quad-marks}
 use Prim.Native.Nat.{_+_, _*_}
 use Rattle.lists.specs.Regions.{part}
-use Rattle.coarsen_merge.proofs.touch_quad.Statement.{statement}
-use Rattle.coarsen_merge.proofs.touch_quad.Tie as tie
+use Rattle.coarsen_bars.proofs.touch_quad.Statement.{statement}
+use Rattle.coarsen_bars.proofs.touch_quad.Tie as tie
 
 add-n : tie.Need-add-n
 add-n c = search needs
