@@ -9,7 +9,7 @@ use Rattle.lists.specs.Every.{every}
 use Rattle.rule_sheet.specs.Quads.{Quad, num, pack, hasLabel, maskOf}
 use Rattle.sheet.proofs.Masks.{bit-pack}
 use Rattle.rule_coarsen.specs.Coarse.{masksJoin}
-use Rattle.coarsen_merge.specs.Steps.{noOpposite, partOf, masksJoined}
+use Rattle.coarsen_masks.specs.Masks.{noOpposite, partOf, masksJoined}
 
 none-set : (x u : Bool) → eqb (num x + num u) 0 ≡ not (x || u)
 none-set true true = refl

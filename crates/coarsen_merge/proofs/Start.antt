@@ -22,7 +22,8 @@ use Rattle.pass_map.proofs.Maps.{map-kept, was-kept}
 use Rattle.rule_coarsen.specs.Coarse.{nearFree}
 use Rattle.coarsen_merge.specs.declared.Span.{Span}
 use Rattle.coarsen_merge.specs.declared.Sums.{Sums}
-use Rattle.coarsen_merge.specs.Steps.{masksJoined, notFurther, sharesAt, sharesNone, freeAround, noneFurther, sharedOnly, usedOf, noLabels, meetOnly, gainOf, worthIt}
+use Rattle.coarsen_masks.specs.Masks.{masksJoined}
+use Rattle.coarsen_merge.specs.Steps.{notFurther, sharesAt, sharesNone, freeAround, noneFurther, sharedOnly, usedOf, noLabels, meetOnly, gainOf, worthIt}
 use Rattle.coarsen_merge.specs.Conditions.{ListAsks, StartHolds, CornersOfLeaves, FaceAsks}
 use Rattle.pass_map.specs.Regions.{wasAt, pointStartsAt, pointsAt, valencesAt, wasIn, startIn}
 use Rattle.coarsen_merge.specs.Regions.{usedAt, removedAt, usedIn, Steady, touchedAt}

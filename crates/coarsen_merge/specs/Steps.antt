@@ -1,6 +1,5 @@
--- The tests of a tried diagonal as the code makes them: masks as numbers, loops over the corners of a point, and the state
--- of a pass.
-use Prim.Native.Nat.{ℕ, _+_, _-_, _/_, _%_}
+-- The tests of a tried diagonal as the code makes them: loops over the corners of a point, and the state of a pass.
+use Prim.Native.Nat.{ℕ, _+_, _-_, _/_}
 use mathlib.Core.Bool.{Bool, not, _&&_, _||_}
 use mathlib.Core.List.{List, []}
 use lib.Dec.{eqb, leb}
@@ -19,27 +18,7 @@ use Rattle.rule_coarsen.specs.Invariants.{slotsOf}
 use Rattle.pass_map.specs.Regions.{startIn}
 use Rattle.coarsen_merge.specs.declared.Sums.{Sums}
 use Rattle.coarsen_merge.specs.Regions.{usedIn}
-
--- ---- masks
-
--- the masks a and c together have no opposite pair: no bit of one pair, or none of the other
-unfoldable pub noOpposite : ℕ → ℕ → Bool
-noOpposite a c =
-    (eqb (a % 2 + c % 2) 0 || eqb (a / 2 % 2 + c / 2 % 2) 0)
-    && (eqb (a / 4 % 2 + c / 4 % 2) 0 || eqb (a / 8 % 2 + c / 8 % 2) 0)
-    && (eqb (a / 16 % 2 + c / 16 % 2) 0 || eqb (a / 32 % 2 + c / 32 % 2) 0)
-    && (eqb (a / 64 % 2 + c / 64 % 2) 0 || eqb (a / 128 % 2 + c / 128 % 2) 0)
-
--- every bit of the mask a is one of c
-unfoldable pub partOf : ℕ → ℕ → Bool
-partOf a c =
-    leb (a % 2) (c % 2) && leb (a / 2 % 2) (c / 2 % 2) && leb (a / 4 % 2) (c / 4 % 2) && leb (a / 8 % 2) (c / 8 % 2)
-    && leb (a / 16 % 2) (c / 16 % 2) && leb (a / 32 % 2) (c / 32 % 2)
-    && leb (a / 64 % 2) (c / 64 % 2) && leb (a / 128 % 2) (c / 128 % 2)
-
--- "The joined mask has no opposite pair and equals one of the two."
-unfoldable pub masksJoined : ℕ → ℕ → Bool
-masksJoined a c = noOpposite a c && (partOf c a || partOf a c)
+use Rattle.coarsen_masks.specs.Masks.{masksJoined}
 
 -- ---- gain
 

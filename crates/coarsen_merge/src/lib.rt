@@ -1,7 +1,7 @@
 // The tests of a tried diagonal of a quad, whose two corners may become one point.
 
 ghost use mathlib.Core.Path.{_≡_};
-ghost use Prim.Native.Nat.{_+_, _*_, _/_, _<_, _≤_};
+ghost use Prim.Native.Nat.{_+_, _*_, _<_, _≤_};
 ghost use lib.ListN.{length};
 ghost use Rattle.lists.specs.Every.{every};
 ghost use Rattle.rule_sheet.specs.Quads.{valence};
@@ -9,9 +9,9 @@ ghost use Rattle.rule_sheet.specs.Flat.{corner, quadAt};
 ghost use Rattle.rule_sheet.specs.Squared.{sq};
 ghost use Rattle.rule_coarsen.specs.Coarse.{hasCorner};
 ghost use Rattle.incidence.specs.Corners.{Cornered};
-ghost use Rattle.coarsen_merge.specs.Steps.{noOpposite, partOf, masksJoined, sumOfFour, sumOfThree, unmarked};
-ghost use Rattle.coarsen_merge.specs.Steps.{quadFree, notFurther, apartFrom, sharesAt, sharesNone, freeAround};
-ghost use Rattle.coarsen_merge.specs.Steps.{noneFurther, sharedOnly, meetOnly, gainOf, worthIt, allowedIn};
+ghost use Rattle.coarsen_merge.specs.Steps.{sumOfFour, sumOfThree, unmarked, quadFree, notFurther, apartFrom};
+ghost use Rattle.coarsen_merge.specs.Steps.{sharesAt, sharesNone, freeAround, noneFurther, sharedOnly, meetOnly};
+ghost use Rattle.coarsen_merge.specs.Steps.{gainOf, worthIt, allowedIn};
 ghost use Rattle.coarsen_merge.specs.Conditions.{ListAsks, StartHolds, TouchedHolds, CornersOfLeaves, FaceAsks};
 ghost use Rattle.coarsen_merge.specs.Regions.{usedIn};
 ghost use Rattle.pass_map.specs.Regions.{wasIn, startIn};
@@ -37,39 +37,6 @@ pub struct Span {
 pub struct Sums {
     pub before: usize,
     pub after: usize,
-}
-
-// ---- masks
-
-// Two masks together have no opposite pair.
-fn no_opposite(a: u32, c: u32) -> bool
-    ensures { λ r. ⌜ r ≡ noOpposite a c ⌝ }
-{
-    ((a % 2 + c % 2 == 0) | (a / 2 % 2 + c / 2 % 2 == 0))
-        & ((a / 4 % 2 + c / 4 % 2 == 0) | (a / 8 % 2 + c / 8 % 2 == 0))
-        & ((a / 16 % 2 + c / 16 % 2 == 0) | (a / 32 % 2 + c / 32 % 2 == 0))
-        & ((a / 64 % 2 + c / 64 % 2 == 0) | (a / 128 % 2 + c / 128 % 2 == 0))
-}
-
-// Every bit of one mask is one of the other.
-fn part_of(a: u32, c: u32) -> bool
-    ensures { λ r. ⌜ r ≡ partOf a c ⌝ }
-{
-    (a % 2 <= c % 2)
-        & (a / 2 % 2 <= c / 2 % 2)
-        & (a / 4 % 2 <= c / 4 % 2)
-        & (a / 8 % 2 <= c / 8 % 2)
-        & (a / 16 % 2 <= c / 16 % 2)
-        & (a / 32 % 2 <= c / 32 % 2)
-        & (a / 64 % 2 <= c / 64 % 2)
-        & (a / 128 % 2 <= c / 128 % 2)
-}
-
-// Two masks together have no opposite pair and are one of the two.
-fn masks_join(a: u32, c: u32) -> bool
-    ensures { λ r. ⌜ r ≡ masksJoined a c ⌝ }
-{
-    no_opposite(a, c) & (part_of(c, a) | part_of(a, c))
 }
 
 // ---- gain
@@ -317,7 +284,7 @@ fn worth(np: usize, nq: usize, a: usize, b: usize, c: usize, d: usize, w: &[u32]
     let vb = valence_at(np, nq, b, w);
     let vd = valence_at(np, nq, d, w);
     let s = sums_of(np, nq, a, b, c, d, w);
-    masks_join(w[a], w[c]) & (4 <= vb) & (4 <= vd) & (s.after <= s.before)
+    coarsen_masks::masks_join(w[a], w[c]) & (4 <= vb) & (4 <= vd) & (s.after <= s.before)
 }
 
 // Whether the rule allows the merge of the corners a and c of quad f = (a, b, c, d), as far as it does not read the

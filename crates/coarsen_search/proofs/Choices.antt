@@ -18,8 +18,9 @@ use Rattle.projection.specs.declared.Projected.{Projected}
 use Rattle.projection.specs.declared.Projected.the-variants.{Onto, Refused}
 use Rattle.rule_sheet.specs.Quads.{valence}
 use Rattle.rule_coarsen.specs.Coarse.{sumBefore, sumAfter}
+use Rattle.coarsen_masks.specs.Masks.{masksJoined}
 use Rattle.coarsen_merge.specs.Conditions.{StartHolds}
-use Rattle.coarsen_merge.specs.Steps.{masksJoined, noLabels, gainOf, worthIt, allowedIn}
+use Rattle.coarsen_merge.specs.Steps.{noLabels, gainOf, worthIt, allowedIn}
 use Rattle.pass_map.specs.Regions.{startIn}
 use Rattle.coarsen_search.specs.declared.Diagonal.{Diagonal}
 use Rattle.coarsen_search.specs.declared.Choice.{Choice}

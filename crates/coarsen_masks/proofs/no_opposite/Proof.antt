@@ -1,8 +1,8 @@
--- `coarsen_merge::no_opposite` meets its contract. Assumes nothing.
+-- `coarsen_masks::no_opposite` meets its contract. Assumes nothing.
 use borrow.Author.Needs.{needs}
-use Rattle.coarsen_merge.specs.Steps.{noOpposite}
-use Rattle.coarsen_merge.proofs.no_opposite.Statement.{statement}
-use Rattle.coarsen_merge.proofs.no_opposite.Tie as tie
+use Rattle.coarsen_masks.specs.Masks.{noOpposite}
+use Rattle.coarsen_masks.proofs.no_opposite.Statement.{statement}
+use Rattle.coarsen_masks.proofs.no_opposite.Tie as tie
 
 add-result : tie.Need-add-result
 add-result c = search needs

@@ -1,8 +1,8 @@
--- `coarsen_merge::masks_join` meets its contract. Assumes nothing.
+-- `coarsen_masks::masks_join` meets its contract. Assumes nothing.
 use borrow.Author.Needs.{needs}
-use Rattle.coarsen_merge.specs.Steps.{masksJoined}
-use Rattle.coarsen_merge.proofs.masks_join.Statement.{statement}
-use Rattle.coarsen_merge.proofs.masks_join.Tie as tie
+use Rattle.coarsen_masks.specs.Masks.{masksJoined}
+use Rattle.coarsen_masks.proofs.masks_join.Statement.{statement}
+use Rattle.coarsen_masks.proofs.masks_join.Tie as tie
 
 no-opposite-requires : tie.Need-no-opposite-requires
 no-opposite-requires c κs = search needs
