@@ -23,7 +23,7 @@ use Rattle.rule_coarsen.specs.Rule.{coarseSheet}
 use Rattle.sheet.specs.Sheet.{Few, LentSheet}
 use Rattle.sheet.proofs.Flat.{length-quads}
 use Rattle.sheet.proofs.Tests.{length-points, tested, tests-accept}
-use Rattle.pass_shapes.proofs.MergeFits.{merge-finite}
+use Rattle.coarsen_shapes.proofs.MergeFits.{merge-finite}
 use Rattle.safety_rules.proofs.Fine.{Fine, fine-of, accepted-of}
 use Rattle.safety_rules.proofs.Demand.{coarse-fine, coarse-fewer}
 

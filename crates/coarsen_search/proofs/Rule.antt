@@ -27,7 +27,7 @@ use Rattle.rule_coarsen.specs.Merges.{Slot, slot}
 use Rattle.rule_coarsen.specs.Coarse.{MergeState, masksJoin, shareOnly, noFurther, nearFree, sumBefore, sumAfter, mergeGain, mayMerge, mergedState, tryFace}
 use Rattle.rule_coarsen.specs.MergeFits.{movedTo, mergeFits, mergePosition}
 use Rattle.rule_coarsen.proofs.Gains.{gain-enough, gain-higher}
-use Rattle.pass_shapes.proofs.MergeFits.{merge-refused, merge-onto, position-onto, moved-to, joined-max}
+use Rattle.coarsen_shapes.proofs.MergeFits.{merge-refused, merge-onto, position-onto, moved-to, joined-max}
 use Rattle.coarsen_masks.specs.Masks.{masksJoined}
 use Rattle.coarsen_merge.specs.Steps.{unmarked, quadFree, usedOf, noLabels, meetOnly, gainOf, worthIt, allowedIn}
 use Rattle.pass_map.specs.Regions.{wasIn, startIn}

@@ -20,7 +20,7 @@ use Rattle.rule_coarsen.specs.Merges.{out}
 use Rattle.rule_coarsen.specs.Coarse.{MergeState, MergeFits, Position, tryFace, visit}
 use Rattle.rule_passes.specs.Choices.{takeOr}
 use Rattle.rule_coarsen.specs.MergeFits.{mergeAt, mergeFits, mergePosition}
-use Rattle.pass_shapes.specs.MergeFits.{staysAt}
+use Rattle.coarsen_shapes.specs.MergeFits.{staysAt}
 use Rattle.pass_map.specs.Regions.{wasIn, startIn}
 use Rattle.coarsen_merge.specs.Regions.{usedIn, removedIn}
 use Rattle.coarsen_merge.specs.Steps.{unmarked, quadFree, stateOf, allowedIn, gainOf}

@@ -1,8 +1,8 @@
 // The search for the merge in a quad: its two diagonals are tried, and the one that gains more is taken.
 
 use band::Band;
+use coarsen_shapes::Stay;
 use field::Field;
-use pass_shapes::Stay;
 use points::Point;
 use projection::Projected;
 use rule_coarsen::Merge;
@@ -110,7 +110,7 @@ fn landing(np: usize, g: Diagonal, b: Band, len: f64, points: &[f64], w: &[u32])
     ensures { λ r. ⌜ r ≡ landingOf g b len (now (points .entry)) (now (w .entry)) ⌝ }
 {
     let mask = joined(lists::at(w, g.a), lists::at(w, g.c));
-    pass_shapes::new_position(np, b, len, points, g.a, g.c, mask)
+    coarsen_shapes::new_position(np, b, len, points, g.a, g.c, mask)
 }
 
 // Of what was found and a new candidate the one that gains more, the first on a tie.
@@ -165,7 +165,7 @@ fn stay_around(
     let n = np + nq;
     let m = merge_of(g, p);
     let place = lists::at(w, coarsen_merge::ENDED * n + v);
-    pass_shapes::quads_stay(
+    coarsen_shapes::quads_stay(
         np,
         nq,
         f,

@@ -1,3 +1,1 @@
 pub mod Shaped
-pub mod SwapFits
-pub mod MergeFits

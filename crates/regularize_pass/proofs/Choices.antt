@@ -17,11 +17,11 @@ use Rattle.rule_sheet.specs.Quads.{Quad, valence}
 use Rattle.rule_sheet.specs.Flat.{quadAt, quadsOf}
 use Rattle.rule_regularize.specs.Swaps.{swapGain, may}
 use Rattle.rule_regularize.proofs.Gains.{gain-least, gain-more, gain-higher, half-small}
-use Rattle.pass_shapes.specs.declared.Six.{Six}
+use Rattle.regularize_shapes.specs.declared.Six.{Six}
 use Rattle.rule_regularize.specs.declared.Held.{Held}
 use Rattle.rule_regularize.specs.SwapFits.{heldOf, nextFits}
-use Rattle.pass_shapes.specs.SwapFits.{hexOf, SixBelow}
-use Rattle.pass_shapes.proofs.SwapFits.{swap-fits}
+use Rattle.regularize_shapes.specs.SwapFits.{hexOf, SixBelow}
+use Rattle.regularize_shapes.proofs.SwapFits.{swap-fits}
 use Rattle.pass_map.specs.Regions.{startIn}
 use Rattle.regularize_swap.specs.Regions.{sumIn, freeIn}
 use Rattle.regularize_swap.specs.Steps.{openIn, gainsIn, betterIn, sixAt, isHexagon}

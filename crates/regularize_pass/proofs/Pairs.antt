@@ -21,9 +21,9 @@ use Rattle.rule_regularize.specs.Swaps.{Fits, State, swapOne, swapTwo, sixDiffe
 use Rattle.rule_sheet.specs.Quads.{turn}
 use Rattle.rule_passes.specs.Choices.{noneQuad, choose, takeOr}
 use Rattle.rule_sheet.proofs.Weigh.{corners-turn}
-use Rattle.pass_shapes.specs.declared.Six.{Six}
-use Rattle.pass_shapes.specs.SwapFits.{hexOf}
-use Rattle.pass_shapes.proofs.SwapFits.{quad-there}
+use Rattle.regularize_shapes.specs.declared.Six.{Six}
+use Rattle.regularize_shapes.specs.SwapFits.{hexOf}
+use Rattle.regularize_shapes.proofs.SwapFits.{quad-there}
 use Rattle.pass_map.specs.Regions.{startIn}
 use Rattle.regularize_swap.specs.Regions.{barsOf, stateOf, freeIn}
 use Rattle.regularize_swap.specs.Steps.{across, quadFrom, sixAt, sixApart, isHexagon, swapBy, meetsSix}

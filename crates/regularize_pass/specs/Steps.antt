@@ -11,10 +11,10 @@ use Rattle.rule_sheet.specs.Flat.{quadsOf}
 use Rattle.rule_sheet.specs.Sheet.{pointsOf}
 use Rattle.rule_regularize.specs.Swaps.{Hex, Fits, State, gainIn, may, swapPass}
 use Rattle.rule_passes.specs.Choices.{choose, takeOr}
-use Rattle.pass_shapes.specs.declared.Six.{Six}
+use Rattle.regularize_shapes.specs.declared.Six.{Six}
 use Rattle.rule_regularize.specs.declared.Held.{Held}
 use Rattle.rule_regularize.specs.SwapFits.{nextFits, fitsWith}
-use Rattle.pass_shapes.specs.SwapFits.{hexOf}
+use Rattle.regularize_shapes.specs.SwapFits.{hexOf}
 use Rattle.pass_map.specs.Regions.{wasIn, startIn, edgesIn}
 use Rattle.regularize_swap.specs.Regions.{freeIn}
 use Rattle.regularize_swap.specs.Steps.{tryPair, stepAt, sixAt, isHexagon, gainsIn, betterIn}

@@ -1,13 +1,13 @@
 // One pass of swaps: each edge of two quads is tried once, in the order of the edges of the pass's start.
 
 use field::Field;
-use pass_shapes::Six;
+use regularize_shapes::Six;
 use rule_regularize::Held;
 ghost use mathlib.Core.Path.{_≡_};
 ghost use Prim.Native.Nat.{_+_, _*_, _/_, _<_, _≤_, _^_};
 ghost use lib.ListN.{length, take};
 ghost use Rattle.rule_sheet.specs.Flat.{quadsOf};
-ghost use Rattle.pass_shapes.specs.SwapFits.{SixBelow, hexOf};
+ghost use Rattle.regularize_shapes.specs.SwapFits.{SixBelow, hexOf};
 ghost use Rattle.pass_map.specs.Regions.{startIn};
 ghost use Rattle.pass_map.specs.Conditions.{WorkFits};
 ghost use Rattle.regularize_swap.specs.Conditions.{BeginPassLeaves};
@@ -40,7 +40,7 @@ fn may_take(
     if !free {
         return false;
     }
-    pass_shapes::next_fits(
+    regularize_shapes::next_fits(
         np,
         points,
         h,
@@ -113,7 +113,7 @@ fn choice(
         return 0;
     }
     let f = t.field;
-    let held = pass_shapes::hold(np, nq, f, t.length, points, quads, i, j, h, labels[i]);
+    let held = regularize_shapes::hold(np, nq, f, t.length, points, quads, i, j, h, labels[i]);
     best(np, nq, points, h, held, first, second, w)
 }
 

@@ -18,7 +18,7 @@ use Rattle.incidence.specs.Marks.{Incident}
 use Rattle.sheet.proofs.Flat.{length-quads}
 use Rattle.rule_regularize.specs.Swaps.{barList}
 use Rattle.rule_passes.specs.Choices.{noneQuad}
-use Rattle.pass_shapes.proofs.SwapFits.{quad-there}
+use Rattle.regularize_shapes.proofs.SwapFits.{quad-there}
 use Rattle.rule_regularize.proofs.Sweep.{bar-length}
 use Rattle.pass_map.specs.Regions.{pointStartsAt, pointsAt, wasIn, startIn}
 use Rattle.regularize_swap.specs.Regions.{marksIn, marksAt, isBarred, barsOf}

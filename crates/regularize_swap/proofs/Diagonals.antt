@@ -10,8 +10,8 @@ use borrow.Author.Tests.{le-leb, lt-leb}
 use Rattle.lists.proofs.Regions.{part-get, part-of, part-len}
 use Rattle.rule_sheet.specs.Quads.{isEdge}
 use Rattle.edges.proofs.Walk.{walked-of}
-use Rattle.pass_shapes.specs.declared.Six.{Six}
-use Rattle.pass_shapes.specs.SwapFits.{SixBelow}
+use Rattle.regularize_shapes.specs.declared.Six.{Six}
+use Rattle.regularize_shapes.specs.SwapFits.{SixBelow}
 use Rattle.pass_map.specs.Regions.{wasAt, edgesAt, wasIn, startIn}
 use Rattle.pass_map.specs.Conditions.{MapHolds}
 use Rattle.regularize_swap.specs.Regions.{sumIn, edgeCorner}

@@ -9,7 +9,7 @@ use lib.ListN.{getD}
 use borrow.Author.Tests.{ne-eqb}
 use Rattle.rule_sheet.specs.Quads.{quad, num}
 use Rattle.sheet.specs.Flat.{from, to, before, withQuad}
-use Rattle.pass_shapes.specs.declared.Six.{Six}
+use Rattle.regularize_shapes.specs.declared.Six.{Six}
 use Rattle.regularize_swap.specs.Steps.{across, sixAt, sixApart, isHexagon, withPair}
 use Rattle.regularize_swap.specs.Regions.{marksAt, isBarred}
 

@@ -24,9 +24,9 @@ use Rattle.rule_regularize.proofs.Surgery.{Exchange, at-a, at-b, at-c, at-d, at
 use Rattle.rule_regularize.proofs.Swap.{exchange-one, exchange-two}
 use Rattle.rule_regularize.proofs.SwapPass.{two-quads}
 use Rattle.rule_regularize.proofs.Sweep.{six-of}
-use Rattle.pass_shapes.specs.declared.Six as six
-use Rattle.pass_shapes.specs.SwapFits.{SixBelow}
-use Rattle.pass_shapes.proofs.SwapFits.{quad-there}
+use Rattle.regularize_shapes.specs.declared.Six as six
+use Rattle.regularize_shapes.specs.SwapFits.{SixBelow}
+use Rattle.regularize_shapes.proofs.SwapFits.{quad-there}
 use Rattle.pass_map.specs.Regions.{valencesAt, wasIn}
 use Rattle.regularize_swap.specs.Regions.{marksIn, marksAt, isBarred, barsOf}
 use Rattle.pass_map.specs.Conditions.{MapHolds}

@@ -11,8 +11,8 @@ use Rattle.rule_sheet.specs.Quads.{quad, corners, valence}
 use Rattle.rule_sheet.specs.Flat.{quadAt, quadsOf}
 use Rattle.incidence.specs.Corners.{Cornered}
 use Rattle.rule_regularize.specs.Swaps.{barList}
-use Rattle.pass_shapes.specs.declared.Six.{Six}
-use Rattle.pass_shapes.specs.SwapFits.{SixBelow}
+use Rattle.regularize_shapes.specs.declared.Six.{Six}
+use Rattle.regularize_shapes.specs.SwapFits.{SixBelow}
 use Rattle.pass_map.specs.Regions.{valencesAt, startIn}
 use Rattle.pass_map.specs.Conditions.{MapHolds}
 use Rattle.regularize_swap.specs.Regions.{barsOf}

@@ -11,7 +11,7 @@ use Rattle.sheet.specs.Flat.{from, to, before, withQuad}
 use Rattle.edges.specs.Steps.{pairAt}
 use Rattle.rule_regularize.specs.Swaps.{Place, State, Fits, tryPlaces, sixDiffer, swapOne, swapTwo, meets}
 use Rattle.rule_passes.specs.Choices.{takeOr}
-use Rattle.pass_shapes.specs.declared.Six.{Six}
+use Rattle.regularize_shapes.specs.declared.Six.{Six}
 use Rattle.pass_map.specs.Regions.{startIn}
 use Rattle.regularize_swap.specs.Regions.{sumIn}
 

@@ -1,7 +1,7 @@
 // What a swap reads and writes: the quads, and in regions of one work slice the map of the pass's start, the valences
 // and the barred quads.
 
-use pass_shapes::Six;
+use regularize_shapes::Six;
 ghost use mathlib.Core.Path.{_≡_};
 ghost use Prim.Native.Nat.{_+_, _*_, _/_, _%_, _<_, _≤_, _^_};
 ghost use lib.ListN.{length, getD};
@@ -11,7 +11,7 @@ ghost use Rattle.lists.specs.Regions.{part, Part, Out, Kept};
 ghost use Rattle.incidence.specs.Corners.{Known};
 ghost use Rattle.incidence.specs.Marks.{barredBy};
 ghost use Rattle.edges.specs.Steps.{pairAt};
-ghost use Rattle.pass_shapes.specs.SwapFits.{SixBelow};
+ghost use Rattle.regularize_shapes.specs.SwapFits.{SixBelow};
 ghost use Rattle.pass_map.specs.Regions.{wasIn, edgesIn};
 ghost use Rattle.pass_map.specs.Conditions.{WorkFits, MapAsks, MapHolds};
 ghost use Rattle.regularize_swap.specs.Regions.{marksAt, marksIn, freeIn, sumIn, edgeCorner};

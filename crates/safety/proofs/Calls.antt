@@ -40,7 +40,7 @@ use Rattle.rule_regularize.specs.SwapFits.{swapFits}
 use Rattle.rule_regularize.specs.Rule.{swapSheet, swapRule}
 use Rattle.rule_coarsen.specs.MergeFits.{mergeFits, mergePosition}
 use Rattle.rule_coarsen.specs.Rule.{coarseSheet, coarsenVerdict, coarsenRule}
-use Rattle.pass_shapes.proofs.MergeFits.{merge-finite}
+use Rattle.coarsen_shapes.proofs.MergeFits.{merge-finite}
 use Rattle.safety_rules.specs.Commands as commands
 use Rattle.safety_rules.proofs.Fine.{accepted-of}
 use Rattle.safety_rules.proofs.Demand.{Good, Keeps, keeps-same, keeps-trans, swaps-kept, coarse-kept, regularize-done, regularize-again}

@@ -1,7 +1,7 @@
 -- `regularize_pass::choice_at` meets its contract. Assumes nothing.
 use native.Mathlib.Omega.{arith}
 use borrow.Author.Tests.{not-true, not-false}
-use Rattle.pass_shapes.specs.SwapFits.{SixBelow}
+use Rattle.regularize_shapes.specs.SwapFits.{SixBelow}
 use Rattle.regularize_pass.proofs.Choices.{known-corner, six-below, choice-barred, choice-bent, choice-told}
 use Rattle.regularize_pass.proofs.choice_at.Statement.{statement}
 use Rattle.regularize_pass.proofs.choice_at.Tie as tie
