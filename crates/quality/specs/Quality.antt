@@ -10,7 +10,7 @@ use Rattle.rule_sheet.specs.Tests.{proper}
 use Rattle.rule_sheet.specs.Lent.{limit}
 use Rattle.incidence.specs.Corners.{Cornered}
 use Rattle.rule_quality.specs.Census.{irregular, badLinks}
-use Rattle.quality_measures.specs.Readings.{Measurable}
+use Rattle.quality_readings.specs.Readings.{Measurable}
 use Rattle.quality.specs.declared.PointCounts.{PointCounts}
 
 -- ---- the parts

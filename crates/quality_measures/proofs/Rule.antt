@@ -20,9 +20,9 @@ use Rattle.rule_sheet.specs.Lent.{limit}
 use Rattle.rule_quality.specs.declared.Measures.{Measures}
 use Rattle.rule_quality.specs.declared.Measured.the-variants.{Done, Refused}
 use Rattle.rule_quality.specs.Measure.{Cell, hasNormal, cellsOf, leastOf, meanOf, invalidOf, p05Of, scoreOf, scoresOf, summaryOf, measuresOf, measureRule, normalNumber}
-use Rattle.quality_measures.specs.Readings.{cellsTo, Readings, Measurable}
-use Rattle.quality_measures.proofs.Folds.{zip-tab}
-use Rattle.quality_measures.proofs.Cells.{cells-flat}
+use Rattle.quality_readings.specs.Readings.{cellsTo, Readings, Measurable}
+use Rattle.quality_readings.proofs.Zips.{zip-tab}
+use Rattle.quality_readings.proofs.Cells.{cells-flat}
 
 -- ---- the loop of the scores
 

@@ -1,6 +1,6 @@
 -- `quality_measures::measure` meets its contract. Assumes nothing.
 use borrow.Author.Needs.{needs}
-use Rattle.quality_measures.proofs.Cells.{readable}
+use Rattle.quality_readings.proofs.Cells.{readable}
 use Rattle.quality_measures.proofs.Rule.{refused, measured}
 use Rattle.quality_measures.proofs.measure.Statement.{statement}
 use Rattle.quality_measures.proofs.measure.Tie as tie
