@@ -1,21 +1,17 @@
 -- What the tests of a call leave where they find nothing, and the answers on the way. Assumes nothing.
 use Prim.Native.Nat.{ℕ, suc, _+_, _-_, _*_, _≤_, _<_}
 use mathlib.Core.Path.{_≡_, refl, ap, _∙_}
-use mathlib.Core.Bool.{Bool, true, false, cond}
 use mathlib.Core.List.{List}
 use native.Mathlib.Omega.{arith}
 use native.Mathlib.Nat.{mul-le-mul-right}
 use lib.ListN.{length, take}
-use Rattle.band.specs.Bands.{validOf}
-use Rattle.setting.specs.Settings.{Domain, bandIn}
 use Rattle.rule_sheet.specs.declared.Counts.{Counts}
 use Rattle.rule_sheet.specs.declared.Verdict.{Verdict}
 use Rattle.rule_sheet.specs.declared.Verdict.the-variants.{Accepted, Refused}
-use Rattle.rule_sheet.specs.Numbers.{box}
 use Rattle.rule_sheet.specs.Flat.{quadsOf}
 use Rattle.rule_sheet.specs.Sheet.{sheetVerdict}
 use Rattle.rule_sheet.specs.Lent.{Lent, Work, held, roomIn, limit, lentVerdict}
-use Rattle.rule_admission.specs.Admission.{andThen, domainVerdict, admitsAfter}
+use Rattle.rule_admission.specs.Admission.{andThen, admitsAfter}
 use Rattle.lists.proofs.Laws.{length-tab}
 use Rattle.lists.proofs.Regions.{part-as, lent}
 use Rattle.sheet.specs.Sheet.{LentSheet, LentWork, MasksIf, masksOf}
@@ -27,15 +23,6 @@ use Rattle.sheet.proofs.Tests.{lent-is}
 and-accepted : (u v : Verdict) → andThen u v ≡ Accepted → (u ≡ Accepted) × (v ≡ Accepted)
 and-accepted Accepted v e = (refl, e)
 and-accepted (Refused n) v e = absurd (let z : _≡_ {A = ℕ} 0 1 = cc in omega arith)
-
--- 1 finds nothing
-pub valid-of : (d : Domain) → domainVerdict d ≡ Accepted → validOf (bandIn d) ≡ true
-unfolding domainVerdict
-valid-of d = go (validOf (bandIn d)) refl
-  where
-    go : (b : Bool) → validOf (bandIn d) ≡ b → cond b Accepted (Refused box) ≡ Accepted → validOf (bandIn d) ≡ true
-    go true e h = e
-    go false e h = absurd (let z : _≡_ {A = ℕ} 0 1 = cc in omega arith)
 
 -- what 12, 13, a test of what the call brings, 5, 6 and 7 leave
 pub record Admitted (v : Verdict) (x : Lent) (w : Work) : Type 0 where
