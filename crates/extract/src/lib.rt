@@ -76,7 +76,7 @@ fn count_sheet(g: Grid, n: usize, samples: &[f64]) -> Counts
     ensures { λ r. ⌜ r .points ≤ 12 * (n * n * n) ⌝ }
 {
     let points = extract_points::count_points(g, n, n * n * n, samples);
-    let quads = extract_quads::count_quads(g, n, samples);
+    let quads = extract_edges::count_quads(g, n, samples);
     Counts {
         points,
         quads,

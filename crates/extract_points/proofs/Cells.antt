@@ -18,7 +18,8 @@ use Rattle.rule_extract.specs.Paths.{edgeCrosses}
 use Rattle.extract_paths.specs.Paths.{Pathed}
 use Rattle.rule_extract.specs.Drawing.{pointsIn, pointsTo}
 use Rattle.extract_points.specs.Slots.{CellPaths, putPoints, slotNumber, Numbered}
-use Rattle.extract_points.proofs.Putting.{length-put, put-append, put-front, join-below}
+use Rattle.extract_points.proofs.Putting.{length-put, put-append, put-front}
+use Rattle.extract_grid.proofs.Joins.{join-below}
 use Rattle.extract_points.specs.Vertices.{AllNumbered}
 
 -- the first e cells are drawn: v and s are the slots and the coordinates as they came

@@ -29,12 +29,7 @@ use Rattle.extract_grid.proofs.Places.{within-at, near-of}
 use Rattle.extract_paths.proofs.Slots.{no-crossing}
 use Rattle.rule_extract.specs.Drawing.{isMember, membersOf, crossingAt, groupPoint, groupPoints, cellPoints, pointsIn, pointsTo}
 use Rattle.extract_points.specs.Slots.{memberIn, hasIn, rankIn, Known}
-
--- ---- joined lists
-
-pub length-join : {A : Type 0} (f : ℕ → List A) (n : ℕ) → length (joinTo f (n + 1)) ≡ length (joinTo f n) + length (f n)
-unfolding joinTo
-length-join f n = rw (add-one n) (length-append (joinTo f n) (f n))
+use Rattle.extract_grid.proofs.Joins.{length-join}
 
 -- ---- those that pass
 

@@ -19,7 +19,7 @@ use Rattle.extract_grid.proofs.Places.{site-index, index-site}
 use Rattle.rule_extract.specs.Paths.{edgeCrosses}
 use Rattle.rule_extract.specs.Drawing.{isMember, groupPoints, cellPoints, pointsIn, pointsTo, numberOf}
 use Rattle.extract_points.proofs.Counts.{group-length}
-use Rattle.extract_points.proofs.Putting.{join-below}
+use Rattle.extract_grid.proofs.Joins.{join-below}
 
 -- the group of an edge that crosses has a point, since the edge is a member of its own group
 group-point : (g : Grid) (c : Site) (e : ℕ) → e < 12 → edgeCrosses g c e ≡ true → length (groupPoints g c (getD (cellGroups g c) e 0)) ≡ 1

@@ -1,15 +1,12 @@
 -- The points of a cell, put one after the other. Assumes nothing.
-use Prim.Native.Nat.{ℕ, zero, suc, _+_, _*_, _≤_, _<_}
+use Prim.Native.Nat.{ℕ, suc, _+_, _*_, _≤_, _<_}
 use mathlib.Core.Path.{_≡_, refl, sym, ap, _∙_}
 use mathlib.Core.Bool.{Bool, true, false, cond}
-use mathlib.Core.Logic.{⊎-elim}
 use mathlib.Core.List.{List, [], _∷_, _++_, map, append-assoc, append-nil}
 use native.Mathlib.Omega.{arith}
-use native.Mathlib.Numerals.{add-one}
 use lib.ListN.{length, length-append}
 use lib.Ieee.{Float}
 use Rattle.lists.specs.Every.{some}
-use Rattle.lists.proofs.Laws.{eq-or-ne}
 use Rattle.points.specs.declared.Point.{Point}
 use Rattle.points.specs.Steps.{withPoint}
 use Rattle.rule_sheet.specs.Edges.{joinTo}
@@ -20,7 +17,8 @@ use Rattle.rule_extract.specs.declared.Grid.{Grid}
 use Rattle.rule_extract.specs.declared.Site.{Site}
 use Rattle.rule_extract.specs.Drawing.{isMember, membersOf, crossingAt, meanOf, groupPoint, groupPoints, cellPoints}
 use Rattle.extract_points.specs.Slots.{hasIn, Known, putPoints}
-use Rattle.extract_points.proofs.Counts.{length-join, group-length, has-is, one-le}
+use Rattle.extract_grid.proofs.Joins.{length-join, join-below, join-suc}
+use Rattle.extract_points.proofs.Counts.{group-length, has-is, one-le}
 
 -- ---- points put from a place on
 
@@ -69,19 +67,6 @@ pub group-none : {g : Grid} {c : Site} {kind : ℕ} {G : List ℕ} {b : Bool} (k
 group-none {g} {c} k K e t = point-none _ (group-length g c k ∙ ap (λ z. cond z 1 0) (sym (has-is k K) ∙ (sym e ∙ t)))
 
 -- ---- the groups one after the other
-
-pub join-below : {A : Type 0} (f : ℕ → List A) (k n : ℕ) → k < n → length (joinTo f k) + length (f k) ≤ length (joinTo f n)
-unfolding joinTo
-join-below f k zero h = absurd (omega arith)
-join-below f k (suc n) h = ⊎-elim
-    (λ (e : k ≡ n). rw e (let q = length-append (joinTo f n) (f n) in omega arith))
-    (λ (ne : k ≡ n → ⊥). let i = join-below f k n (omega arith) in let q = length-append (joinTo f n) (f n) in omega arith)
-    (eq-or-ne k n)
-
--- one list more
-pub join-suc : {A : Type 0} (f : ℕ → List A) (k : ℕ) → joinTo f (k + 1) ≡ joinTo f k ++ f k
-unfolding joinTo
-join-suc f k = rw (add-one k)
 
 -- the points of the groups below k
 pub record Placing (g : Grid) (c : Site) (place : ℕ) (v s : List Float) (next k : ℕ) : Type 0 where

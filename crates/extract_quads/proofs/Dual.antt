@@ -24,9 +24,10 @@ use Rattle.extract_points.specs.Slots.{labelOf}
 use Rattle.extract_points.proofs.Numbers.{sample-low, label-is}
 use Rattle.extract_points.specs.Vertices.{AllNumbered}
 use Rattle.extract_points.proofs.DrawnNumbers.{number-below}
-use Rattle.extract_quads.specs.declared.Row.{Row}
-use Rattle.extract_quads.specs.Faces.{offsetU, offsetW, cellBy, edgeBy, slotBy, DualCell, edgeIn, RowIn}
-use Rattle.extract_quads.proofs.Rows.{place-within}
+use Rattle.extract_edges.specs.declared.Row.{Row}
+use Rattle.extract_quads.specs.Faces.{offsetU, offsetW, cellBy, edgeBy, slotBy, DualCell}
+use Rattle.extract_edges.specs.Rows.{edgeIn, RowIn}
+use Rattle.extract_edges.proofs.Rows.{place-within}
 
 -- ---- inner edges
 

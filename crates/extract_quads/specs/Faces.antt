@@ -1,5 +1,5 @@
--- The inner edges of the grid, row by row, and the quads and labels of the first of them in two slices.
-use Prim.Native.Nat.{ℕ, _+_, _-_, _*_, _%_, _≤_, _<_}
+-- The four cells of an inner edge, and the quads and labels of the first of the inner edges in two slices.
+use Prim.Native.Nat.{ℕ, _+_, _-_, _*_, _≤_, _<_}
 use mathlib.Core.Path.{_≡_}
 use mathlib.Core.Bool.{true}
 use mathlib.Core.List.{List, [], _∷_}
@@ -10,12 +10,10 @@ use Rattle.sheet.specs.Results.{Front}
 use Rattle.rule_extract.specs.declared.Grid.{Grid}
 use Rattle.rule_extract.specs.declared.Site.{Site}
 use Rattle.extract_grid.specs.Lattice.{Within}
-use Rattle.rule_extract.specs.Lattice.{indexOf}
 use Rattle.rule_extract.specs.Paths.{edgeCrosses}
-use Rattle.extract_paths.specs.Paths.{strideOf}
-use Rattle.rule_extract.specs.Drawing.{pointsTo, placeOn, Inner, innerCount, innerAt, cornerOf, quadIf, labelIf}
+use Rattle.rule_extract.specs.Drawing.{pointsTo, placeOn, Inner, innerCount, cornerOf, quadIf, labelIf}
 use Rattle.extract_points.specs.Slots.{slotNumber}
-use Rattle.extract_quads.specs.declared.Row.{Row}
+use Rattle.extract_edges.specs.Rows.{Counted}
 
 -- ---- the four cells of an inner edge
 
@@ -45,43 +43,7 @@ pub record DualCell (g : Grid) (n : ℕ) (i : Inner) (u w : ℕ) : Type 0 where
   pub crosses : edgeCrosses g (cellBy i u w) (edgeBy i u w) ≡ true
   pub corner : cornerOf g n i u w < length (pointsTo g n (n * n * n))
 
--- ---- rows
-
--- the edge j of a row
-abbrev pub edgeIn : Row → ℕ → Inner
-edgeIn row j = record { axis = row .axis; a = row .a; b = row .b; d = j + 1 }
-
--- a row of a grid of n cells a side, with the numbers of its samples
-pub record RowIn (n : ℕ) (row : Row) : Type 0 where
-  pub n≤ : n ≤ 130
-  pub axis< : row .axis < 3
-  pub a< : row .a < n
-  pub b> : 0 < row .b
-  pub b< : row .b < n
-  pub from-is : row .from ≡ indexOf (n + 1) (placeOn (row .axis) (row .a) (row .b) 1)
-  pub next-is : row .next ≡ strideOf (n + 1) (row .axis)
-  pub step-is : row .step ≡ strideOf (n + 1) ((row .axis + 2) % 3)
-
--- how many rows there are
-abbrev pub rowCount : ℕ → ℕ
-rowCount n = 3 * (n * (n - 1))
-
--- the number of the edge j of the row r
-abbrev pub edgeNumber : ℕ → ℕ → ℕ → ℕ
-edgeNumber n r j = r * (n - 1) + j
-
--- the row r
-pub record RowAt (n r : ℕ) (row : Row) : Type 0 where
-  pub r< : r < rowCount n
-  pub within : RowIn n row
-  pub edges : (j : ℕ) → j < n - 1 → innerAt n (edgeNumber n r j) ≡ edgeIn row j
-
 -- ---- the first t inner edges
-
--- the count of their quads
-pub record Counted (g : Grid) (n t count : ℕ) : Type 0 where
-  pub is : count ≡ length (joinTo (quadIf g n) t)
-  pub count≤ : count ≤ t
 
 -- their quads and labels, in slices that hold those of all
 pub record Drawn (g : Grid) (n t count : ℕ) (Q labels : List ℕ) : Type 0 where

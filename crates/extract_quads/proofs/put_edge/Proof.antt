@@ -1,7 +1,8 @@
 -- `extract_quads::put_edge` meets its contract. Assumes nothing.
 use native.Mathlib.Omega.{arith}
 use borrow.Author.Needs.{needs}
-use Rattle.extract_quads.proofs.Turns.{edge-crosses, edge-lt, edges-few, drawn-fits, drawn-same, drawn-more}
+use Rattle.extract_edges.proofs.Counts.{edge-crosses, edge-lt, edges-few}
+use Rattle.extract_quads.proofs.Turns.{drawn-fits, drawn-same, drawn-more}
 use Rattle.extract_quads.proofs.put_edge.Statement.{statement}
 use Rattle.extract_quads.proofs.put_edge.Tie as tie
 

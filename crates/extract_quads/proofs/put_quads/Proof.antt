@@ -2,7 +2,7 @@
 use native.Mathlib.Omega.{arith}
 use Prim.Native.Nat.{_-_, _≤_}
 use mathlib.Core.Path.{refl}
-use Rattle.extract_quads.specs.Faces.{edgeNumber}
+use Rattle.extract_edges.specs.Rows.{edgeNumber}
 use Rattle.extract_quads.proofs.Turns.{Drawing, drawing-next, drawn-start, drawn-all}
 use Rattle.extract_quads.proofs.put_quads.Statement.{statement}
 use Rattle.extract_quads.proofs.put_quads.Tie as tie

@@ -1,9 +1,9 @@
--- `extract_quads::stride` meets its contract. Assumes nothing.
+-- `extract_edges::stride` meets its contract. Assumes nothing.
 use native.Mathlib.Omega.{arith}
 use Rattle.extract_grid.proofs.Places.{near-of}
-use Rattle.extract_quads.proofs.Rows.{stride-is}
-use Rattle.extract_quads.proofs.stride.Statement.{statement}
-use Rattle.extract_quads.proofs.stride.Tie as tie
+use Rattle.extract_edges.proofs.Rows.{stride-is}
+use Rattle.extract_edges.proofs.stride.Statement.{statement}
+use Rattle.extract_edges.proofs.stride.Tie as tie
 
 index-of-requires : tie.Need-index-of-requires
 index-of-requires c κs = let p = c .pre in (p .0, p .1 .1 .0)

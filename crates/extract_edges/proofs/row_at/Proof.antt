@@ -1,9 +1,9 @@
--- `extract_quads::row_at` meets its contract. Assumes nothing.
+-- `extract_edges::row_at` meets its contract. Assumes nothing.
 use native.Mathlib.Omega.{arith}
 use borrow.Author.Needs.{needs}
-use Rattle.extract_quads.proofs.Rows.{row-places, first-within, own-within, last-within, row-made}
-use Rattle.extract_quads.proofs.row_at.Statement.{statement}
-use Rattle.extract_quads.proofs.row_at.Tie as tie
+use Rattle.extract_edges.proofs.Rows.{row-places, first-within, own-within, last-within, row-made}
+use Rattle.extract_edges.proofs.row_at.Statement.{statement}
+use Rattle.extract_edges.proofs.row_at.Tie as tie
 
 sub-q : tie.Need-sub-q
 sub-q c = let R = row-places _ _ (c .pre .1) in omega (arith, R .n>, R .b<)

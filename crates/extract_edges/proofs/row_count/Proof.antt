@@ -1,8 +1,8 @@
--- `extract_quads::row_count` meets its contract. Assumes nothing.
+-- `extract_edges::row_count` meets its contract. Assumes nothing.
 use native.Mathlib.Omega.{arith}
-use Rattle.extract_quads.proofs.Turns.{rows-are, rows-room}
-use Rattle.extract_quads.proofs.row_count.Statement.{statement}
-use Rattle.extract_quads.proofs.row_count.Tie as tie
+use Rattle.extract_edges.proofs.Counts.{rows-are, rows-room}
+use Rattle.extract_edges.proofs.row_count.Statement.{statement}
+use Rattle.extract_edges.proofs.row_count.Tie as tie
 
 mul-result : tie.Need-mul-result
 mul-result c = let R = rows-room _ (c .pre) in omega (arith, R .from, R .to)

@@ -1,8 +1,8 @@
--- `extract_quads::begins_inside` meets its contract. Assumes nothing.
+-- `extract_edges::begins_inside` meets its contract. Assumes nothing.
 use native.Mathlib.Omega.{arith}
-use Rattle.extract_quads.proofs.Rows.{sample-room, begin-read}
-use Rattle.extract_quads.proofs.begins_inside.Statement.{statement}
-use Rattle.extract_quads.proofs.begins_inside.Tie as tie
+use Rattle.extract_edges.proofs.Rows.{sample-room, begin-read}
+use Rattle.extract_edges.proofs.begins_inside.Statement.{statement}
+use Rattle.extract_edges.proofs.begins_inside.Tie as tie
 
 mul-result : tie.Need-mul-result
 mul-result c = let p = c .before .pre in let s = sample-room (p .1 .0) _ (p .1 .1) (p .0) in omega (arith, s .small)

@@ -16,8 +16,8 @@ use Rattle.extract_grid.proofs.Signs.{sign-is}
 use Rattle.extract_paths.specs.Paths.{strideOf}
 use Rattle.extract_paths.proofs.Edges.{next-index, below3}
 use Rattle.rule_extract.specs.Drawing.{placeOn, Inner, innerAt, innerSite}
-use Rattle.extract_quads.specs.declared.Row.{Row}
-use Rattle.extract_quads.specs.Faces.{edgeIn, RowIn, rowCount, edgeNumber, RowAt}
+use Rattle.extract_edges.specs.declared.Row.{Row}
+use Rattle.extract_edges.specs.Rows.{edgeIn, RowIn, rowCount, edgeNumber, RowAt}
 
 -- ---- places
 

@@ -1,10 +1,10 @@
--- `extract_quads::count_row` meets its contract. Assumes nothing.
+-- `extract_edges::count_row` meets its contract. Assumes nothing.
 use native.Mathlib.Omega.{arith}
 use Prim.Native.Nat.{_-_, _≤_}
-use Rattle.extract_quads.specs.Faces.{Counted, edgeNumber}
-use Rattle.extract_quads.proofs.Turns.{counted-next, counted-row}
-use Rattle.extract_quads.proofs.count_row.Statement.{statement}
-use Rattle.extract_quads.proofs.count_row.Tie as tie
+use Rattle.extract_edges.specs.Rows.{Counted, edgeNumber}
+use Rattle.extract_edges.proofs.Counts.{counted-next, counted-row}
+use Rattle.extract_edges.proofs.count_row.Statement.{statement}
+use Rattle.extract_edges.proofs.count_row.Tie as tie
 
 abbrev Inv-loop : tie.InvT-loop
 Inv-loop g n r count samples row next₀ j₀ next j = (j ≤ n - 1) × Counted g n (edgeNumber n r j) next

@@ -1,10 +1,10 @@
--- `extract_quads::count_quads` meets its contract. Assumes nothing.
+-- `extract_edges::count_quads` meets its contract. Assumes nothing.
 use native.Mathlib.Omega.{arith}
 use Prim.Native.Nat.{_-_, _≤_}
-use Rattle.extract_quads.specs.Faces.{edgeNumber, Counted}
-use Rattle.extract_quads.proofs.Turns.{counted-start, counted-all}
-use Rattle.extract_quads.proofs.count_quads.Statement.{statement}
-use Rattle.extract_quads.proofs.count_quads.Tie as tie
+use Rattle.extract_edges.specs.Rows.{edgeNumber, Counted}
+use Rattle.extract_edges.proofs.Counts.{counted-start, counted-all}
+use Rattle.extract_edges.proofs.count_quads.Statement.{statement}
+use Rattle.extract_edges.proofs.count_quads.Tie as tie
 
 abbrev Inv-loop : tie.InvT-loop
 Inv-loop g n samples rows count₀ r₀ count r = (r ≤ rows) × Counted g n (edgeNumber n r 0) count

@@ -1,8 +1,8 @@
--- `extract_quads::place_on` meets its contract. Assumes nothing.
+-- `extract_edges::place_on` meets its contract. Assumes nothing.
 use borrow.Author.Tests.{eq-eqb, ne-eqb}
 use Rattle.rule_extract.specs.Drawing.{placeOn}
-use Rattle.extract_quads.proofs.place_on.Statement.{statement}
-use Rattle.extract_quads.proofs.place_on.Tie as tie
+use Rattle.extract_edges.proofs.place_on.Statement.{statement}
+use Rattle.extract_edges.proofs.place_on.Tie as tie
 
 returns : tie.Need-returns
 unfolding placeOn

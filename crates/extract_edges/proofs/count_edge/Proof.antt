@@ -1,9 +1,8 @@
--- `extract_quads::count_edge` meets its contract. Assumes nothing.
+-- `extract_edges::count_edge` meets its contract. Assumes nothing.
 use native.Mathlib.Omega.{arith}
-use Rattle.extract_quads.proofs.Turns.{edge-crosses, counted-same, counted-more, edge-lt}
-use Rattle.extract_quads.proofs.Turns.{edges-few}
-use Rattle.extract_quads.proofs.count_edge.Statement.{statement}
-use Rattle.extract_quads.proofs.count_edge.Tie as tie
+use Rattle.extract_edges.proofs.Counts.{edge-crosses, counted-same, counted-more, edge-lt, edges-few}
+use Rattle.extract_edges.proofs.count_edge.Statement.{statement}
+use Rattle.extract_edges.proofs.count_edge.Tie as tie
 
 begins-inside-requires : tie.Need-begins-inside-requires
 begins-inside-requires c κs = let p = c .before .pre in (p .0, (p .1 .0 .within, p .1 .1 .0))
