@@ -110,7 +110,7 @@ fn landing(np: usize, g: Diagonal, b: Band, len: f64, points: &[f64], w: &[u32])
     ensures { λ r. ⌜ r ≡ landingOf g b len (now (points .entry)) (now (w .entry)) ⌝ }
 {
     let mask = joined(lists::at(w, g.a), lists::at(w, g.c));
-    coarsen_shapes::new_position(np, b, len, points, g.a, g.c, mask)
+    coarsen_moves::new_position(np, b, len, points, g.a, g.c, mask)
 }
 
 // Of what was found and a new candidate the one that gains more, the first on a tie.

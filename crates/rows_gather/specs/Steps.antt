@@ -1,5 +1,5 @@
--- Which points are copied, the numbers of the copies, the corners at which strips run, and what is gathered of them, over
--- flat lists: coordinates P, corners Q, labels and masks M.
+-- Which points are copied, the numbers of the copies, the corners at which strips run, and what is gathered of them,
+-- over flat lists: coordinates P, corners Q, labels and masks M.
 use Prim.Native.Nat.{ℕ, _+_, _*_, _/_, _%_, _^_, _≤_, _<_}
 use mathlib.Core.Bool.{Bool, cond, not, _&&_}
 use mathlib.Core.List.{List, [], _∷_}

@@ -1,4 +1,5 @@
-// The quads of the sheet with rows, and their labels: the old ones, whose corners are copies, and behind them the strips.
+// The quads of the sheet with rows, and their labels: the old ones, whose corners are copies, and behind them the
+// strips.
 
 ghost use mathlib.Core.Path.{_≡_};
 ghost use mathlib.Core.List.{_++_, map};

@@ -1,8 +1,8 @@
--- `coarsen_shapes::quad_stays` meets its contract. Assumes nothing.
+-- `coarsen_moves::quad_stays` meets its contract. Assumes nothing.
 use borrow.Author.Needs.{needs}
 use Rattle.rule_coarsen.specs.MergeFits.{quadStays}
-use Rattle.coarsen_shapes.proofs.quad_stays.Statement.{statement}
-use Rattle.coarsen_shapes.proofs.quad_stays.Tie as tie
+use Rattle.coarsen_moves.proofs.quad_stays.Statement.{statement}
+use Rattle.coarsen_moves.proofs.quad_stays.Tie as tie
 
 centre-requires : tie.Need-centre-requires
 centre-requires c κs = search needs

@@ -1,8 +1,8 @@
--- `coarsen_shapes::moved_shape` meets its contract. Assumes nothing.
+-- `coarsen_moves::moved_shape` meets its contract. Assumes nothing.
 use borrow.Author.Needs.{needs}
 use Rattle.rule_passes.specs.Shapes.{quadShape}
-use Rattle.coarsen_shapes.proofs.moved_shape.Statement.{statement}
-use Rattle.coarsen_shapes.proofs.moved_shape.Tie as tie
+use Rattle.coarsen_moves.proofs.moved_shape.Statement.{statement}
+use Rattle.coarsen_moves.proofs.moved_shape.Tie as tie
 
 moved-at-requires : tie.Need-moved-at-requires
 moved-at-requires c κs = search needs

@@ -1,9 +1,9 @@
--- `coarsen_shapes::moved_at` meets its contract. Assumes nothing.
+-- `coarsen_moves::moved_at` meets its contract. Assumes nothing.
 use borrow.Author.Needs.{needs}
 use borrow.Author.Tests.{eq-eqb, ne-eqb}
 use Rattle.rule_coarsen.specs.MergeFits.{movedAt}
-use Rattle.coarsen_shapes.proofs.moved_at.Statement.{statement}
-use Rattle.coarsen_shapes.proofs.moved_at.Tie as tie
+use Rattle.coarsen_moves.proofs.moved_at.Statement.{statement}
+use Rattle.coarsen_moves.proofs.moved_at.Tie as tie
 
 returns : tie.Need-returns
 unfolding movedAt

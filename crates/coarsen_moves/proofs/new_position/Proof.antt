@@ -1,7 +1,7 @@
--- `coarsen_shapes::new_position` meets its contract. Assumes nothing.
+-- `coarsen_moves::new_position` meets its contract. Assumes nothing.
 use borrow.Author.Needs.{needs}
-use Rattle.coarsen_shapes.proofs.new_position.Statement.{statement}
-use Rattle.coarsen_shapes.proofs.new_position.Tie as tie
+use Rattle.coarsen_moves.proofs.new_position.Statement.{statement}
+use Rattle.coarsen_moves.proofs.new_position.Tie as tie
 
 point-at-requires : tie.Need-point-at-requires
 point-at-requires c κs = search needs
