@@ -301,8 +301,8 @@ pub extern "C" fn quads_regularize(
         let t = toldOf kind (now (numbers .entry)) (now (bounds .entry)) lower upper in
         let w = workOf (now (work .entry)) (now (floats .entry)) in
         let l = now (answer .entry) in
-        ExportAltersQuads (byTold (x .counts) (isShortAnswer l) t (λ s. regularizeRule s passes x w)) x l r (now (quads .exit))
-        (now (answer .exit))) ⌝ }
+        ExportAltersQuads (byTold (x .counts) (isShortAnswer l) t (λ s. regularizeRule s passes x w)) x l r
+        (now (quads .exit)) (now (answer .exit))) ⌝ }
     ensures cleared { λ _. ⌜ Cleared (now (work .entry)) (now (floats .entry)) (now (work .exit))
         (now (floats .exit)) ⌝ }
 {
@@ -347,8 +347,8 @@ pub extern "C" fn quads_improve_layout(
         let t = toldOf kind (now (numbers .entry)) (now (bounds .entry)) lower upper in
         let w = workOf (now (work .entry)) (now (floats .entry)) in
         let l = now (answer .entry) in
-        ExportAltersQuads (byTold (x .counts) (isShortAnswer l) t (λ s. improveRule s passes x w)) x l r (now (quads .exit))
-        (now (answer .exit))) ⌝ }
+        ExportAltersQuads (byTold (x .counts) (isShortAnswer l) t (λ s. improveRule s passes x w)) x l r
+        (now (quads .exit)) (now (answer .exit))) ⌝ }
     ensures cleared { λ _. ⌜ Cleared (now (work .entry)) (now (floats .entry)) (now (work .exit))
         (now (floats .exit)) ⌝ }
 {
@@ -393,8 +393,8 @@ pub extern "C" fn quads_coarsen(
         let t = toldOf kind (now (numbers .entry)) (now (bounds .entry)) lower upper in
         let w = workOf (now (work .entry)) (now (floats .entry)) in
         let l = now (answer .entry) in
-        ExportAlters (byTold (x .counts) (isShortAnswer l) t (λ s. coarsenRule s passes x w)) x l r (now (points .exit))
-        (now (quads .exit)) (now (labels .exit)) (now (answer .exit))) ⌝ }
+        ExportAlters (byTold (x .counts) (isShortAnswer l) t (λ s. coarsenRule s passes x w)) x l r
+        (now (points .exit)) (now (quads .exit)) (now (labels .exit)) (now (answer .exit))) ⌝ }
     ensures cleared { λ _. ⌜ Cleared (now (work .entry)) (now (floats .entry)) (now (work .exit))
         (now (floats .exit)) ⌝ }
 {

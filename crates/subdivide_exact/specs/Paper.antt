@@ -1,5 +1,5 @@
 -- "Interior points follow Catmull and Clark": worked in exact fractions instead of IEEE 754, the rule of `subdivide`
--- makes the points that the paper of 1978 makes, as smoothing/specs/CatmullClark has them. Document 01, "The finer
+-- makes the points that the paper of 1978 makes, as smoothing/specs/CatmullClark.antt has them. Document 01, "The finer
 -- sheet and the rows".
 use Prim.Native.Nat.{ℕ, _≤_, _<_}
 use mathlib.Core.Path.{_≡_}
