@@ -111,6 +111,7 @@ const STACK: usize = 64 * 1024;
 
 #[test]
 fn calls_need_little_stack() {
-    let called = std::thread::Builder::new().stack_size(STACK).spawn(|| OPERATIONS.map(|operation| number(operation, &[])));
+    let called =
+        std::thread::Builder::new().stack_size(STACK).spawn(|| OPERATIONS.map(|operation| number(operation, &[])));
     assert_eq!(called.unwrap().join().unwrap(), [0; 8]);
 }
