@@ -41,7 +41,7 @@ impl Field {
     }
 
     /// Its numbers in front, zeros behind.
-    fn numbers(&self) -> [f64; 10] {
+    pub(crate) fn numbers(&self) -> [f64; 10] {
         match *self {
             Field::Plane { a, b, c, d } => [a, b, c, d, 0.0, 0.0, 0.0, 0.0, 0.0, 0.0],
             Field::Ball { cx, cy, cz, r } => [cx, cy, cz, r, 0.0, 0.0, 0.0, 0.0, 0.0, 0.0],

@@ -1,8 +1,8 @@
 //! Labelled quad sheets around a band of a scalar field: drawn, refined, cleaned up and measured.
 //!
 //! This is safe Rust over the static library `quads`, whose functions are proved to meet their contracts. The names
-//! are those of the library's operations; an operation that refuses returns a [`Refusal`], and a sheet that it was to
-//! alter is then as it came.
+//! are those of the library's operations. An operation that refuses returns [`Refused`], which says by its [`Refusal`]
+//! why and by its [`Cause`] where; a sheet that it was to alter is then as it came.
 //!
 //! ```
 //! use quads::{Band, Field, Sheet};
@@ -19,20 +19,31 @@
 //! let swaps = sheet.regularize(&band, 4)?;
 //! let quality = sheet.quality(&band)?;
 //! println!("{merges} merges, {swaps} swaps, {} quads, tight: {}", quality.quads, quality.tight);
-//! # Ok::<(), quads::Refusal>(())
+//! # Ok::<(), quads::Refused>(())
 //! ```
+//!
+//! Who calls many operations keeps their work in a [`Workspace`], which has the same operations.
+#![warn(clippy::missing_errors_doc)]
 
 mod band;
+mod cause;
 pub mod ffi;
+mod label;
+mod look;
 mod operations;
 mod quality;
 mod refusal;
-mod room;
+mod refused;
 mod sheet;
 pub mod sizes;
+mod workspace;
 
 pub use band::{Band, Field};
+pub use cause::{Cause, Miss, Origin};
+pub use label::{Label, UnknownLabel};
 pub use quality::Quality;
 pub use refusal::{Refusal, UnknownRefusal};
+pub use refused::Refused;
 pub use sheet::{Counts, Sheet};
 pub use sizes::LIMIT;
+pub use workspace::Workspace;

@@ -111,6 +111,10 @@ impl TryFrom<u32> for Refusal {
     type Error = UnknownRefusal;
 
     /// The refusal of a number.
+    ///
+    /// # Errors
+    ///
+    /// A number that no refusal has.
     fn try_from(number: u32) -> Result<Refusal, UnknownRefusal> {
         match number {
             1 => Ok(Refusal::Box),

@@ -26,8 +26,8 @@ pub struct Sheet {
     pub points: Vec<[f64; 3]>,
     /// The quads, by the numbers of their four corners.
     pub quads: Vec<[u32; 4]>,
-    /// One label a quad: 0 upper level, 1 lower level, 2 and 3 the low and high box faces in x, 4 and 5 in y, 6 and 7
-    /// in z.
+    /// One label a quad, by the numbers of [`Label`](crate::Label): 0 upper level, 1 lower level, 2 and 3 the low and
+    /// high box faces in x, 4 and 5 in y, 6 and 7 in z.
     pub labels: Vec<u8>,
 }
 

@@ -1,10 +1,10 @@
 //! Drawn sheets: what the operations leave of them.
 mod common;
 use common::{bowl, counts, edges, euler, shell, squared_sum, unit_box};
-use quads::{Band, Field, Refusal, Sheet};
+use quads::{Band, Field, Refused, Sheet};
 
 /// An operation that alters a sheet.
-type Step = fn(&mut Sheet, &Band, usize) -> Result<usize, Refusal>;
+type Step = fn(&mut Sheet, &Band, usize) -> Result<usize, Refused>;
 
 #[test]
 fn a_shell_has_two_skins() {

@@ -1,11 +1,16 @@
-//! Each refusal by the smallest sheet that shows it. A refusal leaves the sheet as it came.
+//! Each refusal by the smallest sheet that shows it, with the text of its cause. A refusal leaves the sheet as it came.
 mod common;
-use common::{counts, cube, unit_box};
-use quads::{Band, Field, LIMIT, Refusal, Sheet};
+use common::{counts, cube, shell, unit_box};
+use quads::{Band, Cause, Field, LIMIT, Refusal, Refused, Sheet};
 
 /// A band of a ball around the middle of the unit box.
 fn ball() -> Band {
     Band { field: Field::Ball { cx: 0.5, cy: 0.5, cz: 0.5, r: 0.0 }, lower: 0.04, upper: 0.16, ..unit_box() }
+}
+
+/// A band whose field is 0 everywhere.
+fn flat() -> Band {
+    Band { field: Field::Plane { a: 0.0, b: 0.0, c: 0.0, d: 0.0 }, ..unit_box() }
 }
 
 /// The cube with another label on one quad.
@@ -15,88 +20,181 @@ fn labelled(quad: usize, label: u8) -> Sheet {
     sheet
 }
 
+/// The cube with one label on all quads.
+fn all_labelled(label: u8) -> Sheet {
+    Sheet { labels: vec![label; 6], ..cube() }
+}
+
 /// The points of a sheet as bits, its quads and its labels: two NaNs of the same bits are the same.
 fn bits(sheet: &Sheet) -> (Vec<[u64; 3]>, &[[u32; 4]], &[u8]) {
     (sheet.points.iter().map(|p| p.map(f64::to_bits)).collect(), &sheet.quads, &sheet.labels)
 }
 
+/// Whether an operation refuses so, and tells this cause; none where the text is empty.
+fn told<T>(result: Result<T, Refused>, refusal: Refusal, cause: &str) -> Refused {
+    let refused = result.err().expect("it is refused");
+    assert_eq!(refused.refusal(), refusal);
+    assert_eq!(refused.cause().map_or(String::new(), |cause| cause.to_string()), cause);
+    assert!(refused.to_string().starts_with(&refusal.to_string()) && refused.to_string().ends_with(cause));
+    refused
+}
+
 /// Whether every operation on a lent sheet refuses it so, `refine` apart, and leaves it.
-fn refused(sheet: &Sheet, band: &Band, refusal: Refusal) {
+fn refused(sheet: &Sheet, band: &Band, refusal: Refusal, cause: &str) {
     let mut left = sheet.clone();
-    assert_eq!(sheet.subdivide(band), Err(refusal));
-    assert_eq!(sheet.boundary_rows(band), Err(refusal));
-    assert_eq!(sheet.quality(band), Err(refusal));
-    assert_eq!(left.regularize(band, 2), Err(refusal));
-    assert_eq!(left.improve_layout(band, 0), Err(refusal));
-    assert_eq!(left.coarsen(band, 1), Err(refusal));
+    told(sheet.subdivide(band), refusal, cause);
+    told(sheet.boundary_rows(band), refusal, cause);
+    told(sheet.quality(band), refusal, cause);
+    told(left.regularize(band, 2), refusal, cause);
+    told(left.improve_layout(band, 0), refusal, cause);
+    told(left.coarsen(band, 1), refusal, cause);
     assert_eq!(bits(&left), bits(sheet));
 }
 
 #[test]
 fn box_1() {
-    for (lower, upper) in [(1.0, 1.0), (f64::NAN, 1.0), (0.0, f64::INFINITY)] {
-        refused(&cube(), &Band { lower, upper, ..unit_box() }, Refusal::Box);
-    }
-    refused(&cube(), &Band { low: [1.0; 3], ..unit_box() }, Refusal::Box);
-    refused(&cube(), &Band { high: [1e200; 3], ..unit_box() }, Refusal::Box);
+    let levels = |lower, upper| Band { lower, upper, ..unit_box() };
+    refused(&cube(), &levels(1.0, 1.0), Refusal::Box, "the lower level 1.0 is not below 1.0");
+    refused(&cube(), &levels(f64::NAN, 1.0), Refusal::Box, "the lower level is NaN");
+    refused(&cube(), &levels(0.0, f64::INFINITY), Refusal::Box, "the upper level is inf");
+    let boxed = |low, high| Band { low, high, ..unit_box() };
+    let (zeros, ones) = ([0.0; 3], [1.0; 3]);
+    refused(&cube(), &boxed(ones, ones), Refusal::Box, "the low x face is at 1.0, the high x face at 1.0");
+    refused(&cube(), &boxed([0.0, 0.0, 2.0], ones), Refusal::Box, "the low z face is at 2.0, the high z face at 1.0");
+    refused(&cube(), &boxed(zeros, [1.0, f64::NAN, 1.0]), Refusal::Box, "the high y face is at NaN");
+    refused(&cube(), &boxed(zeros, [1e200; 3]), Refusal::Box, "the diagonal of the box has the length inf");
+    refused(&cube(), &boxed(zeros, [1e-200; 3]), Refusal::Box, "the diagonal of the box has the length 0.0");
+    told(Sheet::extract_candidate(&levels(2.0, 1.0), 8), Refusal::Box, "the lower level 2.0 is not below 1.0");
 }
 
 #[test]
 fn bottomless_2() {
     let band = Band { lower: f64::NEG_INFINITY, ..ball() };
-    assert_eq!(Sheet::extract_candidate(&band, 8), Err(Refusal::Bottomless));
+    told(Sheet::extract_candidate(&band, 8), Refusal::Bottomless, "");
     assert!(cube().quality(&band).is_ok());
 }
 
 #[test]
 fn cells_3() {
     for cells in [0, 3, 129, usize::MAX] {
-        assert_eq!(Sheet::extract_candidate(&ball(), cells), Err(Refusal::Cells));
+        told(Sheet::extract_candidate(&ball(), cells), Refusal::Cells, "");
     }
 }
 
 #[test]
-fn samples_4() {
-    let field = Field::Plane { a: f64::INFINITY, b: 0.0, c: 0.0, d: 0.0 };
-    assert_eq!(Sheet::extract_candidate(&Band { field, ..ball() }, 4), Err(Refusal::Samples));
+fn samples_4_where_a_number_of_the_field_is_not_finite() {
+    let draw = |field| Sheet::extract_candidate(&Band { field, ..ball() }, 4);
+    let plane = Field::Plane { a: f64::INFINITY, b: 0.0, c: 0.0, d: 0.0 };
+    let refused = told(draw(plane), Refusal::Samples, "the field's number a is inf");
+    assert_eq!(refused.advice(), "give finite numbers for the field");
+    let ball = Field::Ball { cx: 0.0, cy: 0.0, cz: 0.0, r: f64::NAN };
+    told(draw(ball), Refusal::Samples, "the field's number r is NaN");
+    let quadric = Field::Quadric([0.0, 0.0, 0.0, 0.0, 0.0, 0.0, 0.0, f64::NEG_INFINITY, 0.0, 0.0]);
+    told(draw(quadric), Refusal::Samples, "the field's number k7 is -inf");
+}
+
+/// The first place of the grid, in a box of side 4 and 4 cells.
+const FIRST: &str = "at place (0, 0, 0), the point (-0.513, -0.513, -0.513), the field is";
+
+#[test]
+fn samples_4_where_the_field_is_too_large() {
+    let draw = |a, upper| {
+        let field = Field::Plane { a, b: a, c: a, d: 0.0 };
+        Sheet::extract_candidate(&Band { field, low: [0.0; 3], high: [4.0; 3], lower: 0.0, upper }, 4)
+    };
+    let refused = told(draw(1.5e308, 1.0), Refusal::Samples, &format!("{FIRST} -inf"));
+    assert_eq!(refused.advice(), Refusal::Samples.advice());
+    let refused = draw(1e300, 1e-300).unwrap_err();
+    let text = refused.to_string();
+    assert!(text.contains(FIRST) && text.ends_with("e300, too much beside the distance of the levels"), "{text}");
+    assert!(refused.advice().starts_with("move the levels further apart"));
 }
 
 #[test]
 fn bare_5() {
-    refused(&Sheet::default(), &unit_box(), Refusal::Bare);
+    refused(&Sheet::default(), &unit_box(), Refusal::Bare, "it has no point");
+    let points = Sheet { quads: vec![], labels: vec![], ..cube() };
+    refused(&points, &unit_box(), Refusal::Bare, "it has no quad");
     let mut sheet = cube();
     sheet.labels.pop();
-    refused(&sheet, &unit_box(), Refusal::Bare);
-    assert_eq!(sheet.refine(), Err(Refusal::Bare));
+    refused(&sheet, &unit_box(), Refusal::Bare, "it has 6 quads and 5 labels");
+    told(sheet.refine(), Refusal::Bare, "it has 6 quads and 5 labels");
     let mut sheet = cube();
     sheet.points[3][1] = f64::NAN;
-    refused(&sheet, &unit_box(), Refusal::Bare);
+    refused(&sheet, &unit_box(), Refusal::Bare, "point 3 is (1.0, NaN, 0.0)");
     assert_eq!(sheet.refine().map(|finer| finer.counts()), Ok(counts(26, 24)));
 }
 
 #[test]
 fn bare_5_where_nothing_is_drawn() {
-    let far = Band { lower: 10.0, upper: 11.0, ..ball() };
-    assert_eq!(Sheet::extract_candidate(&far, 4), Err(Refusal::Bare));
+    let draw = |lower, upper| Sheet::extract_candidate(&Band { lower, upper, ..ball() }, 4).unwrap_err();
+    let far = draw(10.0, 11.0);
+    assert_eq!(far.refusal(), Refusal::Bare);
+    let text = far.to_string();
+    assert!(text.contains(": over the grid the field is from 0.0") && text.contains(" to 0.4"), "{text}");
+    assert!(text.ends_with(", nowhere between the levels 10.0 and 11.0"), "{text}");
+    assert!(far.advice().starts_with("give levels that the field takes in the box"));
+    assert_eq!(draw(0.3, 0.3001).advice(), "draw with more cells: the band is thinner than a cell");
+}
+
+#[test]
+fn bare_5_where_a_smoothed_point_is_not_finite() {
+    let mut sheet = cube();
+    sheet.points.iter_mut().flatten().for_each(|x| *x *= 1e308);
+    let text = "the midpoint of the edge from point 1 to point 3 is not finite once it is smoothed";
+    let refused = told(sheet.subdivide(&unit_box()), Refusal::Bare, text);
+    assert_eq!(refused.advice(), "use smaller coordinates");
 }
 
 #[test]
 fn corner_6() {
-    refused(&labelled(0, 8), &unit_box(), Refusal::Corner);
+    refused(&labelled(1, 8), &unit_box(), Refusal::Corner, "quad 1 has the label 8");
     let mut sheet = cube();
     sheet.quads[2] = [0, 1, 1, 4];
-    refused(&sheet, &unit_box(), Refusal::Corner);
+    refused(&sheet, &unit_box(), Refusal::Corner, "corners 1 and 2 of quad 2 are both point 1");
+    assert!(sheet.refine().is_ok());
     sheet.quads[2] = [0, 1, 5, 8];
-    refused(&sheet, &unit_box(), Refusal::Corner);
-    assert_eq!(sheet.refine(), Err(Refusal::Corner));
+    let text = "corner 3 of quad 2 is point 8, and there are 8 points";
+    refused(&sheet, &unit_box(), Refusal::Corner, text);
+    sheet.labels[0] = 8;
+    told(sheet.refine(), Refusal::Corner, text);
 }
 
 #[test]
 fn clash_7() {
-    refused(&labelled(0, 5), &unit_box(), Refusal::Clash);
+    let text = "point 0 lies on two opposite faces, the low y face and the high y face (labels 4 and 5)";
+    refused(&labelled(0, 5), &unit_box(), Refusal::Clash, text);
+    let both = Sheet { labels: vec![0, 3, 1, 5, 6, 7], ..cube() };
+    refused(&both, &unit_box(), Refusal::Clash, "point 0 lies on both levels (labels 0 and 1)");
     let mut sheet = cube();
     sheet.points.push([0.5; 3]);
-    refused(&sheet, &unit_box(), Refusal::Clash);
+    refused(&sheet, &unit_box(), Refusal::Clash, "point 8 has no quad");
+    let advice = sheet.quality(&unit_box()).unwrap_err().advice();
+    assert_eq!(advice, "remove the point, or mend the sheet where it was made");
+}
+
+#[test]
+fn clash_7_where_rows_leave_a_point_bare() {
+    let mut sheet = all_labelled(2);
+    sheet.points.extend(cube().points[1..].iter().map(|point| point.map(|x| x + 1.0)));
+    sheet.quads.extend(cube().quads.iter().map(|quad| quad.map(|corner| corner + 7)));
+    sheet.labels.extend([4; 6]);
+    let band = Band { high: [2.0; 3], ..unit_box() };
+    assert!(sheet.subdivide(&band).is_ok());
+    let text = "rows leave point 7, where patches touch, without a quad";
+    told(sheet.boundary_rows(&band), Refusal::Clash, text);
+}
+
+#[test]
+fn clash_7_where_a_cell_is_too_large() {
+    let thin = Band { lower: 0.6, high: [1.0, 1.0, 0.1], ..shell() };
+    let refused = Sheet::extract_candidate(&thin, 4).unwrap_err();
+    assert_eq!(refused.refusal(), Refusal::Clash);
+    let Some(Cause::Cell { cell, centre, labels }) = refused.cause() else { panic!("{refused}") };
+    assert_eq!(labels.map(|label| label.number()), [0, 1]);
+    assert!(cell.iter().all(|&n| n < 6) && centre.iter().all(|x| x.abs() < 1.5));
+    assert!(refused.to_string().ends_with(") lies on both levels (labels 0 and 1)"), "{refused}");
+    assert_eq!(refused.advice(), "draw with more cells, so that the band is wider than a cell");
 }
 
 #[test]
@@ -104,42 +202,56 @@ fn edge_8() {
     let mut open = cube();
     open.quads.pop();
     open.labels.pop();
-    assert_eq!(open.subdivide(&unit_box()), Err(Refusal::Edge));
-    assert_eq!(open.boundary_rows(&unit_box()), Err(Refusal::Edge));
+    let text = "the edge from point 4 to point 5 has 1 quad";
+    told(open.subdivide(&unit_box()), Refusal::Edge, text);
+    told(open.boundary_rows(&unit_box()), Refusal::Edge, text);
+    let mut thick = cube();
+    thick.quads.push(thick.quads[3]);
+    thick.labels.push(thick.labels[3]);
+    told(thick.subdivide(&unit_box()), Refusal::Edge, "the edge from point 2 to point 3 has 3 quads");
 }
 
 #[test]
 fn astray_9() {
-    let mut sheet = cube();
-    sheet.labels.fill(0);
-    let field = Field::Plane { a: 0.0, b: 0.0, c: 0.0, d: 0.0 };
-    assert_eq!(sheet.subdivide(&Band { field, ..unit_box() }), Err(Refusal::Astray));
+    let midpoint = "the midpoint of the edge from point 0 to point 1";
+    let level = |upper| all_labelled(0).subdivide(&Band { upper, ..unit_box() });
+    told(level(2.0), Refusal::Astray, &format!("{midpoint} does not reach its level in twenty moves"));
+    told(level(1.5), Refusal::Astray, &format!("{midpoint} leaves the box on the way to its level"));
+    let text = format!("{midpoint} lies where the field is flat or not finite");
+    let refused = told(all_labelled(0).subdivide(&flat()), Refusal::Astray, &text);
+    assert_eq!(refused.advice(), "move the levels away from where the field is flat");
 }
 
 #[test]
 fn row_10() {
-    let field = Field::Plane { a: 0.0, b: 0.0, c: 0.0, d: 0.0 };
-    assert_eq!(labelled(5, 0).boundary_rows(&Band { field, ..unit_box() }), Err(Refusal::Row));
+    let text = "the copy of point 4 on the upper level (label 0)";
+    told(labelled(5, 0).boundary_rows(&flat()), Refusal::Row, text);
 }
 
 #[test]
 fn normal_11() {
-    let field = Field::Plane { a: 0.0, b: 0.0, c: 0.0, d: 0.0 };
-    assert_eq!(labelled(5, 0).quality(&Band { field, ..unit_box() }), Err(Refusal::Normal));
+    let measure = |field| labelled(5, 0).quality(&Band { field, ..unit_box() });
+    let text = "at the centre of quad 5 the gradient is (0.0, 0.0, 0.0)";
+    let refused = told(measure(flat().field), Refusal::Normal, text);
+    assert_eq!(refused.advice(), "move the levels away from where the field is flat");
+    let text = "at the centre of quad 5 the gradient is (NaN, 0.0, 1e200)";
+    let refused = told(measure(Field::Plane { a: f64::NAN, b: 0.0, c: 1e200, d: 0.0 }), Refusal::Normal, text);
+    assert_eq!(refused.advice(), "give finite and smaller numbers for the field");
 }
 
 #[test]
 fn large_12() {
-    let sheet = Sheet { points: vec![[0.0; 3]; LIMIT + 1], quads: vec![], labels: vec![] };
-    refused(&sheet, &unit_box(), Refusal::Large);
-    assert_eq!(sheet.refine(), Err(Refusal::Large));
+    let sheet = Sheet { points: vec![[0.0; 3]; LIMIT + 1], quads: vec![[0; 4]], labels: vec![] };
+    let text = "it has 1048577 points, 1 quad and 0 labels";
+    refused(&sheet, &unit_box(), Refusal::Large, text);
+    told(sheet.refine(), Refusal::Large, text);
 }
 
 #[test]
 fn short_13_where_the_result_is_above_the_limit() {
     let n = LIMIT / 4 + 1;
     let sheet = Sheet { points: vec![[0.0; 3]; 4], quads: vec![[0, 1, 2, 3]; n], labels: vec![0; n] };
-    assert_eq!(sheet.refine(), Err(Refusal::Short));
+    told(sheet.refine(), Refusal::Short, "");
 }
 
 #[test]

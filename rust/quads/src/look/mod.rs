@@ -1,0 +1,52 @@
+//! Looks at what an operation was handed, after it refused, for what made it refuse. The library's number stands: a
+//! look finds causes of that number, or none.
+mod arithmetic;
+mod band;
+mod cells;
+mod finer;
+mod grid;
+mod normals;
+mod rows;
+mod sheet;
+
+use crate::band::Band;
+use crate::cause::Cause;
+use crate::refusal::Refusal;
+use crate::sheet::Sheet;
+
+/// Why drawing refused.
+pub(crate) fn drawing(refusal: Refusal, band: &Band, cells: usize) -> Option<Cause> {
+    match refusal {
+        Refusal::Box => band::fault(band),
+        Refusal::Samples => band::number(&band.field).or_else(|| grid::sample(band, cells)),
+        Refusal::Bare => grid::missed(band, cells),
+        Refusal::Clash => cells::clash(band, cells),
+        _ => None,
+    }
+}
+
+/// Why `refine` refused a sheet: it looks at less of it than the other operations.
+pub(crate) fn refining(refusal: Refusal, sheet: &Sheet) -> Option<Cause> {
+    match refusal {
+        Refusal::Large => Some(Cause::Large(sheet.counts())),
+        Refusal::Bare => sheet::labels(sheet),
+        Refusal::Corner => sheet::range(sheet),
+        _ => None,
+    }
+}
+
+/// Why another operation refused a sheet. What a sheet has not itself, the sheet that was to be made has.
+pub(crate) fn lent(refusal: Refusal, sheet: &Sheet, band: &Band) -> Option<Cause> {
+    match refusal {
+        Refusal::Large => Some(Cause::Large(sheet.counts())),
+        Refusal::Box => band::fault(band),
+        Refusal::Bare => sheet::bare(sheet).or_else(|| finer::smoothed(sheet)),
+        Refusal::Corner => sheet::corner(sheet),
+        Refusal::Clash => sheet::clash(sheet).or_else(|| rows::borderless(sheet)),
+        Refusal::Edge => sheet::edge(sheet),
+        Refusal::Astray => finer::astray(sheet, band),
+        Refusal::Row => rows::row(sheet, band),
+        Refusal::Normal => normals::normal(sheet, band),
+        _ => None,
+    }
+}

@@ -1,0 +1,108 @@
+//! Sheets and bands that are spoiled at random: what is refused has a cause, and the cause is there.
+mod common;
+#[path = "damaged/random.rs"]
+mod random;
+
+use common::{bowl, cube, edges, shell, unit_box};
+use quads::{Band, Cause, Field, Refusal, Refused, Sheet, Workspace};
+use random::Random;
+use std::collections::BTreeMap;
+
+/// Numbers that spoil a float.
+const FLOATS: [f64; 8] = [0.0, 0.5, -3.0, 1e-200, 1e200, 1.5e308, f64::NAN, f64::INFINITY];
+
+/// Spoils one thing of a sheet.
+fn spoil_sheet(sheet: &mut Sheet, random: &mut Random) {
+    let (points, quads) = (sheet.points.len(), sheet.quads.len());
+    match random.below(7) {
+        0 => sheet.points[random.below(points)][random.below(3)] = random.pick(&FLOATS),
+        1 => sheet.quads[random.below(quads)][random.below(4)] = random.below(points + 1) as u32,
+        2 => sheet.labels[random.below(quads)] = random.below(9) as u8,
+        3 => sheet.points.push([0.5; 3]),
+        4 => sheet.labels.fill(random.below(8) as u8),
+        5 => {
+            sheet.quads.pop();
+            sheet.labels.truncate(quads - random.below(2));
+        }
+        _ => {}
+    }
+}
+
+/// Spoils one thing of a band.
+fn spoil_band(band: &mut Band, random: &mut Random) {
+    let float = random.pick(&FLOATS);
+    match random.below(8) {
+        0 => band.lower = float,
+        1 => band.upper = float,
+        2 => band.low[random.below(3)] = float,
+        3 => band.high[random.below(3)] = float,
+        4 => band.field = Field::Plane { a: float, b: 0.0, c: 0.0, d: 0.0 },
+        5 => band.field = Field::Quadric([float, 1.0, 1.0, 0.0, 0.0, 0.0, 0.0, 0.0, 0.0, 0.0]),
+        _ => {}
+    }
+}
+
+/// What the operations that take a sheet refuse.
+fn refusals(workspace: &mut Workspace, sheet: &Sheet, band: &Band) -> Vec<Refused> {
+    let made = [workspace.refine(sheet), workspace.subdivide(sheet, band), workspace.boundary_rows(sheet, band)];
+    let altered = workspace.coarsen(&mut sheet.clone(), band, 1).err();
+    let measured = workspace.quality(sheet, band).err();
+    made.into_iter().filter_map(Result::err).chain(altered).chain(measured).collect()
+}
+
+/// Whether what a cause says of a sheet is so, as far as that is seen in the sheet alone.
+fn is_so(cause: Cause, sheet: &Sheet) -> bool {
+    let labels_at = |point: usize| {
+        let quads = sheet.quads.iter().zip(&sheet.labels);
+        quads.filter(|(quad, _)| quad.contains(&(point as u32))).map(|(_, &label)| label).collect::<Vec<u8>>()
+    };
+    match cause {
+        Cause::Labels { quads, labels } => (quads, labels) == (sheet.quads.len(), sheet.labels.len()),
+        Cause::Point { point, .. } => sheet.points[point].iter().any(|x| !x.is_finite()),
+        Cause::Label { quad, label } => sheet.labels[quad] == label && label > 7,
+        Cause::Range { quad, corner, point, .. } => {
+            sheet.quads[quad][corner] == point && point as usize >= sheet.points.len()
+        }
+        Cause::Twice { quad, corners: [i, j], .. } => i < j && sheet.quads[quad][i] == sheet.quads[quad][j],
+        Cause::Unused(point) => labels_at(point).is_empty(),
+        Cause::Opposite { point, labels } => labels.iter().all(|label| labels_at(point).contains(&label.number())),
+        Cause::Edge { points: [a, b], quads } => quads != 2 && edges(sheet)[&(a, b)] == quads,
+        Cause::Row { point, label } => labels_at(point).contains(&label.number()),
+        Cause::Normal { quad, .. } => sheet.labels[quad] < 2,
+        _ => true,
+    }
+}
+
+#[test]
+fn each_refusal_of_a_sheet_has_its_cause() {
+    let (mut random, mut workspace, mut seen) = (Random(1), Workspace::new(), BTreeMap::new());
+    let drawn = |band: &Band| (Sheet::extract_candidate(band, 8).unwrap(), *band);
+    let start = [(cube(), unit_box()), drawn(&shell()), drawn(&bowl())];
+    for _ in 0..3000 {
+        let (mut sheet, mut band) = start[random.below(3)].clone();
+        spoil_sheet(&mut sheet, &mut random);
+        spoil_band(&mut band, &mut random);
+        for refused in refusals(&mut workspace, &sheet, &band) {
+            let cause = refused.cause().unwrap_or_else(|| panic!("{refused}: {sheet:?} {band:?}"));
+            assert_eq!(cause.refusal(), refused.refusal());
+            assert!(is_so(cause, &sheet), "{refused}: {sheet:?}");
+            *seen.entry(refused.refusal().number()).or_insert(0) += 1;
+        }
+    }
+    assert!(seen.into_keys().eq([1, 5, 6, 7, 8, 9, 10, 11]));
+}
+
+#[test]
+fn each_refusal_to_draw_has_its_cause() {
+    let (mut random, mut workspace, mut seen) = (Random(2), Workspace::new(), BTreeMap::new());
+    for _ in 0..2000 {
+        let mut band = random.pick(&[shell(), bowl()]);
+        spoil_band(&mut band, &mut random);
+        band.lower += 0.05 * random.below(10) as f64;
+        let Err(refused) = workspace.extract_candidate(&band, 4 + random.below(3)) else { continue };
+        let is_plain = !matches!(refused.refusal(), Refusal::Bottomless | Refusal::Clash);
+        assert!(refused.cause().is_some() || !is_plain, "{refused}: {band:?}");
+        *seen.entry(refused.refusal().number()).or_insert(0) += 1;
+    }
+    assert!(seen.into_keys().eq([1, 4, 5, 7]));
+}
