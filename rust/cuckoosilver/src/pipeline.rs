@@ -7,7 +7,7 @@ use crate::ply;
 use crate::problem::Problem;
 use crate::setting::Setting;
 use crate::step::{Action, Step};
-use quads::{Counts, Sheet};
+use quads::{Counts, Sheet, Workspace};
 use std::fmt::Arguments;
 use std::fs;
 use std::io::Write;
@@ -19,6 +19,7 @@ pub struct Pipeline<'a> {
     out: &'a mut dyn Write,
     log: &'a mut dyn Write,
     sheet: Sheet,
+    workspace: Workspace,
     parts: Parts,
     view: View,
     ascii: bool,
@@ -28,8 +29,9 @@ pub struct Pipeline<'a> {
 impl<'a> Pipeline<'a> {
     /// Nothing yet; results go to `out`, progress to `log`.
     pub fn new(out: &'a mut dyn Write, log: &'a mut dyn Write) -> Pipeline<'a> {
-        let (sheet, parts, view) = (Sheet::default(), Parts::default(), View::default());
-        Pipeline { out, log, sheet, parts, view, ascii: false, quiet: false }
+        let (sheet, workspace) = (Sheet::default(), Workspace::new());
+        let (parts, view) = (Parts::default(), View::default());
+        Pipeline { out, log, sheet, workspace, parts, view, ascii: false, quiet: false }
     }
 
     /// Runs all steps, up to the first problem.
@@ -81,22 +83,24 @@ impl<'a> Pipeline<'a> {
 
     /// Prints what is asked of the sheet's quality.
     fn print(&mut self, report: Report) -> Result<(), Problem> {
-        let quality = self.sheet.quality(&self.parts.band()?)?;
+        let quality = self.workspace.quality(&self.sheet, &self.parts.band()?)?;
         print(self.out, &report.text(&quality))
     }
 
     /// Works on the sheet: what was done.
     fn operate(&mut self, operation: &Operation) -> Result<String, Problem> {
-        let (sheet, parts) = (&mut self.sheet, self.parts);
+        let (sheet, parts, work) = (&mut self.sheet, self.parts, &mut self.workspace);
         let mut counted = String::new();
         match operation {
-            Operation::Draw(cells) => *sheet = Sheet::extract_candidate(&parts.band()?, *cells)?,
-            Operation::Refine => *sheet = sheet.refine()?,
-            Operation::Subdivide => *sheet = sheet.subdivide(&parts.band()?)?,
-            Operation::Rows => *sheet = sheet.boundary_rows(&parts.band()?)?,
-            Operation::Regularize(passes) => counted = count(sheet.regularize(&parts.band()?, *passes)?, "swaps"),
-            Operation::Improve(passes) => counted = count(sheet.improve_layout(&parts.band()?, *passes)?, "swaps"),
-            Operation::Coarsen(passes) => counted = count(sheet.coarsen(&parts.band()?, *passes)?, "merges"),
+            Operation::Draw(cells) => *sheet = work.extract_candidate(&parts.band()?, *cells)?,
+            Operation::Refine => *sheet = work.refine(sheet)?,
+            Operation::Subdivide => *sheet = work.subdivide(sheet, &parts.band()?)?,
+            Operation::Rows => *sheet = work.boundary_rows(sheet, &parts.band()?)?,
+            Operation::Regularize(passes) => counted = count(work.regularize(sheet, &parts.band()?, *passes)?, "swaps"),
+            Operation::Improve(passes) => {
+                counted = count(work.improve_layout(sheet, &parts.band()?, *passes)?, "swaps");
+            }
+            Operation::Coarsen(passes) => counted = count(work.coarsen(sheet, &parts.band()?, *passes)?, "merges"),
             Operation::Read(file) => self.read(file)?,
             Operation::Write(file) => return self.write(file),
             Operation::Picture(file) => return self.picture(file),

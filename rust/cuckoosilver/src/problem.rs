@@ -1,5 +1,5 @@
 //! What can go wrong, and how it is told.
-use quads::Refusal;
+use quads::Refused;
 use std::fmt;
 use std::path::{Path, PathBuf};
 
@@ -12,8 +12,8 @@ pub enum Problem {
     Refused {
         /// The step as it was written.
         step: String,
-        /// Why.
-        refusal: Refusal,
+        /// Why and where.
+        refused: Refused,
     },
     /// A file cannot be read or written: exit code 1.
     File {
@@ -33,7 +33,7 @@ impl Problem {
     /// The same problem, met at a step.
     pub fn at(self, text: &str) -> Problem {
         match self {
-            Problem::Refused { refusal, .. } => Problem::Refused { step: text.into(), refusal },
+            Problem::Refused { refused, .. } => Problem::Refused { step: text.into(), refused },
             other => other,
         }
     }
@@ -47,9 +47,9 @@ impl Problem {
     }
 }
 
-impl From<Refusal> for Problem {
-    fn from(refusal: Refusal) -> Problem {
-        Problem::Refused { step: "the step".into(), refusal }
+impl From<Refused> for Problem {
+    fn from(refused: Refused) -> Problem {
+        Problem::Refused { step: "the step".into(), refused }
     }
 }
 
@@ -57,8 +57,8 @@ impl fmt::Display for Problem {
     fn fmt(&self, f: &mut fmt::Formatter<'_>) -> fmt::Result {
         match self {
             Problem::Usage(what) => write!(f, "{what}\n`cuckoosilver --help` tells the steps and options"),
-            Problem::Refused { step, refusal } => {
-                write!(f, "{step} is refused: {refusal}\nwhat to do: {}", refusal.advice())
+            Problem::Refused { step, refused } => {
+                write!(f, "{step} is refused: {refused}\nwhat to do: {}", refused.advice())
             }
             Problem::File { path, what } => write!(f, "{}: {what}", path.display()),
         }
@@ -68,10 +68,11 @@ impl fmt::Display for Problem {
 #[cfg(test)]
 mod tests {
     use super::*;
+    use quads::Refusal;
 
     #[test]
     fn a_refusal_is_told_with_number_word_and_advice() {
-        let problem = Problem::from(Refusal::Cells).at("draw 3");
+        let problem = Problem::from(Refused::from(Refusal::Cells)).at("draw 3");
         assert_eq!(
             problem.to_string(),
             "draw 3 is refused: 3 cells: the number of cells is not from 4 to 128\nwhat to do: draw with 4 to 128 cells"
