@@ -1,5 +1,6 @@
 //! The words of a command line, one after the other.
 use crate::problem::Problem;
+use std::num::{IntErrorKind, ParseIntError};
 
 /// What is left of the words.
 pub struct Words<'a> {
@@ -42,18 +43,24 @@ impl<'a> Words<'a> {
 
     /// The next word as a count, which `of` needs.
     pub fn count(&mut self, of: &str, what: &str) -> Result<usize, Problem> {
-        let word = self.operand(of, what)?;
-        word.parse().map_err(|_| Problem::Usage(format!("{of} needs {what}; {word} is not a whole number")))
+        whole(self.operand(of, what)?).map_err(|wrong| Problem::Usage(format!("{of} needs {what}; {wrong}")))
     }
 
     /// The next word if it is a count, else the default.
-    pub fn count_or(&mut self, default: usize) -> usize {
-        let Some(count) = self.left.first().and_then(|word| word.parse().ok()) else {
-            return default;
-        };
-        self.next();
-        count
+    pub fn count_or(&mut self, of: &str, default: usize) -> Result<usize, Problem> {
+        if !self.left.first().is_some_and(|word| word.starts_with(|c: char| c == '+' || c.is_ascii_digit())) {
+            return Ok(default);
+        }
+        self.count(of, "PASSES")
     }
+}
+
+/// A word as a whole number, or what is wrong with it.
+fn whole(word: &str) -> Result<usize, String> {
+    word.parse().map_err(|error: ParseIntError| match error.kind() {
+        IntErrorKind::PosOverflow => format!("{word} is too large, the largest is {}", usize::MAX),
+        _ => format!("{word} is not a whole number"),
+    })
 }
 
 #[cfg(test)]
@@ -70,7 +77,7 @@ mod tests {
         let mut words = Words::new(&words);
         assert_eq!(words.floats::<3>("--plane"), Ok([1.0, -2500.0, f64::NEG_INFINITY]));
         assert_eq!(words.count("draw", "CELLS"), Ok(7));
-        assert_eq!(words.count_or(1), 1);
+        assert_eq!(words.count_or("coarsen", 1), Ok(1));
         assert_eq!(words.next(), Some("x"));
         assert_eq!(words.next(), None);
     }

@@ -17,11 +17,16 @@ fn a_refusal_names_the_step_the_number_the_word_and_what_to_do() {
     let told = ["cuckoosilver: draw 3 is refused: 3 cells: ", "what to do: draw with 4 to 128 cells"];
     ends(&format!("{SHELL} draw 3"), 1, &told);
     ends(&format!("{SHELL} draw 129"), 1, &["3 cells"]);
-    ends(&format!("{SHELL} --levels 1 0 draw 8"), 1, &["1 box"]);
+    ends(&format!("{SHELL} --levels 1 0 draw 8"), 1, &["1 box", ": the lower level 1.0 is not below 0.0\n"]);
     ends(&format!("{SHELL} --levels -inf 0.5 draw 8"), 1, &["2 bottomless"]);
-    ends(&format!("{SHELL} --plane 1e308 1e308 1e308 0 --box -9 -9 -9 9 9 9 draw 8"), 1, &["4 samples"]);
-    ends(&format!("{SHELL} --levels 8 9 draw 8"), 1, &["5 bare"]);
-    ends(&format!("{SHELL} --box -1 -1 -1 1 1 0.1 draw 4"), 1, &["7 clash"]);
+    let told = ["4 samples", ": at place (0, 0, 0), the point (", ", the field is -inf\n", "use smaller numbers"];
+    ends(&format!("{SHELL} --plane 1e308 1e308 1e308 0 --box -9 -9 -9 9 9 9 draw 8"), 1, &told);
+    let told = ["4 samples", ": the field's number d is NaN\n", "what to do: give finite numbers for the field"];
+    ends(&format!("{SHELL} --plane 0 0 1 nan draw 8"), 1, &told);
+    let told = ["5 bare", ", nowhere between the levels 8.0 and 9.0\n", "give levels that the field takes in the box"];
+    ends(&format!("{SHELL} --levels 8 9 draw 8"), 1, &told);
+    let told = ["7 clash", ") lies on both levels (labels 0 and 1)\n", "draw with more cells"];
+    ends(&format!("{SHELL} --levels 0.6 0.64 --box -1 -1 -1 1 1 0.1 draw 4"), 1, &told);
 }
 
 #[test]
@@ -42,6 +47,10 @@ fn a_wrong_command_line_is_told_before_anything_is_done() {
     }
     ends(&format!("{SHELL} draw 8 display paint"), 2, &["paint is no step and no option"]);
     ends("draw 8", 2, &["the band is not whole: give --plane, --ball or --quadric"]);
+    let large = "99999999999999999999";
+    ends(&format!("draw {large}"), 2, &[format!("draw needs CELLS; {large} is too large").as_str()]);
+    let told = format!("coarsen needs PASSES; {large} is too large");
+    ends(&format!("{SHELL} draw 8 coarsen {large}"), 2, &[told.as_str()]);
     ends("--ball 0 0 0 0 --box 0 0 0 1 1 1 draw 8", 2, &["give --levels"]);
 }
 
@@ -81,6 +90,8 @@ fn a_wrong_file_is_told() {
     reads("short", &file(&[("4 0 1 2 3 0\n", "4 0 1")]), "", 1, "a.ply: face 0: the file ends too early");
     reads("triangle", &file(&[("4 0 1 2 3 0", "3 0 1 2 0")]), "", 1, "face 0: it has 3 corners");
     reads("negative", &file(&[("4 0 1 2 3 0", "4 0 1 2 -3 0")]), "", 1, "a corner is -3");
+    let large = file(&[("4 0 1 2 3 0", "4 0 1 2 5000000000 0")]);
+    reads("large", &large, "", 1, "a corner is 5000000000, which is no whole number from 0 to 4294967295");
     reads("word", &file(&[("1 1 0", "1 one 0")]), "", 1, "vertex 2: one is not a number");
     reads("plainest", &file(&[("property uchar label\n", "")]), "", 1, "face 0: it has neither a label nor a colour");
     reads("big", &file(&[("ascii", "binary_big_endian")]), "", 1, "binary_big_endian is not read");
@@ -93,9 +104,13 @@ fn a_wrong_file_is_told() {
 #[test]
 fn a_wrong_sheet_is_refused_by_the_library() {
     reads("open", &file(&[]), "subdivide", 1, "subdivide is refused: 8 edge");
+    reads("border", &file(&[]), "rows", 1, ": the edge from point 0 to point 1 has 1 quad\n");
     reads("corner", &file(&[("4 0 1 2 3 0", "4 0 1 2 4 0")]), "quality", 1, "quality is refused: 6 corner");
+    let far = file(&[("4 0 1 2 3 0", "4 0 1 2 4 0")]);
+    reads("far", &far, "page", 1, ": corner 3 of quad 0 is point 4, and there are 4 points\n");
     reads("unused", &file(&[("4 0 1 2 3 0", "4 0 1 2 3 9")]), "page", 1, "page is refused: 6 corner");
     reads("nan", &file(&[("1 1 0", "1 nan 0")]), "rows", 1, "rows is refused: 5 bare");
+    reads("place", &file(&[("1 1 0", "1 nan 0")]), "rows", 1, ": point 2 is (1.0, NaN, 0.0)\n");
 }
 
 #[test]

@@ -81,7 +81,7 @@ fn whole(value: f64, what: &str) -> Result<u32, String> {
     if value >= 0.0 && value <= f64::from(u32::MAX) && value.fract() == 0.0 {
         return Ok(value as u32);
     }
-    Err(format!("{what} is {value}, which is no whole number from 0"))
+    Err(format!("{what} is {value}, which is no whole number from 0 to {}", u32::MAX))
 }
 
 /// The point of a vertex.
