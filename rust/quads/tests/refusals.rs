@@ -215,11 +215,12 @@ fn edge_8() {
 fn astray_9() {
     let midpoint = "the midpoint of the edge from point 0 to point 1";
     let level = |upper| all_labelled(0).subdivide(&Band { upper, ..unit_box() });
-    told(level(2.0), Refusal::Astray, &format!("{midpoint} does not reach its level in twenty moves"));
+    let refused = told(level(2.0), Refusal::Astray, &format!("{midpoint} does not reach its level in twenty moves"));
+    assert!(refused.advice().starts_with("give the band around which the sheet was drawn"));
     told(level(1.5), Refusal::Astray, &format!("{midpoint} leaves the box on the way to its level"));
     let text = format!("{midpoint} lies where the field is flat or not finite");
     let refused = told(all_labelled(0).subdivide(&flat()), Refusal::Astray, &text);
-    assert_eq!(refused.advice(), "move the levels away from where the field is flat");
+    assert!(refused.advice().starts_with("move the levels away from where the field is flat, or"));
 }
 
 #[test]

@@ -224,7 +224,10 @@ impl Cause {
             Cause::Normal { gradient, .. } if !gradient.iter().all(|slope| slope.abs() < 1e150) => {
                 Some("give finite and smaller numbers for the field")
             }
-            Cause::Astray { miss: Miss::Flat, .. } => Some("move the levels away from where the field is flat"),
+            Cause::Astray { miss: Miss::Flat, .. } => {
+                Some("move the levels away from where the field is flat, or give finite numbers for the field")
+            }
+            Cause::Astray { .. } => Some("give the band around which the sheet was drawn, or draw with more cells"),
             _ => None,
         }
     }
