@@ -78,7 +78,7 @@ fn each_refusal_of_a_sheet_has_its_cause() {
     let (mut random, mut workspace, mut seen) = (Random(1), Workspace::new(), BTreeMap::new());
     let drawn = |band: &Band| (Sheet::extract_candidate(band, 8).unwrap(), *band);
     let start = [(cube(), unit_box()), drawn(&shell()), drawn(&bowl())];
-    for _ in 0..3000 {
+    for _ in 0..1500 {
         let (mut sheet, mut band) = start[random.below(3)].clone();
         spoil_sheet(&mut sheet, &mut random);
         spoil_band(&mut band, &mut random);
