@@ -56,13 +56,23 @@ impl Parts {
         }
     }
 
-    /// The band, if it is whole.
+    /// The band, if it is whole; else an error that tells all the parts that are missing.
     pub fn band(&self) -> Result<Band, Problem> {
-        let missing = |what: &str| Problem::Usage(format!("the band is not whole: give {what}"));
-        let field = self.field.ok_or_else(|| missing("--plane, --ball or --quadric"))?;
-        let [x, y, z, high_x, high_y, high_z] = self.bounds.ok_or_else(|| missing("--box"))?;
-        let [lower, upper] = self.levels.ok_or_else(|| missing("--levels"))?;
+        let (Some(field), Some(bounds), Some([lower, upper])) = (self.field, self.bounds, self.levels) else {
+            return Err(Problem::Usage(format!("the band is not whole: give {}", self.missing().join(", and "))));
+        };
+        let [x, y, z, high_x, high_y, high_z] = bounds;
         Ok(Band { field, low: [x, y, z], high: [high_x, high_y, high_z], lower, upper })
+    }
+
+    /// The options of the parts that are missing.
+    fn missing(&self) -> Vec<&'static str> {
+        let parts = [
+            (self.field.is_none(), "--plane, --ball or --quadric"),
+            (self.bounds.is_none(), "--box"),
+            (self.levels.is_none(), "--levels"),
+        ];
+        parts.into_iter().filter(|(missing, _)| *missing).map(|(_, options)| options).collect()
     }
 
     /// The options that give these parts.
@@ -115,7 +125,9 @@ mod tests {
     }
 
     #[test]
-    fn a_missing_part_is_told() {
+    fn missing_parts_are_told_at_once() {
+        let nothing = "the band is not whole: give --plane, --ball or --quadric, and --box, and --levels";
+        assert_eq!(Parts::default().band(), Err(Problem::Usage(nothing.into())));
         let parts = parse("--plane 0 0 1 0 --levels 0 1").unwrap();
         assert_eq!(parts.band(), Err(Problem::Usage("the band is not whole: give --box".into())));
         assert!(parts.or(parse("--box 0 0 0 1 1 1 --levels 5 6").unwrap()).band().is_ok_and(|band| band.upper == 1.0));

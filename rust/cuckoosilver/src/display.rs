@@ -43,9 +43,14 @@ const NAMES: [&str; 8] =
 
 /// Prints a text.
 pub fn print(out: &mut dyn Write, text: &str) -> Result<(), Problem> {
-    out.write_all(text.as_bytes())
+    send(out, text.as_bytes())
+}
+
+/// Writes bytes to standard output.
+pub fn send(out: &mut dyn Write, bytes: &[u8]) -> Result<(), Problem> {
+    out.write_all(bytes)
         .and_then(|()| out.flush())
-        .map_err(|error| Problem::file(Path::new("standard output"), error))
+        .map_err(|error| Problem::written(Path::new("standard output"), &error))
 }
 
 /// The two-line display, 20 columns wide: the quads, and the points whose quads are not one ring.

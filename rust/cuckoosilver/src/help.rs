@@ -9,12 +9,12 @@ usage: cuckoosilver [OPTION | STEP]...
        cuckoosilver example [FOLDER]
 
 Steps are done in the order given; an option holds for the steps after it.
-With no words it runs the example. Results go to standard output, progress to
-standard error.
+With no words it runs the example. Results go to standard output, progress and
+warnings to standard error.
 
 steps that bring or change the sheet
   draw CELLS              draw the sheet around the band, with 4 to 128 cells
-  read FILE.ply           read a sheet
+  read FILE.ply           read a sheet; - is standard input
   refine                  make each quad four
   subdivide               refine, smooth and put back onto the band
   rows                    add a row of quads along each border between labels
@@ -26,35 +26,44 @@ steps that show the sheet
   display                 two lines: the quads, and the bad points
   page                    eight counts, one a line
   quality                 the counts and all measures
-  write FILE.ply          write the sheet, its labels as colours too
+  check                   go on only if the sheet is valid: closed, the quads of
+                          each point one ring, no quad twice or turned over
+  write FILE.ply          write the sheet, its labels as colours too; - is
+                          standard output: all else goes to standard error then
   picture FILE.svg|.png   draw a picture of the sheet
 
 options
   --plane A B C D         the field a*x + b*y + c*z - d
-  --ball X Y Z R          the squared distance from (x, y, z), less r
+  --ball X Y Z R          the squared distance from (x, y, z), less r; so r is
+                          no radius: level L is the sphere of radius sqrt(L + r)
   --quadric K0 .. K9      k0*x*x + k1*y*y + k2*z*z + k3*x*y + k4*y*z + k5*z*x
                           + k6*x + k7*y + k8*z + k9
   --box X Y Z X Y Z       the low corner of the box, then the high corner
   --levels LOWER UPPER    the band is where the field is between the two
+  --label N               the label, 0 to 7, of quads that are read with neither
+                          a label nor a colour
   --ascii, --binary       how PLY files are written; binary where not given
   --view X Y Z            where pictures are seen from; 1 -1.6 1.5
   --size PIXELS           the side of pictures, 16 to 4096; 800
-  --quiet                 no progress
+  --quiet                 no progress and no warnings
   --help, --version
 
 A file that was written has its band in a comment, so a sheet that is read
-needs no options.
+needs no options. A file that is there already is replaced once the new one is
+whole. After each step that brings or changes the sheet, a warning tells of bad
+points and of quads turned over or collapsed that were not there before.
 
 examples
   cuckoosilver --ball 0 0 0 0 --box -1 -1 -1 1 1 1 --levels 0.25 0.64 \\
       draw 32 coarsen 4 regularize 8 quality write shell.ply
-  cuckoosilver read shell.ply subdivide display picture shell.png
+  cuckoosilver read shell.ply subdivide check display picture shell.png
   cuckoosilver --plane 0 0 1 0 --box 0 0 0 4 4 4 --levels 1 2 \\
       draw 8 rows page
 
 exit codes
-  0 all steps are done; 1 a step is refused, or a file cannot be read or
-  written; 2 the command line is wrong. A refusal has a number and a word:
+  0 all steps are done; 1 a step is refused, a sheet that is checked is not
+  valid, or a file cannot be read or written; 2 the command line is wrong;
+  141 nobody reads what is written. A refusal has a number and a word:
    1 box     2 bottomless  3 cells   4 samples  5 bare    6 corner  7 clash
    8 edge    9 astray     10 row    11 normal  12 large  13 short
 ";

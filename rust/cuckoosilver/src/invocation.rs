@@ -26,11 +26,11 @@ impl Invocation {
     pub fn parse(words: &[String]) -> Result<Invocation, Problem> {
         let texts: Vec<&str> = words.iter().map(String::as_str).collect();
         match texts[..] {
-            [] | ["example"] => Ok(Invocation::Example(None)),
-            ["example", folder] => Ok(Invocation::Example(Some(folder.into()))),
-            ["example", ..] => Err(Problem::Usage("example takes one folder at most".into())),
             _ if texts.iter().any(|&word| word == "--help" || word == "-h") => Ok(Invocation::Help),
-            ["--version"] => Ok(Invocation::Version),
+            _ if texts.contains(&"--version") => Ok(Invocation::Version),
+            [] | ["example"] => Ok(Invocation::Example(None)),
+            ["example", folder] if !folder.starts_with('-') => Ok(Invocation::Example(Some(folder.into()))),
+            ["example", ..] => Err(Problem::Usage("example takes one folder at most, and no options".into())),
             _ => steps(words).map(Invocation::Steps),
         }
     }
@@ -49,11 +49,19 @@ impl Invocation {
 /// The steps of a command line, of which the first brings a sheet.
 pub fn steps(words: &[String]) -> Result<Vec<Step>, Problem> {
     let steps = step::parse(words)?;
+    at_most_once(&steps, "read -", "standard input holds one sheet")?;
+    at_most_once(&steps, "write -", "standard output takes one sheet")?;
     let first = steps.iter().map(|step| &step.action).find(|action| !matches!(action, Action::Set(_)));
     match first {
         Some(Action::Run(operation)) if operation.brings_sheet() => Ok(steps),
         _ => Err(Problem::Usage("there is no sheet: begin with draw CELLS or read FILE".into())),
     }
+}
+
+/// An error, with its reason, where a step is there twice.
+fn at_most_once(steps: &[Step], text: &str, why: &str) -> Result<(), Problem> {
+    let times = steps.iter().filter(|step| step.text == text).count();
+    if times < 2 { Ok(()) } else { Err(Problem::Usage(format!("{text} is there {times} times; {why}"))) }
 }
 
 #[cfg(test)]
@@ -74,6 +82,21 @@ mod tests {
     fn help_is_asked_for_anywhere() {
         assert_eq!(parse("draw 8 --help"), Ok(Invocation::Help));
         assert_eq!(parse("-h"), Ok(Invocation::Help));
+    }
+
+    #[test]
+    fn an_option_is_no_folder() {
+        assert_eq!(parse("example --help"), Ok(Invocation::Help));
+        assert_eq!(parse("example --version"), Ok(Invocation::Version));
+        assert!(matches!(parse("example --quiet"), Err(Problem::Usage(_))));
+    }
+
+    #[test]
+    fn standard_input_and_output_hold_one_sheet_each() {
+        assert!(parse("read - write - read a.ply write a.ply").is_ok());
+        for wrong in ["read - read -", "draw 8 write - write -"] {
+            assert!(matches!(parse(wrong), Err(Problem::Usage(_))), "{wrong}");
+        }
     }
 
     #[test]

@@ -1,6 +1,7 @@
 //! cuckoosilver: draws, cleans up, measures and shows labelled quad sheets.
 
 mod band;
+mod defects;
 mod display;
 mod example;
 mod help;
@@ -9,14 +10,18 @@ mod labels;
 mod operation;
 mod picture;
 mod pipeline;
+mod place;
 mod ply;
 mod problem;
+mod replace;
 mod setting;
+mod spelling;
 mod step;
 mod words;
 
 use invocation::Invocation;
 use problem::Problem;
+use std::io::Write;
 use std::process::ExitCode;
 
 /// The words of the command line.
@@ -37,7 +42,9 @@ fn main() -> ExitCode {
     match run() {
         Ok(()) => ExitCode::SUCCESS,
         Err(problem) => {
-            eprintln!("cuckoosilver: {problem}");
+            if problem != Problem::Closed {
+                let _ = writeln!(std::io::stderr(), "cuckoosilver: {problem}");
+            }
             ExitCode::from(problem.exit_code())
         }
     }

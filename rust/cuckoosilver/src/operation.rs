@@ -1,4 +1,5 @@
-//! The steps that bring, change, write or draw the sheet.
+//! The steps that bring, change, check, write or draw the sheet.
+use crate::place::Place;
 use crate::problem::Problem;
 use crate::words::Words;
 use std::path::{Path, PathBuf};
@@ -9,7 +10,7 @@ pub enum Operation {
     /// Draws the sheet around the band.
     Draw(usize),
     /// Reads a sheet.
-    Read(PathBuf),
+    Read(Place),
     /// Makes each quad four.
     Refine,
     /// Refines, smooths and projects.
@@ -22,8 +23,10 @@ pub enum Operation {
     Improve(usize),
     /// Merges corners.
     Coarsen(usize),
+    /// Asks whether the sheet is valid.
+    Check,
     /// Writes the sheet.
-    Write(PathBuf),
+    Write(Place),
     /// Draws a picture of the sheet.
     Picture(PathBuf),
 }
@@ -33,14 +36,15 @@ impl Operation {
     pub fn parse(word: &str, words: &mut Words) -> Result<Option<Operation>, Problem> {
         let operation = match word {
             "draw" => Operation::Draw(words.count(word, "CELLS")?),
-            "read" => Operation::Read(words.operand(word, "FILE.ply")?.into()),
+            "read" => Operation::Read(Place::to_read(words)?),
             "refine" => Operation::Refine,
             "subdivide" => Operation::Subdivide,
             "rows" => Operation::Rows,
             "regularize" => Operation::Regularize(words.count_or(word, 1)?),
             "improve" => Operation::Improve(words.count_or(word, 1)?),
             "coarsen" => Operation::Coarsen(words.count_or(word, 1)?),
-            "write" => Operation::Write(words.operand(word, "FILE.ply")?.into()),
+            "check" => Operation::Check,
+            "write" => Operation::Write(Place::to_write(words)?),
             "picture" => Operation::Picture(picture(words)?),
             _ => return Ok(None),
         };
@@ -49,18 +53,18 @@ impl Operation {
 
     /// Whether it brings a sheet, where none is needed before it.
     pub fn brings_sheet(&self) -> bool {
-        match self {
-            Operation::Draw(_) | Operation::Read(_) => true,
-            Operation::Refine | Operation::Subdivide | Operation::Rows => false,
-            Operation::Regularize(_) | Operation::Improve(_) | Operation::Coarsen(_) => false,
-            Operation::Write(_) | Operation::Picture(_) => false,
-        }
+        matches!(self, Operation::Draw(_) | Operation::Read(_))
+    }
+
+    /// Whether it leaves the sheet as it was.
+    pub fn keeps_sheet(&self) -> bool {
+        matches!(self, Operation::Check | Operation::Write(_) | Operation::Picture(_))
     }
 }
 
 /// A file for a picture, by its ending.
 fn picture(words: &mut Words) -> Result<PathBuf, Problem> {
-    let file = Path::new(words.operand("picture", "FILE.svg or FILE.png")?);
+    let file = Path::new(words.file("picture", "FILE.svg or FILE.png")?);
     match file.extension().and_then(|ending| ending.to_str()) {
         Some("svg" | "png") => Ok(file.into()),
         _ => Err(Problem::Usage(format!("picture needs FILE.svg or FILE.png, not {}", file.display()))),

@@ -1,15 +1,17 @@
 //! Runs steps, one after the other, on one sheet.
 use crate::band::Parts;
-use crate::display::{Report, print};
+use crate::defects::{self, Defects};
+use crate::display::{self, Report};
 use crate::operation::Operation;
 use crate::picture::{self, View};
+use crate::place::Place;
 use crate::ply;
 use crate::problem::Problem;
+use crate::replace;
 use crate::setting::Setting;
 use crate::step::{Action, Step};
 use quads::{Counts, Sheet, Workspace};
 use std::fmt::Arguments;
-use std::fs;
 use std::io::Write;
 use std::path::Path;
 use std::time::Instant;
@@ -20,22 +22,36 @@ pub struct Pipeline<'a> {
     log: &'a mut dyn Write,
     sheet: Sheet,
     workspace: Workspace,
+    defects: Defects,
     parts: Parts,
+    label: Option<u8>,
     view: View,
     ascii: bool,
     quiet: bool,
+    output_is_sheet: bool,
 }
 
 impl<'a> Pipeline<'a> {
     /// Nothing yet; results go to `out`, progress to `log`.
     pub fn new(out: &'a mut dyn Write, log: &'a mut dyn Write) -> Pipeline<'a> {
-        let (sheet, workspace) = (Sheet::default(), Workspace::new());
-        let (parts, view) = (Parts::default(), View::default());
-        Pipeline { out, log, sheet, workspace, parts, view, ascii: false, quiet: false }
+        Pipeline {
+            out,
+            log,
+            sheet: Sheet::default(),
+            workspace: Workspace::new(),
+            defects: Defects::default(),
+            parts: Parts::default(),
+            label: None,
+            view: View::default(),
+            ascii: false,
+            quiet: false,
+            output_is_sheet: false,
+        }
     }
 
     /// Runs all steps, up to the first problem.
     pub fn run(&mut self, steps: &[Step]) -> Result<(), Problem> {
+        self.output_is_sheet = steps.iter().any(Step::fills_output);
         steps.iter().try_for_each(|step| self.step(step).map_err(|problem| problem.at(&step.text)))
     }
 
@@ -47,7 +63,11 @@ impl<'a> Pipeline<'a> {
                 Ok(())
             }
             Action::Print(report) => self.print(*report),
-            Action::Run(operation) => self.run_and_tell(operation, &step.text),
+            Action::Run(operation) => {
+                self.run_and_tell(operation, &step.text)?;
+                self.warn(operation, &step.text);
+                Ok(())
+            }
         }
     }
 
@@ -58,9 +78,24 @@ impl<'a> Pipeline<'a> {
         let did = self.operate(operation);
         match &did {
             Ok(did) => self.tell(format_args!("{did}, {:.2} s\n", started.elapsed().as_secs_f64())),
+            Err(Problem::Closed) => self.tell(format_args!("stopped\n")),
             Err(_) => self.tell(format_args!("failed\n")),
         }
         did.map(|_| ())
+    }
+
+    /// Warns of defects that an operation left in the sheet and that were not there before. A sheet that cannot be
+    /// measured, since the band is not known or `quality` is refused, warns of nothing.
+    fn warn(&mut self, operation: &Operation, text: &str) {
+        if self.quiet || operation.keeps_sheet() {
+            return;
+        }
+        let before = if operation.brings_sheet() { Defects::default() } else { self.defects };
+        let quality = self.parts.band().and_then(|band| Ok(self.workspace.quality(&self.sheet, &band)?));
+        self.defects = quality.map(|quality| Defects::of(&quality)).unwrap_or_default();
+        if let Some(more) = self.defects.since(before) {
+            self.tell(format_args!("warning: after {text} the sheet has {more}\n"));
+        }
     }
 
     /// Writes to the log, unless the pipeline is quiet. A log that cannot be written is no reason to stop.
@@ -74,6 +109,7 @@ impl<'a> Pipeline<'a> {
     fn set(&mut self, setting: &Setting) {
         match *setting {
             Setting::Band(part) => self.parts.take(part),
+            Setting::Label(label) => self.label = Some(label),
             Setting::Ascii(ascii) => self.ascii = ascii,
             Setting::View(from) => self.view.from = from,
             Setting::Size(size) => self.view.size = size,
@@ -81,10 +117,11 @@ impl<'a> Pipeline<'a> {
         }
     }
 
-    /// Prints what is asked of the sheet's quality.
+    /// Prints what is asked of the sheet's quality; to the log, where the output is the sheet.
     fn print(&mut self, report: Report) -> Result<(), Problem> {
         let quality = self.workspace.quality(&self.sheet, &self.parts.band()?)?;
-        print(self.out, &report.text(&quality))
+        let out = if self.output_is_sheet { &mut *self.log } else { &mut *self.out };
+        display::print(out, &report.text(&quality))
     }
 
     /// Works on the sheet: what was done.
@@ -101,8 +138,9 @@ impl<'a> Pipeline<'a> {
                 counted = count(work.improve_layout(sheet, &parts.band()?, *passes)?, "swaps");
             }
             Operation::Coarsen(passes) => counted = count(work.coarsen(sheet, &parts.band()?, *passes)?, "merges"),
-            Operation::Read(file) => self.read(file)?,
-            Operation::Write(file) => return self.write(file),
+            Operation::Read(place) => self.read(place)?,
+            Operation::Check => return self.check(),
+            Operation::Write(place) => return self.write(place),
             Operation::Picture(file) => return self.picture(file),
         }
         let Counts { points, quads, .. } = self.sheet.counts();
@@ -110,23 +148,34 @@ impl<'a> Pipeline<'a> {
     }
 
     /// Reads a sheet. A band that stands in the file fills the parts that no option has given.
-    fn read(&mut self, file: &Path) -> Result<(), Problem> {
-        let bytes = fs::read(file).map_err(|error| Problem::file(file, error))?;
-        let (sheet, comments) = ply::read(&bytes).map_err(|wrong| Problem::file(file, wrong))?;
+    fn read(&mut self, place: &Place) -> Result<(), Problem> {
+        let wrong = |what: String| Problem::file(place.path(), what);
+        let (sheet, comments) = ply::read(&mut *place.open()?, self.label).map_err(wrong)?;
         let band = comments.iter().find_map(|comment| comment.strip_prefix(MARK));
         if let Some(band) = band {
             let words: Vec<String> = band.split_whitespace().map(String::from).collect();
-            let parts = Parts::parse(&words).map_err(|_| Problem::file(file, format!("its band is wrong:{band}")))?;
+            let parts = Parts::parse(&words).map_err(|_| wrong(format!("its band is wrong:{band}")))?;
             self.parts = self.parts.or(parts);
         }
         self.sheet = sheet;
         Ok(())
     }
 
+    /// Whether the sheet is valid; that it is not is a problem.
+    fn check(&mut self) -> Result<String, Problem> {
+        let faults = defects::faults(&self.workspace.quality(&self.sheet, &self.parts.band()?)?);
+        faults.map_or(Ok("valid".into()), |faults| Err(Problem::Invalid(faults)))
+    }
+
     /// Writes the sheet, with its band in a comment.
-    fn write(&self, file: &Path) -> Result<String, Problem> {
+    fn write(&mut self, place: &Place) -> Result<String, Problem> {
         let comment = [&[MARK.to_string()], &self.parts.options()[..]].concat().join(" ");
-        put(file, &ply::write(&self.sheet, self.ascii, &comment))
+        let bytes = ply::write(&self.sheet, self.ascii, &comment);
+        match place {
+            Place::Standard => display::send(self.out, &bytes)?,
+            Place::File(file) => put(file, &bytes)?,
+        }
+        Ok(size(&bytes))
     }
 
     /// Draws a picture, of the kind that the file's ending says.
@@ -136,7 +185,8 @@ impl<'a> Pipeline<'a> {
         } else {
             picture::png(&self.sheet, &self.view)
         };
-        put(file, &drawn)
+        put(file, &drawn)?;
+        Ok(size(&drawn))
     }
 }
 
@@ -148,8 +198,12 @@ fn count(n: usize, name: &str) -> String {
     format!("{n} {name}, ")
 }
 
-/// Writes a file: what was done.
-fn put(file: &Path, bytes: &[u8]) -> Result<String, Problem> {
-    fs::write(file, bytes).map_err(|error| Problem::file(file, error))?;
-    Ok(format!("{} bytes", bytes.len()))
+/// How long a file is.
+fn size(bytes: &[u8]) -> String {
+    format!("{} bytes", bytes.len())
+}
+
+/// Writes a file, whole or not at all.
+fn put(file: &Path, bytes: &[u8]) -> Result<(), Problem> {
+    replace::put(file, bytes).map_err(|error| Problem::written(file, &error))
 }

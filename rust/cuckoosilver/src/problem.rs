@@ -1,6 +1,7 @@
 //! What can go wrong, and how it is told.
 use quads::Refused;
 use std::fmt;
+use std::io::{self, ErrorKind};
 use std::path::{Path, PathBuf};
 
 /// A problem that ends the program.
@@ -15,6 +16,8 @@ pub enum Problem {
         /// Why and where.
         refused: Refused,
     },
+    /// The step `check` found a sheet that is not valid, by these counts: exit code 1.
+    Invalid(String),
     /// A file cannot be read or written: exit code 1.
     File {
         /// The file.
@@ -22,12 +25,19 @@ pub enum Problem {
         /// What is wrong.
         what: String,
     },
+    /// Nobody reads on what is written into a pipe, which is no fault and is not told: exit code 141.
+    Closed,
 }
 
 impl Problem {
     /// A problem with a file.
     pub fn file(path: &Path, what: impl fmt::Display) -> Problem {
         Problem::File { path: path.to_path_buf(), what: what.to_string() }
+    }
+
+    /// A problem in writing a file, or a pipe.
+    pub fn written(path: &Path, error: &io::Error) -> Problem {
+        if error.kind() == ErrorKind::BrokenPipe { Problem::Closed } else { Problem::file(path, error) }
     }
 
     /// The same problem, met at a step.
@@ -38,11 +48,12 @@ impl Problem {
         }
     }
 
-    /// The exit code: 2 for a wrong command line, 1 for all else.
+    /// The exit code: 2 for a wrong command line, that of a program which a closed pipe ends, 1 for all else.
     pub fn exit_code(&self) -> u8 {
         match self {
             Problem::Usage(_) => 2,
-            Problem::Refused { .. } | Problem::File { .. } => 1,
+            Problem::Refused { .. } | Problem::Invalid(_) | Problem::File { .. } => 1,
+            Problem::Closed => 141,
         }
     }
 }
@@ -60,7 +71,9 @@ impl fmt::Display for Problem {
             Problem::Refused { step, refused } => {
                 write!(f, "{step} is refused: {refused}\nwhat to do: {}", refused.advice())
             }
+            Problem::Invalid(counts) => write!(f, "the sheet is not valid: {counts}"),
             Problem::File { path, what } => write!(f, "{}: {what}", path.display()),
+            Problem::Closed => write!(f, "nobody reads on"),
         }
     }
 }
@@ -85,5 +98,12 @@ mod tests {
         let problem = Problem::Usage("no sheet".into());
         assert!(problem.to_string().starts_with("no sheet\n"));
         assert_eq!(problem.exit_code(), 2);
+    }
+
+    #[test]
+    fn a_closed_pipe_is_no_file_that_cannot_be_written() {
+        let path = Path::new("a.ply");
+        assert_eq!(Problem::written(path, &ErrorKind::BrokenPipe.into()), Problem::Closed);
+        assert!(matches!(Problem::written(path, &ErrorKind::StorageFull.into()), Problem::File { .. }));
     }
 }

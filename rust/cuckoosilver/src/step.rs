@@ -1,8 +1,10 @@
 //! The steps and options of a command line.
 use crate::display::Report;
 use crate::operation::Operation;
+use crate::place::Place;
 use crate::problem::Problem;
 use crate::setting::Setting;
+use crate::spelling;
 use crate::words::Words;
 
 /// A step or an option, as it was written and what it means.
@@ -12,6 +14,13 @@ pub struct Step {
     pub text: String,
     /// What it does.
     pub action: Action,
+}
+
+impl Step {
+    /// Whether it writes the sheet to standard output.
+    pub fn fills_output(&self) -> bool {
+        self.action == Action::Run(Operation::Write(Place::Standard))
+    }
 }
 
 /// What a step or an option does.
@@ -35,8 +44,14 @@ impl Action {
             return Ok(Action::Print(report));
         }
         let operation = Operation::parse(word, words)?;
-        operation.map(Action::Run).ok_or_else(|| Problem::Usage(format!("{word} is no step and no option")))
+        operation.map(Action::Run).ok_or_else(|| unknown(word))
     }
+}
+
+/// The problem of a word that is not known, with the word that may have been meant.
+fn unknown(word: &str) -> Problem {
+    let meant = spelling::nearest(word).map(|known| format!("; did you mean {known}?")).unwrap_or_default();
+    Problem::Usage(format!("{word} is no step and no option{meant}"))
 }
 
 /// The steps and options of a list of words.

@@ -30,6 +30,15 @@ impl<'a> Words<'a> {
         self.next().ok_or_else(|| Problem::Usage(format!("{of} needs {what}")))
     }
 
+    /// The next word as a file or `-`, which `of` needs; another word that begins with a dash is an option.
+    pub fn file(&mut self, of: &str, what: &str) -> Result<&'a str, Problem> {
+        let word = self.operand(of, what)?;
+        if word != "-" && word.starts_with('-') {
+            return Err(Problem::Usage(format!("{of} needs {what}, not {word}")));
+        }
+        Ok(word)
+    }
+
     /// The next N words as numbers, which `of` needs.
     pub fn floats<const N: usize>(&mut self, of: &str) -> Result<[f64; N], Problem> {
         let mut numbers = [0.0; N];
@@ -80,6 +89,14 @@ mod tests {
         assert_eq!(words.count_or("coarsen", 1), Ok(1));
         assert_eq!(words.next(), Some("x"));
         assert_eq!(words.next(), None);
+    }
+
+    #[test]
+    fn an_option_is_no_file() {
+        let words = list("a.ply - --quiet");
+        let mut words = Words::new(&words);
+        assert_eq!((words.file("read", "FILE"), words.file("read", "FILE")), (Ok("a.ply"), Ok("-")));
+        assert_eq!(words.file("read", "FILE"), Err(Problem::Usage("read needs FILE, not --quiet".into())));
     }
 
     #[test]

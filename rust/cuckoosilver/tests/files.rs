@@ -1,8 +1,7 @@
 //! Files, by running the program: PLY that is read again, and pictures.
 mod common;
-use common::{SHELL, UNIT_BOX, folder, prints, run_in};
+use common::{SHELL, UNIT_BOX, does, folder, prints, run_in};
 use std::fs;
-use std::path::Path;
 
 /// The unit cube with other names, an element that is not known, and colours in place of labels.
 const CUBE: &str = "ply\r
@@ -31,13 +30,6 @@ end_header\r
 204 121 167 4 0 2 3 1\r
 153 153 153 4 4 5 7 6\r
 ";
-
-/// Runs steps in a folder; they must go well.
-fn does(here: &Path, steps: &str) -> String {
-    let run = run_in(here, steps);
-    assert_eq!(run.code, Some(0), "{steps}: {}", run.log);
-    run.out
-}
 
 #[test]
 fn a_sheet_that_is_written_is_read_again() {
@@ -69,6 +61,62 @@ fn a_cube_made_by_hand_is_read() {
     let out = does(&here, &format!("{UNIT_BOX} read cube.ply display refine display read cube.ply rows display"));
     let quads: Vec<&str> = out.lines().step_by(2).map(|line| line[12..].trim()).collect();
     assert_eq!(quads, ["6", "24", "30"]);
+}
+
+/// The unit cube as a binary file, its bytes in the order that `order` gives them, the lowest first before.
+fn binary_cube(format: &str, order: fn(&mut [u8])) -> Vec<u8> {
+    let mut file = format!(
+        "ply\nformat {format} 1.0\nelement vertex 8\nproperty double x\nproperty float y\nproperty short z\n\
+         element face 6\nproperty list ushort uint vertex_indices\nproperty int label\nend_header\n"
+    )
+    .into_bytes();
+    let mut put = |mut bytes: Vec<u8>| {
+        order(&mut bytes);
+        file.extend(bytes);
+    };
+    for corner in 0..8_u8 {
+        put(f64::from(corner & 1).to_le_bytes().to_vec());
+        put(f32::from((corner >> 1) & 1).to_le_bytes().to_vec());
+        put(i16::from(corner >> 2).to_le_bytes().to_vec());
+    }
+    let quads = [[0, 4, 6, 2], [1, 3, 7, 5], [0, 1, 5, 4], [2, 6, 7, 3], [0, 2, 3, 1], [4, 5, 7, 6]];
+    for (label, quad) in (2_i32..).zip(quads) {
+        put(4_u16.to_le_bytes().to_vec());
+        quad.into_iter().for_each(|corner: u32| put(corner.to_le_bytes().to_vec()));
+        put(label.to_le_bytes().to_vec());
+    }
+    file
+}
+
+#[test]
+fn binary_files_are_read_in_both_orders_of_bytes() {
+    let here = folder("orders");
+    fs::write(here.join("cube.ply"), CUBE).unwrap();
+    fs::write(here.join("little.ply"), binary_cube("binary_little_endian", |_| {})).unwrap();
+    fs::write(here.join("big.ply"), binary_cube("binary_big_endian", <[u8]>::reverse)).unwrap();
+    does(&here, "read cube.ply write a.ply read little.ply write b.ply read big.ply write c.ply");
+    let bytes = |file: &str| fs::read(here.join(file)).unwrap();
+    assert!(bytes("little.ply") != bytes("big.ply"));
+    assert!(bytes("a.ply") == bytes("b.ply") && bytes("a.ply") == bytes("c.ply"));
+}
+
+#[test]
+fn a_quad_without_label_or_colour_gets_the_label_that_is_given() {
+    let here = folder("label");
+    let bare = "ply\nformat ascii 1.0\nelement vertex 4\nproperty float x\nproperty float y\nproperty float z\n\
+         element face 1\nproperty list uchar int vertex_indices\nend_header\n0 0 0 1 0 0 1 1 0 0 1 0 4 0 1 2 3\n";
+    fs::write(here.join("bare.ply"), bare).unwrap();
+    fs::write(here.join("cube.ply"), CUBE).unwrap();
+    does(&here, "--ascii --label 3 read bare.ply write a.ply read cube.ply write b.ply");
+    let lines = |file: &str, ending: &str| {
+        let text = fs::read_to_string(here.join(file)).unwrap();
+        text.lines().filter(|line| line.ends_with(ending)).count()
+    };
+    assert_eq!(lines("a.ply", "4 0 1 2 3 240 228 66 3"), 1);
+    assert_eq!(lines("b.ply", "153 153 153 7"), 1);
+    let run = run_in(&here, "read bare.ply");
+    assert_eq!(run.code, Some(1));
+    assert!(run.log.contains("face 0: it has neither a label nor a colour; give --label N"), "{}", run.log);
 }
 
 #[test]

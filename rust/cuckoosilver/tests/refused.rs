@@ -1,6 +1,6 @@
 //! Refusals, wrong files and wrong command lines, by running the program.
 mod common;
-use common::{SHELL, folder, run, run_in};
+use common::{SHELL, folder, names, run, run_in};
 use std::fs;
 
 /// Whether a run ends with this code and tells these things on standard error, and prints nothing.
@@ -46,12 +46,46 @@ fn a_wrong_command_line_is_told_before_anything_is_done() {
         ends(wrong, 2, &["`cuckoosilver --help`"]);
     }
     ends(&format!("{SHELL} draw 8 display paint"), 2, &["paint is no step and no option"]);
-    ends("draw 8", 2, &["the band is not whole: give --plane, --ball or --quadric"]);
+    ends("draw 8", 2, &["the band is not whole: give --plane, --ball or --quadric, and --box, and --levels"]);
     let large = "99999999999999999999";
     ends(&format!("draw {large}"), 2, &[format!("draw needs CELLS; {large} is too large").as_str()]);
     let told = format!("coarsen needs PASSES; {large} is too large");
     ends(&format!("{SHELL} draw 8 coarsen {large}"), 2, &[told.as_str()]);
     ends("--ball 0 0 0 0 --box 0 0 0 1 1 1 draw 8", 2, &["give --levels"]);
+}
+
+#[test]
+fn a_word_that_is_near_a_known_one_is_told() {
+    ends("darw 8", 2, &["darw is no step and no option; did you mean draw?"]);
+    ends(&format!("{SHELL} draw 8 coarse 4"), 2, &["did you mean coarsen?"]);
+    ends("--level 0 1 draw 8", 2, &["did you mean --levels?"]);
+    assert!(!run("paint").log.contains("did you mean"));
+}
+
+#[test]
+fn a_view_without_a_direction_is_told() {
+    for wrong in ["nan 0 1", "0 0 0", "inf 0 0", "1 -inf 1", "1e300 0 0", "0 1e-200 0"] {
+        ends(&format!("{SHELL} --view {wrong} draw 8"), 2, &["--view needs 3 finite numbers"]);
+    }
+}
+
+#[test]
+fn a_label_is_from_0_to_7() {
+    for wrong in ["8", "-1", "red", "256"] {
+        ends(&format!("--label {wrong} read a.ply"), 2, &["--label needs a label, from 0 to 7"]);
+    }
+}
+
+#[test]
+fn a_format_that_is_not_written_is_told() {
+    let here = folder("formats");
+    for file in ["a.obj", "a.stl", "a", "--quiet", "display"] {
+        let run = run_in(&here, &format!("{SHELL} draw 8 write {file}"));
+        assert_eq!(run.code, Some(2), "{file}");
+        assert!(run.log.contains(&format!("write needs FILE.ply or -, not {file}")), "{}", run.log);
+    }
+    assert_eq!(run_in(&here, "read --quiet").code, Some(2));
+    assert_eq!(names(&here), [""; 0]);
 }
 
 #[test]
@@ -93,10 +127,23 @@ fn a_wrong_file_is_told() {
     let large = file(&[("4 0 1 2 3 0", "4 0 1 2 5000000000 0")]);
     reads("large", &large, "", 1, "a corner is 5000000000, which is no whole number from 0 to 4294967295");
     reads("word", &file(&[("1 1 0", "1 one 0")]), "", 1, "vertex 2: one is not a number");
-    reads("plainest", &file(&[("property uchar label\n", "")]), "", 1, "face 0: it has neither a label nor a colour");
-    reads("big", &file(&[("ascii", "binary_big_endian")]), "", 1, "binary_big_endian is not read");
+    reads(
+        "plainest",
+        &file(&[("property uchar label\n", "")]),
+        "",
+        1,
+        "face 0: it has neither a label nor a colour; give",
+    );
+    reads("middle", &file(&[("ascii", "binary_middle_endian")]), "", 1, "binary_middle_endian is no format");
     reads("endless", &file(&[("end_header\n", "")]), "", 1, "the header");
-    reads("many", &file(&[("face 1", "face 99999999999")]), "", 1, "face 1: the file ends too early");
+    reads(
+        "many",
+        &file(&[("face 1", "face 99999999999")]),
+        "",
+        1,
+        "it has 99999999999 quads; a sheet has at most 1048576",
+    );
+    reads("polygon", &file(&[("4 0 1 2 3 0", "6 0 1 2 3 0 1 0")]), "", 1, "face 0: it has more than 4 corners");
     reads("flat", &file(&[("property float z\n", "")]), "", 1, "vertex 0: it has no z");
     reads("void", &file(&[("element face", "element nothing 99999999999999\nelement face")]), "", 0, "1 quads");
 }

@@ -52,7 +52,7 @@ fn tree(name: &str, programs: &[(&str, &str)]) -> PathBuf {
     }
     fs::write(root.join("crates.txt"), CRATES).unwrap();
     let tools = Path::new(env!("CARGO_MANIFEST_DIR")).join("../../tools");
-    for script in ["build", "needs", "progress", "run", "settings", "staticlib"] {
+    for script in ["build", "needs", "progress", "run", "staticlib"] {
         fs::copy(tools.join(script), root.join("tools").join(script)).unwrap();
     }
     for program in USUAL {

@@ -1,6 +1,6 @@
 //! The steps, by running the program.
 mod common;
-use common::{SHELL, folder, prints, run, run_in};
+use common::{SHELL, folder, names, prints, run, run_in};
 use std::path::Path;
 
 #[test]
@@ -81,7 +81,7 @@ fn the_example_runs_from_drawing_to_display() {
     assert!(
         run.out.contains("\nvalid                                yes\nquads           2400\nbad points         0\n")
     );
-    assert_eq!(here.read_dir().unwrap().count(), 0, "files are left where none were asked for");
+    assert_eq!(names(&here), [""; 0], "files are left where none were asked for");
 }
 
 #[test]
@@ -99,6 +99,16 @@ fn the_example_leaves_its_files_in_a_folder() {
 }
 
 #[test]
+fn help_is_no_folder_of_the_example() {
+    let here = folder("help");
+    for words in ["example --help", "example -h"] {
+        assert_eq!(run_in(&here, words).out, prints("--help"));
+    }
+    assert_eq!(run_in(&here, "example --quiet").code, Some(2));
+    assert_eq!(names(&here), [""; 0]);
+}
+
+#[test]
 fn help_names_every_step_and_option() {
     let help = prints("--help");
     for word in [
@@ -113,6 +123,7 @@ fn help_names_every_step_and_option() {
         "display",
         "page",
         "quality",
+        "check",
         "write",
         "picture",
         "--plane",
@@ -120,6 +131,7 @@ fn help_names_every_step_and_option() {
         "--quadric",
         "--box",
         "--levels",
+        "--label",
         "--ascii",
         "--binary",
         "--view",
@@ -132,4 +144,12 @@ fn help_names_every_step_and_option() {
     }
     assert!(help.lines().all(|line| line.len() <= 80));
     assert!(prints("--version").starts_with("cuckoosilver "));
+}
+
+#[test]
+fn help_tells_what_the_numbers_of_a_ball_are() {
+    let help = prints("--help");
+    assert!(help.contains("the sphere of radius sqrt(L + r)"));
+    let shell = "--ball 0 0 0 0.19 --box -1 -1 -1 1 1 1 --levels 0.06 0.45";
+    assert_eq!(prints(&format!("{shell} draw 16 page")), prints(&format!("{SHELL} draw 16 page")));
 }

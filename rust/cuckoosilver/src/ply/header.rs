@@ -1,12 +1,16 @@
 //! The header of a PLY file: what elements follow, and of what properties.
+use quads::LIMIT;
+use std::io::{BufRead, Read};
 
 /// How the values are written.
 #[derive(Clone, Copy, Debug, PartialEq)]
 pub enum Format {
     /// As text.
     Ascii,
-    /// Little-endian.
-    Binary,
+    /// Binary, the low byte first.
+    LittleEndian,
+    /// Binary, the high byte first.
+    BigEndian,
 }
 
 /// The types of values, by their kind and bits.
@@ -72,29 +76,37 @@ pub struct Header {
     pub elements: Vec<Element>,
 }
 
-/// The line that starts at a place, without its end, and where the next one starts.
-fn line(bytes: &[u8], start: usize) -> Result<(&str, usize), String> {
-    let rest = &bytes[start..];
-    let end = rest.iter().position(|&byte| byte == b'\n').ok_or("the header does not end")?;
-    let text = std::str::from_utf8(&rest[..end]).map_err(|_| "the header is not text")?;
-    Ok((text.trim_end_matches('\r'), start + end + 1))
+/// The most bytes of a header.
+const MOST_BYTES: u64 = 1 << 20;
+
+/// The next line, with its end.
+fn bytes(input: &mut dyn BufRead) -> Result<Vec<u8>, String> {
+    let mut bytes = vec![];
+    input.read_until(b'\n', &mut bytes).map_err(|error| error.to_string())?;
+    Ok(bytes)
+}
+
+/// The next line as text, without its end.
+fn line(input: &mut dyn BufRead) -> Result<String, String> {
+    let text = String::from_utf8(bytes(input)?).map_err(|_| "the header is not text")?;
+    let text = text.strip_suffix('\n').ok_or("the header does not end")?;
+    Ok(text.trim_end_matches('\r').to_string())
 }
 
 impl Header {
-    /// The header of a file, and where its values start.
-    pub fn parse(bytes: &[u8]) -> Result<(Header, usize), String> {
-        if !bytes.starts_with(b"ply\n") && !bytes.starts_with(b"ply\r\n") {
+    /// The header that an input begins with. What is left of the input is the values.
+    pub fn parse(input: &mut dyn BufRead) -> Result<Header, String> {
+        let mut input = input.take(MOST_BYTES);
+        if !matches!(&bytes(&mut input)?[..], b"ply\n" | b"ply\r\n") {
             return Err("it is no PLY file: it does not begin with `ply`".into());
         }
         let (mut format, mut comments, mut elements) = (None, vec![], Vec::<Element>::new());
-        let (_, mut at) = line(bytes, 0)?;
         loop {
-            let (text, next) = line(bytes, at)?;
-            at = next;
+            let text = line(&mut input)?;
             let words: Vec<&str> = text.split_ascii_whitespace().collect();
             match words[..] {
                 ["end_header"] => break,
-                ["comment", ..] => comments.push(text["comment".len()..].trim().to_string()),
+                ["comment", ..] => comments.push(text.trim()["comment".len()..].trim().to_string()),
                 ["obj_info", ..] | [] => {}
                 ["format", name, _] => format = Some(format_of(name)?),
                 ["element", name, count] => elements.push(element(name, count)?),
@@ -105,17 +117,27 @@ impl Header {
                 _ => return Err(format!("the header's line `{text}` is not known")),
             }
         }
+        bounded(&elements, "vertex", "points")?;
+        bounded(&elements, "face", "quads")?;
         let format = format.ok_or("the header names no format")?;
-        Ok((Header { format, comments, elements }, at))
+        Ok(Header { format, comments, elements })
     }
+}
+
+/// Whether a sheet can hold all elements of a name.
+fn bounded(elements: &[Element], name: &str, what: &str) -> Result<(), String> {
+    let counts = elements.iter().filter(|element| element.name == name).map(|element| element.count);
+    let count = counts.fold(0, u64::saturating_add);
+    if count > LIMIT as u64 { Err(format!("it has {count} {what}; a sheet has at most {LIMIT}")) } else { Ok(()) }
 }
 
 /// The format of a name.
 fn format_of(name: &str) -> Result<Format, String> {
     match name {
         "ascii" => Ok(Format::Ascii),
-        "binary_little_endian" => Ok(Format::Binary),
-        _ => Err(format!("the format {name} is not read; ascii and binary_little_endian are")),
+        "binary_little_endian" => Ok(Format::LittleEndian),
+        "binary_big_endian" => Ok(Format::BigEndian),
+        _ => Err(format!("{name} is no format of a PLY file")),
     }
 }
 

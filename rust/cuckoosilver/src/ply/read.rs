@@ -3,6 +3,7 @@ use super::header::{Element, Header, Property};
 use super::values::Values;
 use crate::labels;
 use quads::Sheet;
+use std::io::BufRead;
 
 /// One element's values, by the names of their properties.
 struct Record<'a> {
@@ -10,8 +11,11 @@ struct Record<'a> {
     values: Vec<Vec<f64>>,
 }
 
+/// The values of a list that are kept: the corners of a quad, and one more.
+const KEPT: usize = 5;
+
 impl Record<'_> {
-    /// The values of a property.
+    /// The first values of a property.
     fn list(&self, name: &str) -> Option<&[f64]> {
         let place = self.properties.iter().position(|property| property.name == name)?;
         self.values.get(place).map(Vec::as_slice)
@@ -23,10 +27,11 @@ impl Record<'_> {
     }
 }
 
-/// The sheet of a file, and the file's comments.
-pub fn read(bytes: &[u8]) -> Result<(Sheet, Vec<String>), String> {
-    let (header, start) = Header::parse(bytes)?;
-    let mut values = Values::new(header.format, &bytes[start..])?;
+/// The sheet that an input begins with, and its comments. A quad that has neither a label nor a colour gets the label
+/// that is given, if one is.
+pub fn read(input: &mut dyn BufRead, given: Option<u8>) -> Result<(Sheet, Vec<String>), String> {
+    let header = Header::parse(input)?;
+    let mut values = Values::new(header.format, input);
     let mut sheet = Sheet::default();
     for element in &header.elements {
         each(element, &mut values, |record| match element.name.as_str() {
@@ -36,7 +41,7 @@ pub fn read(bytes: &[u8]) -> Result<(Sheet, Vec<String>), String> {
             }
             "face" => {
                 sheet.quads.push(quad(record)?);
-                sheet.labels.push(label(record)?);
+                sheet.labels.push(label(record, given)?);
                 Ok(())
             }
             _ => Ok(()),
@@ -70,7 +75,10 @@ fn fill(record: &mut Record, values: &mut Values) -> Result<(), String> {
             None => 1,
         };
         for _ in 0..length {
-            list.push(values.next(property.scalar)?);
+            let value = values.next(property.scalar)?;
+            if list.len() < KEPT {
+                list.push(value);
+            }
         }
     }
     Ok(())
@@ -94,21 +102,22 @@ fn point(record: &Record) -> Result<[f64; 3], String> {
 fn quad(record: &Record) -> Result<[u32; 4], String> {
     let corners = record.list("vertex_indices").or_else(|| record.list("vertex_index")).unwrap_or_default();
     let &[a, b, c, d] = corners else {
-        return Err(format!("it has {} corners; a sheet has quads only", corners.len()));
+        let corners = if corners.len() < KEPT { corners.len().to_string() } else { "more than 4".into() };
+        return Err(format!("it has {corners} corners; a sheet has quads only"));
     };
     let number = |corner| whole(corner, "a corner");
     Ok([number(a)?, number(b)?, number(c)?, number(d)?])
 }
 
-/// The label of a face: its own property, or the label of its colour.
-fn label(record: &Record) -> Result<u8, String> {
+/// The label of a face: its own property, or the label of its colour, or the one that is given.
+fn label(record: &Record, given: Option<u8>) -> Result<u8, String> {
     if let Some(value) = record.value("label") {
         let label = whole(value, "its label")?;
         return u8::try_from(label).map_err(|_| format!("its label is {label}"));
     }
     let part = |name: &str| record.value(name).map(|value| value as u8);
     let (Some(red), Some(green), Some(blue)) = (part("red"), part("green"), part("blue")) else {
-        return Err("it has neither a label nor a colour".into());
+        return given.ok_or_else(|| "it has neither a label nor a colour; give --label N before `read`".into());
     };
     labels::label([red, green, blue]).ok_or_else(|| format!("the colour {red} {green} {blue} is that of no label"))
 }

@@ -77,13 +77,13 @@ mod tests {
     fn what_is_written_is_read_again() {
         for ascii in [false, true] {
             let bytes = write(&sheet(), ascii, "a word");
-            assert_eq!(read(&bytes), Ok((sheet(), vec!["a word".into()])));
+            assert_eq!(read(&mut &bytes[..], None), Ok((sheet(), vec!["a word".into()])));
         }
     }
 
     #[test]
     fn bits_are_kept() {
-        let read = read(&write(&sheet(), true, "")).unwrap().0;
+        let read = read(&mut &write(&sheet(), true, "")[..], None).unwrap().0;
         assert!(read.points[0][1].is_sign_negative());
     }
 

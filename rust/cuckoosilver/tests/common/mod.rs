@@ -1,7 +1,7 @@
 //! Runs the program.
 #![allow(dead_code, reason = "no test uses all of them")]
 use std::path::{Path, PathBuf};
-use std::process::Command;
+use std::process::{Command, Output};
 
 /// What a run of the program left.
 pub struct Run {
@@ -10,12 +10,23 @@ pub struct Run {
     pub log: String,
 }
 
+impl From<Output> for Run {
+    fn from(output: Output) -> Run {
+        let text = |bytes: Vec<u8>| String::from_utf8(bytes).unwrap();
+        Run { code: output.status.code(), out: text(output.stdout), log: text(output.stderr) }
+    }
+}
+
+/// The program in a folder, with the words of a text.
+pub fn program(folder: &Path, text: &str) -> Command {
+    let mut program = Command::new(env!("CARGO_BIN_EXE_cuckoosilver"));
+    program.current_dir(folder).args(text.split_whitespace());
+    program
+}
+
 /// Runs the program in a folder, with the words of a text.
 pub fn run_in(folder: &Path, text: &str) -> Run {
-    let mut program = Command::new(env!("CARGO_BIN_EXE_cuckoosilver"));
-    let output = program.current_dir(folder).args(text.split_whitespace()).output().unwrap();
-    let text = |bytes: Vec<u8>| String::from_utf8(bytes).unwrap();
-    Run { code: output.status.code(), out: text(output.stdout), log: text(output.stderr) }
+    program(folder, text).output().unwrap().into()
 }
 
 /// Runs the program with the words of a text.
@@ -23,9 +34,21 @@ pub fn run(text: &str) -> Run {
     run_in(Path::new("."), text)
 }
 
+/// Runs a script in a folder, in which $tool is the program.
+pub fn script(folder: &Path, text: &str) -> Run {
+    let mut shell = Command::new("sh");
+    shell.current_dir(folder).env("tool", env!("CARGO_BIN_EXE_cuckoosilver")).args(["-c", text]);
+    shell.output().unwrap().into()
+}
+
 /// What a run prints that must go well.
 pub fn prints(text: &str) -> String {
-    let run = run(text);
+    does(Path::new("."), text)
+}
+
+/// What a run in a folder prints that must go well.
+pub fn does(folder: &Path, text: &str) -> String {
+    let run = run_in(folder, text);
     assert_eq!(run.code, Some(0), "{text}: {}", run.log);
     run.out
 }
@@ -36,6 +59,14 @@ pub fn folder(name: &str) -> PathBuf {
     let _ = std::fs::remove_dir_all(&folder);
     std::fs::create_dir_all(&folder).unwrap();
     folder
+}
+
+/// The names of all that is in a folder, in order.
+pub fn names(folder: &Path) -> Vec<String> {
+    let files = folder.read_dir().unwrap().map(|file| file.unwrap().file_name().into_string().unwrap());
+    let mut names: Vec<String> = files.collect();
+    names.sort();
+    names
 }
 
 /// A shell, as options.
