@@ -1,10 +1,9 @@
 //! Standard input and output as sheets, and inputs without an end, by running the program.
 mod common;
-use common::{Run, SHELL, does, folder, program, run, run_in, script};
+use common::{Run, SHELL, does, folder, piped, run, run_in, script};
 use std::fs;
 use std::io::Write;
-use std::path::Path;
-use std::process::{Child, Stdio};
+use std::process::Child;
 use std::time::{Duration, Instant};
 
 #[test]
@@ -36,26 +35,6 @@ fn standard_input_and_output_hold_one_sheet_each() {
         let run = run(wrong);
         assert_eq!((run.code, run.out.as_str()), (Some(2), ""), "{wrong}");
         assert!(run.log.contains("- is there 2 times; standard "), "{}", run.log);
-    }
-}
-
-/// The program with its three streams as pipes.
-fn piped(here: &Path, steps: &str) -> Child {
-    let streams = (Stdio::piped(), Stdio::piped(), Stdio::piped());
-    program(here, steps).stdin(streams.0).stdout(streams.1).stderr(streams.2).spawn().unwrap()
-}
-
-#[test]
-fn a_closed_pipe_ends_it_quietly() {
-    let here = folder("closed");
-    does(&here, &format!("{SHELL} draw 8 write a.ply"));
-    let sheet = fs::read(here.join("a.ply")).unwrap();
-    for steps in ["--quiet read - display", "--quiet read - write -"] {
-        let mut child = piped(&here, steps);
-        drop(child.stdout.take());
-        child.stdin.take().unwrap().write_all(&sheet).unwrap();
-        let run = Run::from(child.wait_with_output().unwrap());
-        assert_eq!((run.code, run.log.as_str()), (Some(141), ""), "{steps}");
     }
 }
 

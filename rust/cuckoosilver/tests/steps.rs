@@ -109,39 +109,8 @@ fn help_is_no_folder_of_the_example() {
 }
 
 #[test]
-fn help_names_every_step_and_option() {
+fn help_fits_a_terminal() {
     let help = prints("--help");
-    for word in [
-        "draw",
-        "read",
-        "refine",
-        "subdivide",
-        "rows",
-        "regularize",
-        "improve",
-        "coarsen",
-        "display",
-        "page",
-        "quality",
-        "check",
-        "write",
-        "picture",
-        "--plane",
-        "--ball",
-        "--quadric",
-        "--box",
-        "--levels",
-        "--label",
-        "--ascii",
-        "--binary",
-        "--view",
-        "--size",
-        "--quiet",
-        "--version",
-        "example",
-    ] {
-        assert!(help.contains(word), "{word}");
-    }
     assert!(help.lines().all(|line| line.len() <= 80));
     assert!(prints("--version").starts_with("cuckoosilver "));
 }

@@ -46,11 +46,12 @@ fn dead(root: &Path, document: &str, text: &str) -> Vec<String> {
     found
 }
 
-/// All paths and names in README.md and docs/*.md that do not exist.
+/// All paths and names in README.md, CONTRIBUTING.md and docs/*.md that do not exist.
 pub fn report(root: &Path) -> io::Result<Report> {
     let words = names::words(root)?;
-    let mut documents = files::below(&root.join("docs"), "md")?;
-    documents.insert(0, root.join("README.md"));
+    let mut documents = vec![root.join("README.md"), root.join("CONTRIBUTING.md")];
+    documents.retain(|path| path.ends_with("README.md") || path.exists());
+    documents.extend(files::below(&root.join("docs"), "md")?);
     let mut faults = vec![];
     for path in &documents {
         let (name, text) = (files::from_root(root, path), files::text(path)?);

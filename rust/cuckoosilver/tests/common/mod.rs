@@ -1,7 +1,7 @@
 //! Runs the program.
 #![allow(dead_code, reason = "no test uses all of them")]
 use std::path::{Path, PathBuf};
-use std::process::{Command, Output};
+use std::process::{Child, Command, Output, Stdio};
 
 /// What a run of the program left.
 pub struct Run {
@@ -74,3 +74,9 @@ pub const SHELL: &str = "--ball 0 0 0 0 --box -1 -1 -1 1 1 1 --levels 0.25 0.64"
 
 /// The unit cube as its own box, as options.
 pub const UNIT_BOX: &str = "--plane 0 0 1 0 --box 0 0 0 1 1 1 --levels -1 2";
+
+/// The program with its three streams as pipes.
+pub fn piped(here: &Path, steps: &str) -> Child {
+    let streams = (Stdio::piped(), Stdio::piped(), Stdio::piped());
+    program(here, steps).stdin(streams.0).stdout(streams.1).stderr(streams.2).spawn().unwrap()
+}
