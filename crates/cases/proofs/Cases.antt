@@ -1,12 +1,13 @@
--- The theorem about the table of the starred cases, by computation. Assumes nothing.
+-- The theorem about the table of cases, by computation. Assumes nothing.
 use mathlib.Core.Path.{refl}
+use mathlib.Core.List.{zipWith}
 use lib.Ieee.{ofBits, add, sub, mul, div, neg, lt, le, ne, ofInt}
-use Rattle.lists.specs.Every.{every, countTo}
+use Rattle.lists.specs.Every.{every, some, countTo}
 use Rattle.lists.specs.Sort.{tabulate, bucket}
 use Rattle.numeric.specs.Num.{float, minOf, maxOf, halfwayOf}
 use Rattle.numeric.specs.Root.{sqrtOf}
 use Rattle.points.specs.Points.{addP, subP, mulP, timesP, dotP, crossP, normP, halfwayP, centreP, finiteP, pointAt}
-use Rattle.band.specs.Bands.{lengthOf, faceNormalOf, sideOf, normalWith, axisValidOf, levelsValidOf, validOf}
+use Rattle.band.specs.Bands.{lengthOf, faceNormalOf, sideOf, normalWith, normalOf, axisValidOf, levelsValidOf, validOf}
 use Rattle.projection.specs.Project.{axisBits, onFaceOf, onFacesOf, withinOf, insideOf, closeOf, projectWith, projectOf}
 use Rattle.shape.specs.Shapes.{cornerOf, shapeOf}
 use Rattle.smoothing.specs.Rounded.{reciprocalOf}
@@ -30,19 +31,23 @@ use Rattle.rule_coarsen.specs.Rule.{coarsenVerdict, coarsenRule}
 use Rattle.rule_finer.specs.Finer.{asked, midOf, cenOf, finer, newPoints, finerSheet, refined, refineRule}
 use Rattle.rule_finer.specs.Smoothed.{those, edgeQuads, pointQuads, paired, labelCount, centreAt}
 use Rattle.rule_rows.specs.Rows.{isCopied, copies, numberOf, labelCentres, inward, tryFrom, copyOf, copiedQuads, sidesOf, edgeSides, rowSides, stripAt, rowsSheet, rowsMade, rowed, rowsRule}
-use Rattle.cases.specs.Cases.{cube, swapPatch, mergePatch, AllHold, cases}
+use Rattle.rule_quality.specs.Census.{isClosed, reached, connected, goodLink, badLinks, tight}
+use Rattle.rule_quality.specs.Measure.{cornersOf, cellsOf, goodNormal, measureRule}
+use Rattle.rule_quality.specs.Quality.{qualityOf, qualityRule}
+use Rattle.cases.specs.Cases.{cube, turnedCube, pillow, twoPillows, swapPatch, mergePatch, AllHold, cases}
 
 pub cases-hold : AllHold cases
-unfolding cube swapPatch mergePatch cases ofBits add sub mul div neg lt le ne ofInt every countTo tabulate bucket
+unfolding cube turnedCube pillow twoPillows swapPatch mergePatch cases ofBits add sub mul div neg lt le ne ofInt every some countTo tabulate bucket
     float minOf maxOf halfwayOf sqrtOf addP subP mulP timesP dotP crossP normP halfwayP centreP finiteP pointAt
-    lengthOf faceNormalOf sideOf normalWith axisValidOf levelsValidOf validOf axisBits onFaceOf onFacesOf withinOf
+    lengthOf faceNormalOf sideOf normalWith normalOf axisValidOf levelsValidOf validOf axisBits onFaceOf onFacesOf withinOf
     insideOf closeOf projectWith projectOf cornerOf shapeOf reciprocalOf sumOf quadCentre maskOf packTo edgesOf joinTo joinOf
     quadsOf flatQuads centreOf inRange distinct goodCorners goodMask goodMasks pointsOf flatPoints isBare quadsVerdict
     sheetVerdict isLarge isShort isShortWork lentVerdict squared domainVerdict admitsAfter quadShape noWorse swapGain
     swapPass lesserShape heldOf nextShape shapeFits nextFits fitsWith swapFits swapRule mergeGain mergePass joinedMask
     movedTo movedAt quadStays mergeFits coarsenVerdict coarsenRule asked midOf cenOf finer newPoints finerSheet
     refined refineRule those edgeQuads pointQuads paired labelCount centreAt isCopied copies numberOf labelCentres
-    inward tryFrom copyOf copiedQuads sidesOf edgeSides rowSides stripAt rowsSheet rowsMade rowed rowsRule
+    inward tryFrom copyOf copiedQuads sidesOf edgeSides rowSides stripAt rowsSheet rowsMade rowed rowsRule isClosed
+    reached connected goodLink badLinks tight cornersOf cellsOf goodNormal measureRule qualityOf qualityRule zipWith
 cases-hold = (
   (refl, refl, refl, refl, refl, refl),
   (
@@ -61,7 +66,7 @@ cases-hold = (
                 (refl, refl, refl),
                 (
                   (refl, refl, refl),
-                  (refl, (refl, tt)),
+                  (refl, (refl, ((refl, (refl, refl)), ((refl, (refl, refl)), ((refl, (refl, refl)), ((refl, (refl, refl)), tt)))))),
                 ),
               ),
             ),

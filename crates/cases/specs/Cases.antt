@@ -1,22 +1,22 @@
--- The cases that document 01 marks with *, "proved of the definitions together, by a table and one theorem about it". A
--- row says what is asked of the rules and what they must answer.
+-- The cases that document 01 marks with *, "proved of the definitions together, by a table and one theorem about it",
+-- and those of tight. A row says what is asked of the rules and what they must answer.
 use Prim.Native.Nat.{ℕ, _+_, _-_, _*_}
 use mathlib.Core.Path.{_≡_}
 use mathlib.Core.Bool.{Bool, true, false}
 use mathlib.Core.List.{List, [], _∷_, _++_, map}
 use lib.IntN.{ℤ, pos, negsuc, _+ℤ_, _-ℤ_}
-use lib.ListN.{length, replicate}
+use lib.ListN.{length, drop, replicate}
 use lib.Ieee.{Float, fin}
 use Rattle.numeric.specs.Num.{zeroF, half}
 use Rattle.numeric.specs.Root.{sqrtOf}
 use Rattle.points.specs.declared.Point.{Point}
 use Rattle.points.specs.Points.{one, origin}
 use Rattle.field.specs.declared.Field.the-variants.{Plane}
-use Rattle.setting.specs.Settings.{Setting, settingOf}
+use Rattle.setting.specs.Settings.{Setting, domainIn, settingOf}
 use Rattle.rule_sheet.specs.declared.Verdict.the-variants.{Accepted}
 use Rattle.rule_sheet.specs.Quads.{Quad, quad, num, valence}
 use Rattle.rule_sheet.specs.Flat.{flatQuads}
-use Rattle.rule_sheet.specs.Sheet.{Sheet, flatPoints, countsOf}
+use Rattle.rule_sheet.specs.Sheet.{Sheet, flatPoints, countsOf, withQuads}
 use Rattle.rule_sheet.specs.Lent.{Lent, Work, Room, lentOf, workWith, roomWith}
 use Rattle.rule_sheet.specs.Outcomes.{Outcome, refuses, gives}
 use Rattle.rule_sheet.specs.Sound.{edgeCount, squaredOf}
@@ -27,6 +27,8 @@ use Rattle.rule_coarsen.specs.Coarse.{mergeGain}
 use Rattle.rule_coarsen.specs.Rule.{coarsenRule}
 use Rattle.rule_finer.specs.Finer.{refineRule}
 use Rattle.rule_rows.specs.Rows.{rowsRule}
+use Rattle.rule_quality.specs.Census.{isClosed}
+use Rattle.rule_quality.specs.Quality.{qualityRule}
 
 -- ---- what the rules are asked with
 
@@ -73,6 +75,10 @@ cube = record {
   labels = 2 ∷ 3 ∷ 4 ∷ 5 ∷ 6 ∷ 7 ∷ [];
 }
 
+-- the cube with its first quad turned over
+unfoldable pub turnedCube : Sheet
+turnedCube = withQuads cube (quad 2 6 4 0 ∷ drop 1 (cube .quads))
+
 -- ---- patches of quads on the face z = 1, with given numbers of quads at some points
 
 -- k quads at v, whose other corners are p, p + 1 and p + 2
@@ -82,6 +88,24 @@ spokes k v p = replicate k (quad v p (p + 1) (p + 2))
 -- points and quads, all labelled 7
 abbrev pub patch : List Point → List Quad → Sheet
 patch ps S = record { points = ps; quads = S; labels = replicate (length S) 7 }
+
+-- the corners of the face, and three points between them
+abbrev pub square : List Point
+square = point zeroF zeroF one ∷ point one zeroF one ∷ point one one one ∷ point zeroF one one ∷ []
+
+abbrev pub middles : List Point
+middles = point half zeroF one ∷ point half half one ∷ point zeroF half one ∷ []
+
+-- two quads back to back, which run opposite ways along each of their four edges
+abbrev pub backToBack : ℕ → ℕ → ℕ → ℕ → List Quad
+backToBack a b c d = quad a b c d ∷ quad d c b a ∷ []
+
+-- a pillow, and two pillows that share the point 0 and nothing else
+unfoldable pub pillow : Sheet
+pillow = patch square (backToBack 0 1 2 3)
+
+unfoldable pub twoPillows : Sheet
+twoPillows = patch (square ++ middles) (backToBack 0 1 2 3 ++ backToBack 0 4 5 6)
 
 -- Two quads along the edge from 0 to 1, and the diagonal from 2 to 3 that may take its place and makes two squares of
 -- them. The points 0, 1, 2 and 3 have va, vb, vc and vd quads; so many are at 4 and 5 that the diagonal from 4 to 5 is
@@ -95,9 +119,7 @@ swapPatch va vb vc vd = patch
 
 -- The quad of the points 0, 1, 2 and 3, which have va, vb, vc and vd quads: 0 and 2 may be merged.
 unfoldable pub mergePatch : ℕ → ℕ → ℕ → ℕ → Sheet
-mergePatch va vc vb vd = patch
-    (point zeroF zeroF one ∷ point one zeroF one ∷ point one one one ∷ point zeroF one one
-    ∷ replicate 12 (point half half one))
+mergePatch va vc vb vd = patch (square ++ replicate 12 (point half half one))
     (quad 0 1 2 3 ∷ (spokes (va - 1) 0 4 ++ spokes (vc - 1) 2 7 ++ spokes (vb - 1) 1 10 ++ spokes (vd - 1) 3 13))
 
 -- the quads at the points 0, 1, 2 and 3
@@ -118,6 +140,8 @@ pub data Case : Type 0 where
   swapCase : (va vb vc vd : ℕ) (gain : ℤ) (regularizes improves : Bool) → Case
   -- a merge of points of valences va and vc beside vb and vd: its gain, and whether `coarsen` takes it
   mergeCase : (va vc vb vd : ℕ) (gain : ℤ) (taken : Bool) → Case
+  -- `quality` of a sheet: whether each edge has two quads that run opposite ways, the bad links, and tight
+  qualityCase : (s : Sheet) (closed : Bool) (links : ℕ) (tight : Bool) → Case
   -- a square root
   rootCase : (of is : Float) → Case
 
@@ -141,6 +165,10 @@ Holds (mergeCase va vc vb vd gain taken) =
     let s = mergePatch va vc vb vd in
     (valences s ≡ va ∷ vb ∷ vc ∷ vd ∷ []) × (mergeGain (length (s .points)) (s .quads) (s .labels) 0 1 2 3 ≡ gain)
     × Gives (coarsenRule unitBox 1 (lentSheet s) (workFor s)) (λ e. e .count ≡ num taken)
+Holds (qualityCase s closed links tight) =
+    (isClosed (length (s .points)) (s .quads) ≡ closed)
+    × Gives (qualityRule (domainIn unitBox) (lentSheet s) (workFor s))
+    (λ a. (a .quality .«bad_vertex_links» ≡ links) × (a .isTight ≡ tight))
 Holds (rootCase of is) = sqrtOf of ≡ is
 
 -- the same of every row
@@ -173,4 +201,9 @@ cases =
     -- "Root of 4 is 2; of 2^−1074 is 2^−537."
     rootCase (fin false 1 (pos 2)) (fin false 1 (pos 1)) ∷
     rootCase (fin false 1 (negsuc 1073)) (fin false 1 (negsuc 536)) ∷
+    -- Document 02, Point 3: "only if the quads around every point form one ring as well". Two quads are a ring.
+    qualityCase cube true 0 true ∷
+    qualityCase pillow true 0 true ∷
+    qualityCase twoPillows true 1 false ∷
+    qualityCase turnedCube false 0 false ∷
     []

@@ -54,7 +54,7 @@ link-room {np} {nq} {m} {Q} {v} {w} C e S O K =
 
 -- the record of the counts
 pub counted : (n nq : ℕ) (Q : List ℕ) (m : Measures) (p : PointCounts) (e : EdgeCounts) (d : ℕ) (t : Bool)
-    → p ≡ pointCounts n (quadsOf nq Q) → e ≡ edgeCounts n (quadsOf nq Q) → d ≡ duplicateFaces (quadsOf nq Q) → t ≡ tightBy e
+    → p ≡ pointCounts n (quadsOf nq Q) → e ≡ edgeCounts n (quadsOf nq Q) → d ≡ duplicateFaces (quadsOf nq Q) → t ≡ tightBy e (p .«bad_links»)
     → Done (record {
       quads = nq;
       «irregular_vertices» = p .irregular;

@@ -1,23 +1,23 @@
--- What an answer of `quality` says of the sheet: its tight is that of the rule, a tight sheet is closed, and a valid one is closed with a ring at each point. Assumes nothing.
-use Prim.Native.Nat.{ℕ}
+-- What an answer of `quality` says of the sheet: its tight is that of the rule, which says yes of closed sheets with a ring at each point; a valid sheet is tight. Assumes nothing.
+use Prim.Native.Nat.{ℕ, _<_}
 use mathlib.Core.Path.{_≡_, refl, sym, ap, _∙_}
 use mathlib.Core.Bool.{Bool, true}
 use native.Mathlib.Omega.{arith}
-use borrow.Author.Tests.{eqb-true}
-use Rattle.lists.proofs.Every.{and-left, and-right}
+use Rattle.lists.proofs.Every.{and-left}
 use Rattle.setting.specs.Settings.{Domain}
 use Rattle.rule_sheet.specs.declared.Verdict.{Verdict}
 use Rattle.rule_sheet.specs.declared.Verdict.the-variants as verdict
+use Rattle.rule_sheet.specs.Quads.{valence}
 use Rattle.rule_sheet.specs.Closed.{Closed, Rings}
 use Rattle.rule_sheet.specs.Lent.{Lent, Work, held}
 use Rattle.rule_sheet.specs.Outcomes.{afterTest}
 use Rattle.rule_admission.specs.Admission.{measurable}
 use Rattle.sheet.proofs.Tests.{length-points}
-use Rattle.rule_quality.specs.Census.{badLinks, tight}
+use Rattle.rule_quality.specs.Census.{tight}
 use Rattle.edges.specs.Steps.{edgeCounts}
-use Rattle.quality_counts.specs.Steps.{tightBy}
-use Rattle.quality_counts.proofs.Tight.{tight-counts, tight-closed}
-use Rattle.quality_counts.proofs.Links.{tight-rings}
+use Rattle.quality_counts.specs.Steps.{closedBy, tightBy}
+use Rattle.quality_counts.proofs.Tight.{tight-counts}
+use Rattle.quality_counts.proofs.Links.{tight-rings, rings-tight}
 use Rattle.rule_quality.specs.declared.Measures.{Measures}
 use Rattle.rule_quality.specs.declared.Measured.{Measured}
 use Rattle.rule_quality.specs.declared.Measured.the-variants as measured
@@ -60,17 +60,22 @@ module _ (d : Domain) (x : Lent) (w : Work) (q : Quality) (t : Bool) where
       go verdict.Accepted ev (measured.Refused k) h = absurd (let z : _≡_ {A = ℕ} 1 0 = ap isRefusal h in omega arith)
       go verdict.Accepted ev (measured.Done m) h = record { admitted = ev; measures = m; is = sym (ap (recordOr q) h); is-tight = sym (ap (tightOr t) h) }
 
-  -- "tight is a yes if every edge has exactly two quads that run opposite ways": the sheet is closed, as demand 3's start is
-  pub yes-closed : assessedOf (qualityRule d x w) ≡ Done q t → t ≡ true → Closed (held x .quads)
-  yes-closed e y =
+  -- tight says yes: the sheet is closed, with one ring at each point
+  pub yes-rings : assessedOf (qualityRule d x w) ≡ Done q t → t ≡ true → Closed (held x .quads) × Rings (held x .quads)
+  yes-rings e y =
       let T = told e in
-      tight-closed (x .counts .points) (held x .quads) (accepted d x w (T .admitted) .counts .good) (sym (T .is-tight) ∙ y)
+      tight-rings (x .counts .points) (held x .quads) (accepted d x w (T .admitted) .counts .good) (sym (T .is-tight) ∙ y)
 
-  -- and a valid sheet is closed, with one ring at each point
-  pub valid-closed : assessedOf (qualityRule d x w) ≡ Done q t → isValid q ≡ true → Closed (held x .quads) × Rings (held x .quads)
-  unfolding isValid qualityOf edgeCounts tightBy
-  valid-closed e y =
+  -- and of such a sheet whose points are all in use it says yes
+  pub rings-yes : assessedOf (qualityRule d x w) ≡ Done q t → Closed (held x .quads) → Rings (held x .quads) → ((v : ℕ) → v < x .counts .points → 0 < valence (held x .quads) v) → t ≡ true
+  rings-yes e c r used =
       let T = told e in
-      let good = accepted d x w (T .admitted) .counts .good in
+      T .is-tight ∙ rings-tight (x .counts .points) (held x .quads) (accepted d x w (T .admitted) .counts .good) c r used
+
+  -- a valid sheet is tight
+  pub valid-tight : assessedOf (qualityRule d x w) ≡ Done q t → isValid q ≡ true → t ≡ true
+  unfolding isValid qualityOf edgeCounts closedBy tightBy
+  valid-tight e y =
+      let T = told e in
       let v : isValid (qualityOf (x .counts .points) (held x .quads) (T .measures)) ≡ true = sym (ap isValid (T .is)) ∙ y in
-      tight-rings (x .counts .points) (held x .quads) good (tight-counts (x .counts .points) (held x .quads) ∙ search (and-left)) (eqb-true (badLinks (x .counts .points) (held x .quads)) 0 (search (and-left, and-right)))
+      T .is-tight ∙ tight-counts (x .counts .points) (held x .quads) ∙ search (and-left)

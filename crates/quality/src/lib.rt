@@ -119,7 +119,7 @@ fn with_counts(np: usize, nq: usize, quads: &[u32], m: Measures, work: &mut [u32
         minimum_sampled_jacobian: m.minimum_sampled_jacobian,
         invalid_cells: m.invalid_cells,
     };
-    Assessed::Done(q, quality_counts::is_tight(edges))
+    Assessed::Done(q, quality_counts::is_tight(edges, points.bad_links))
 }
 
 // The measures of a sheet that the tests accept, and its counts if it has them.

@@ -1,4 +1,4 @@
--- The laws of this crate. `Tight`: tight is Closed, and three counts of 0. `Arcs`, `Links`: a good link is a ring.
+-- The laws of this crate. `Tight`: closed by the edges and by three counts of 0, tight by these and the bad links. `Arcs`, `Links`: a good link is a ring.
 -- `Lexical`, `Duplicates`, `Ranks`, `Passes`: the sort of the quads by their corners counts the duplicate faces.
 pub mod Tight
 pub mod Arcs

@@ -14,9 +14,9 @@ use Rattle.lists.proofs.Every.{and-left, and-right, or-split, every-at, every-e
 use Rattle.rule_sheet.specs.Quads.{Quad, is, sum, all, at, valence, side}
 use Rattle.rule_sheet.specs.Closed.{ind, arc, cyc, Ring, atPoint, Closed, Rings}
 use Rattle.rule_sheet.specs.Tests.{proper}
-use Rattle.rule_quality.specs.Census.{degree, joined, reached, reaches, connected, noneOrTwo, goodLink, badLinks, tight}
+use Rattle.rule_quality.specs.Census.{degree, joined, reached, reaches, connected, noneOrTwo, goodLink, badLinks, isClosed, tight}
 use Rattle.edges.proofs.Corners.{weighty, at-positive, is-same, is-other, is-positive, pos-split}
-use Rattle.quality_counts.proofs.Tight.{tight-closed, closed-tight}
+use Rattle.quality_counts.proofs.Tight.{is-closed, closed-is}
 use Rattle.edges.proofs.Sides.{length-sum}
 use Rattle.quality_counts.proofs.Arcs.{ind-positive, ind-same, ind-first, ind-second, arc-more, arc-from, arc-to, arc-le, arc-plus, Ends, pairSum, cornersOf, corners-sum, pair-le, pair-plus, Taken, take-from, side-end}
 
@@ -334,7 +334,7 @@ not-not : (b : Bool) → not b ≡ false → b ≡ true
 not-not true e = refl
 not-not false e = absurd (false≢true (sym e))
 
--- What `quality` finds in a sheet of good corners, and what demand 3 asks of its start: tight is Closed, and of a tight sheet no bad link is Rings with every point in use.
+-- What `quality` finds in a sheet of good corners, and what demand 3 asks of its start: tight is Closed and Rings with every point in use.
 module _ (n : ℕ) (S : List Quad) (good : all (proper n) S ≡ true) where
   -- a point in use is one of the n points
   used-below : (v : ℕ) → 0 < valence S v → v < n
@@ -343,23 +343,31 @@ module _ (n : ℕ) (S : List Quad) (good : all (proper n) S ≡ true) where
       let P = at-positive v (λ p m. 1) (W .before) (W .point) (W .after) (W .more) in
       rw (← P .0) (W .point<)
 
-  -- a tight sheet without a bad link is closed, and the quads at each point in use are one ring
-  pub tight-rings : tight n S ≡ true → badLinks n S ≡ 0 → Closed S × Rings S
-  unfolding badLinks Rings
-  tight-rings t b =
-      let c : Closed S = tight-closed n S good t in
-      (c, λ v h. link-ring n S good v c (not-not _ (none-counted (λ x. not (goodLink n S x)) n v b (used-below v h))))
+  module _ (t : tight n S ≡ true) where
+    no-bad-link : badLinks n S ≡ 0
+    unfolding tight
+    no-bad-link = eqb-true (badLinks n S) 0 (and-right (isClosed n S) (eqb (badLinks n S) 0) t)
 
-  -- and it has no point without a quad
-  pub links-used : badLinks n S ≡ 0 → (v : ℕ) → v < n → 0 < valence S v
-  unfolding badLinks goodLink
-  links-used b v h =
-      let g : goodLink n S v ≡ true = not-not _ (none-counted (λ x. not (goodLink n S x)) n v b h) in
-      let u = and-left (not (eqb (valence S v) 0)) (connected n S v) (and-left (not (eqb (valence S v) 0) && connected n S v) (every (noneOrTwo S v) n) g) in
-      let z = eqb-false (valence S v) 0 (not-true (eqb (valence S v) 0) u) in
-      omega arith
+    good-at : (v : ℕ) → v < n → goodLink n S v ≡ true
+    unfolding badLinks
+    good-at v h = not-not _ (none-counted (λ x. not (goodLink n S x)) n v no-bad-link h)
 
-  -- a closed sheet of rings that uses every point is tight and has no bad link
-  pub rings-tight : Closed S → Rings S → ((v : ℕ) → v < n → 0 < valence S v) → (tight n S ≡ true) × (badLinks n S ≡ 0)
-  unfolding badLinks Rings
-  rings-tight c r used = (closed-tight n S c, count-none _ n (λ v h. ap not (ring-link n S good v (r v (used v h)))))
+    -- a tight sheet is closed, and the quads at each point in use are one ring
+    pub tight-rings : Closed S × Rings S
+    unfolding tight Rings
+    tight-rings =
+        let c : Closed S = is-closed n S good (and-left (isClosed n S) (eqb (badLinks n S) 0) t) in
+        (c, λ v h. link-ring n S good v c (good-at v (used-below v h)))
+
+    -- and no point is without a quad
+    pub tight-used : (v : ℕ) → v < n → 0 < valence S v
+    unfolding goodLink
+    tight-used v h =
+        let u = and-left (not (eqb (valence S v) 0)) (connected n S v) (and-left (not (eqb (valence S v) 0) && connected n S v) (every (noneOrTwo S v) n) (good-at v h)) in
+        let z = eqb-false (valence S v) 0 (not-true (eqb (valence S v) 0) u) in
+        omega arith
+
+  -- a closed sheet of rings that uses every point is tight
+  pub rings-tight : Closed S → Rings S → ((v : ℕ) → v < n → 0 < valence S v) → tight n S ≡ true
+  unfolding tight badLinks Rings
+  rings-tight c r used = rw (closed-is n S c, count-none _ n (λ v h. ap not (ring-link n S good v (r v (used v h)))))

@@ -1,4 +1,4 @@
--- A sheet is tight exactly if it is closed, and exactly if no edge is counted in the three counts of edges. Assumes nothing.
+-- The test of the edges says yes exactly if the sheet is closed, and exactly if no edge is counted in the three counts of edges; tight by the counts. Assumes nothing.
 use Prim.Native.Nat.{ℕ, _+_, _≤_, _<_}
 use mathlib.Core.Path.{_≡_, sym, ap₂, _∙_}
 use mathlib.Core.Bool.{Bool, true, false, not, _&&_}
@@ -13,41 +13,41 @@ use Rattle.rule_sheet.specs.Quads.{Quad, all, side}
 use Rattle.rule_sheet.specs.Edges.{Pair, pair, edgesOf, up, down, isBoundary, isNonmanifold, isTurned, boundaryEdges, nonmanifoldEdges, orientationErrors}
 use Rattle.rule_sheet.specs.Closed.{Closed}
 use Rattle.rule_sheet.specs.Tests.{proper}
-use Rattle.rule_quality.specs.Census.{isTight, tight}
+use Rattle.rule_quality.specs.Census.{runsBothWays, isClosed, badLinks, tight}
 use Rattle.edges.specs.Steps.{edgeCounts}
 use Rattle.edges.proofs.Corners.{pos-split, side-below}
 use Rattle.edges.proofs.AllEdges.{pair-low, pair-high, edges-pass, edge-passes, all-and, all-none}
-use Rattle.quality_counts.specs.Steps.{tightBy}
+use Rattle.quality_counts.specs.Steps.{closedBy, tightBy}
 
--- ---- tight and closed
+-- ---- closed
 
 module _ (n : ℕ) (S : List Quad) where
-  ordered : (a b : ℕ) → a ≤ b → isTight S (pair a b) ≡ true → (side S a b ≡ 1) × (side S b a ≡ 1)
+  ordered : (a b : ℕ) → a ≤ b → runsBothWays S (pair a b) ≡ true → (side S a b ≡ 1) × (side S b a ≡ 1)
   ordered a b h e =
-      let f : isTight S (record { low = a; high = b }) ≡ true = ap₂ (λ x y. isTight S (record { low = x; high = y })) (sym (pair-low a b h)) (sym (pair-high a b h)) ∙ e in
+      let f : runsBothWays S (record { low = a; high = b }) ≡ true = ap₂ (λ x y. runsBothWays S (record { low = x; high = y })) (sym (pair-low a b h)) (sym (pair-high a b h)) ∙ e in
       (eqb-true _ _ (and-left (eqb (side S a b) 1) (eqb (side S b a) 1) f), eqb-true _ _ (and-right (eqb (side S a b) 1) (eqb (side S b a) 1) f))
 
-  -- tight says that the sheet is closed
-  pub tight-closed : all (proper n) S ≡ true → tight n S ≡ true → Closed S
-  unfolding tight Closed
-  tight-closed good t u v h =
+  -- the yes of the test says that the sheet is closed
+  pub is-closed : all (proper n) S ≡ true → isClosed n S ≡ true → Closed S
+  unfolding isClosed Closed
+  is-closed good t u v h =
       let b : (u < n) × (v < n) = ⊎-elim
       (λ (k : 0 < side S u v). side-below n S u v good k)
       (λ (k : 0 < side S v u). let q = side-below n S v u good k in (q .1, q .0))
       (pos-split (side S u v) (side S v u) h) in
       ⊎-elim
-      (λ (l : u < v). ordered u v (omega arith) (edge-passes n S (isTight S) t u v (omega arith) (b .0) (b .1) h))
-      (λ (l : v ≤ u). let q = ordered v u l (edge-passes n S (isTight S) t v u l (b .1) (b .0) (omega arith)) in (q .1, q .0))
+      (λ (l : u < v). ordered u v (omega arith) (edge-passes n S (runsBothWays S) t u v (omega arith) (b .0) (b .1) h))
+      (λ (l : v ≤ u). let q = ordered v u l (edge-passes n S (runsBothWays S) t v u l (b .1) (b .0) (omega arith)) in (q .1, q .0))
       (lt-or-le u v)
 
-  -- a closed sheet is tight
-  pub closed-tight : Closed S → tight n S ≡ true
-  unfolding tight Closed
-  closed-tight c = edges-pass n S (isTight S) (λ a b h k l pos.
+  -- of a closed sheet the test says yes
+  pub closed-is : Closed S → isClosed n S ≡ true
+  unfolding isClosed Closed
+  closed-is c = edges-pass n S (runsBothWays S) (λ a b h k l pos.
       let e = c a b pos in
       rw (pair-low a b h, pair-high a b h, eq-eqb _ _ (e .0), eq-eqb _ _ (e .1)))
 
--- ---- tight by the three counts
+-- ---- closed by the three counts, tight by these and the bad links
 
 -- the three tests of an edge, over the quads up and down it
 abbrev three : ℕ → ℕ → Bool
@@ -72,16 +72,21 @@ module _ (n : ℕ) (S : List Quad) where
   abbrev threeOf : Pair → Bool
   threeOf e = three (up S e) (down S e)
 
-  at-edge : (a b : ℕ) → a ≤ b → 0 < side S a b + side S b a → isTight S (pair a b) ≡ threeOf (pair a b)
+  at-edge : (a b : ℕ) → a ≤ b → 0 < side S a b + side S b a → runsBothWays S (pair a b) ≡ threeOf (pair a b)
   at-edge a b h pos = rw (pair-low a b h, pair-high a b h) (three-is (side S a b) (side S b a) pos)
 
-  -- tight is the word for three counts of 0
-  pub tight-counts : tight n S ≡ tightBy (edgeCounts n S)
-  unfolding tight tightBy edgeCounts boundaryEdges nonmanifoldEdges orientationErrors
-  tight-counts =
-      bool-iff (all (isTight S) (edgesOf n S)) (all threeOf (edgesOf n S))
-      (λ t. edges-pass n S threeOf (λ a b h k l pos. sym (at-edge a b h pos) ∙ edge-passes n S (isTight S) t a b h k l pos))
-      (λ t. edges-pass n S (isTight S) (λ a b h k l pos. at-edge a b h pos ∙ edge-passes n S threeOf t a b h k l pos))
+  -- a sheet is closed where three counts are 0
+  pub closed-counts : isClosed n S ≡ closedBy (edgeCounts n S)
+  unfolding isClosed closedBy edgeCounts boundaryEdges nonmanifoldEdges orientationErrors
+  closed-counts =
+      bool-iff (all (runsBothWays S) (edgesOf n S)) (all threeOf (edgesOf n S))
+      (λ t. edges-pass n S threeOf (λ a b h k l pos. sym (at-edge a b h pos) ∙ edge-passes n S (runsBothWays S) t a b h k l pos))
+      (λ t. edges-pass n S (runsBothWays S) (λ a b h k l pos. at-edge a b h pos ∙ edge-passes n S threeOf t a b h k l pos))
       ∙ all-and (λ e. not (isBoundary S e) && not (isNonmanifold S e)) (λ e. not (isTurned S e)) (edgesOf n S)
       ∙ ap₂ _&&_ (all-and (λ e. not (isBoundary S e)) (λ e. not (isNonmanifold S e)) (edgesOf n S) ∙ ap₂ _&&_ (all-none (isBoundary S) (edgesOf n S)) (all-none (isNonmanifold S) (edgesOf n S)))
       (all-none (isTurned S) (edgesOf n S))
+
+  -- and tight where no link is bad either
+  pub tight-counts : tight n S ≡ tightBy (edgeCounts n S) (badLinks n S)
+  unfolding tight tightBy
+  tight-counts = rw closed-counts

@@ -23,12 +23,12 @@ irregular n S = countTo (isIrregular S) n
 -- ---- edges
 
 -- the edge has "exactly two quads that run opposite ways"
-abbrev pub isTight : List Quad → Pair → Bool
-isTight S e = eqb (up S e) 1 && eqb (down S e) 1
+abbrev pub runsBothWays : List Quad → Pair → Bool
+runsBothWays S e = eqb (up S e) 1 && eqb (down S e) 1
 
--- "tight is a yes if every edge has exactly two quads that run opposite ways"
-unfoldable pub tight : ℕ → List Quad → Bool
-tight n S = all (isTight S) (edgesOf n S)
+-- the sheet is closed: "every edge has exactly two quads that run opposite ways"
+unfoldable pub isClosed : ℕ → List Quad → Bool
+isClosed n S = all (runsBothWays S) (edgesOf n S)
 
 -- ---- the link of a point: the graph whose nodes are the neighbours of v; each corner at v joins the point before
 -- it to the point after it
@@ -65,6 +65,13 @@ goodLink n S v = not (eqb (valence S v) 0) && connected n S v && every (noneOrTw
 -- bad_vertex_links: the points whose link is empty, not connected, or has a node of another degree than 2
 unfoldable pub badLinks : ℕ → List Quad → ℕ
 badLinks n S = countTo (λ v. not (goodLink n S v)) n
+
+-- ---- tight
+
+-- "tight is a yes if every edge has exactly two quads that run opposite ways", and by document 02, Point 3, "only if
+-- the quads around every point form one ring as well. That is the quality record's count of bad links being zero"
+unfoldable pub tight : ℕ → List Quad → Bool
+tight n S = isClosed n S && eqb (badLinks n S) 0
 
 -- ---- quads
 

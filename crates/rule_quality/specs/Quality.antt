@@ -49,7 +49,7 @@ qualityOf n S m = record {
   «invalid_cells» = m .«invalid_cells»;
 }
 
--- the record, and beside it "tight is a yes if every edge has exactly two quads that run opposite ways"
+-- the record, and beside it tight
 pub record Assessment : Type 0 where
   pub quality : Quality
   pub isTight : Bool

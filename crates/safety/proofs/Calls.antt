@@ -31,6 +31,7 @@ use Rattle.sheet.proofs.Masks.{bit-pack}
 use Rattle.sheet.proofs.Tests.{or-left, tested}
 use Rattle.sheet.proofs.Results.{length-flat-quads}
 use Rattle.admission.proofs.Admitted.{Admitted, lent-refuses, sheet-decides}
+use Rattle.admission.proofs.Accepted.{counts-held}
 use Rattle.rule_finer.specs.Finer.{finerSheet}
 use Rattle.rule_finer.specs.Smoothed.{paired, smoothSheet}
 use Rattle.rule_finer.specs.Subdivide.{astray, landsAt, projectedSheet, projected, subdivided, subdivideRule}
@@ -49,7 +50,7 @@ use Rattle.safety.specs.Calls.{Call, regularizeCall, improveCall, coarse
 use Rattle.safety.proofs.Slices.{quads-padded, length-padded, held-padded}
 use Rattle.safety.proofs.Finer.{made-kept}
 use Rattle.safety.proofs.Caps.{uncapped}
-use Rattle.safety.proofs.Tested.{passes, counts-held, done-tested, done-admitted}
+use Rattle.safety.proofs.Tested.{passes, done-tested, done-admitted}
 
 -- ---- `regularize` and `improve_layout`
 

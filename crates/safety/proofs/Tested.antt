@@ -1,28 +1,23 @@
 -- An accepted call of `regularize` was lent an accepted sheet, and its answer is the number of its swaps. Assumes nothing.
 use Prim.Native.Nat.{ℕ}
-use mathlib.Core.Path.{_≡_, refl, ap, _∙_}
-use mathlib.Core.Bool.{false}
+use mathlib.Core.Path.{_≡_, refl, _∙_}
 use mathlib.Core.List.{List}
 use native.Mathlib.Omega.{arith}
 use lib.ListN.{length}
-use lib.Seq.{length-take-le}
-use borrow.Author.Tests.{le-ltb}
 use Rattle.setting.specs.Settings.{Setting}
-use Rattle.rule_sheet.specs.declared.Counts.{Counts}
 use Rattle.rule_sheet.specs.declared.Tally.{Tally}
 use Rattle.rule_sheet.specs.declared.Verdict.{Verdict}
 use Rattle.rule_sheet.specs.declared.Verdict.the-variants.{Accepted, Refused}
 use Rattle.rule_sheet.specs.declared.Answer.the-variants.{Done}
-use Rattle.rule_sheet.specs.Sheet.{Sheet, sheetVerdict, countsOf}
-use Rattle.rule_sheet.specs.Lent.{Lent, Work, held, limit, isLarge}
+use Rattle.rule_sheet.specs.Sheet.{Sheet, sheetVerdict}
+use Rattle.rule_sheet.specs.Lent.{Lent, Work, held}
 use Rattle.rule_sheet.specs.Sound.{AcceptedSheet}
 use Rattle.rule_sheet.specs.Outcomes.{gives, afterTest}
 use Rattle.rule_sheet.specs.Results.{AltersQuads}
 use Rattle.rule_admission.specs.Admission.{settingVerdict, admits}
-use Rattle.sheet.specs.Sheet.{Few, LentSheet}
-use Rattle.sheet.proofs.Flat.{length-quads}
-use Rattle.sheet.proofs.Tests.{length-points, tested, tests-accept}
+use Rattle.sheet.proofs.Tests.{tests-accept}
 use Rattle.admission.proofs.Admitted.{Admitted, admitted}
+use Rattle.admission.proofs.Accepted.{lent-accepted}
 use Rattle.rule_regularize.specs.Swaps.{swapRun}
 use Rattle.rule_regularize.specs.SwapFits.{swapFits}
 use Rattle.rule_regularize.specs.Rule.{swapSheet, swapRule}
@@ -32,26 +27,6 @@ use Rattle.safety.proofs.Caps.{uncapped}
 -- what 5, 6 and 7 accept passes their tests
 pub passes : (s : Sheet) → AcceptedSheet s → sheetVerdict s ≡ Accepted
 passes s a = tests-accept s (record { not-bare = a .not-bare; corners = a .corners; masks = a .masks })
-
--- the counts of the sheet that slices hold
-pub counts-held : (x : Lent) → LentSheet (x .counts) (length (x .points)) (length (x .quads)) (length (x .labels)) → countsOf (held x) ≡ x .counts
-counts-held x L = rw (length-points (x .counts .points) (x .points), length-quads (x .counts .quads) (x .quads), length-take-le (x .counts .labels) (x .labels) (L .labels))
-
-few-large : {c : Counts} → Few c → isLarge c ≡ false
-unfolding isLarge
-few-large {c} f = rw (le-ltb limit (c .points) (f .points≤), le-ltb limit (c .quads) (f .quads≤), le-ltb limit (c .labels) (f .labels≤))
-
--- a call that passes its tests was lent an accepted sheet
-pub lent-accepted : (s : Setting) (x : Lent) (w : Work) → admits s x w ≡ Accepted → AcceptedSheet (held x)
-lent-accepted s x w e =
-    let A = admitted (settingVerdict s) x w e in
-    let T = tested (held x) (A .accepted) in
-    record {
-      not-large = ap isLarge (counts-held x (A .sheet)) ∙ few-large (A .sheet .few);
-      not-bare = T .not-bare;
-      corners = T .corners;
-      masks = T .masks;
-    }
 
 module _ (s : Setting) (k : ℕ) (x : Lent) (w : Work) (t : Tally) (Q : List ℕ) (C : Contract (regularizeCall s k x w (Done t) Q)) where
   -- the call passed its tests
@@ -67,7 +42,7 @@ module _ (s : Setting) (k : ℕ) (x : Lent) (w : Work) (t : Tally) (Q : List ℕ
   done-admitted = admitted (settingVerdict s) x w done-tested
 
   done-accepted : AcceptedSheet (held x)
-  done-accepted = lent-accepted s x w done-tested
+  done-accepted = lent-accepted (settingVerdict s) x w done-tested
 
   -- "Regularize's count is the swaps made in all its passes", on every accepted sheet
   pub done-count : t .count ≡ swapRun (length (held x .points)) (held x .labels) 1 (swapFits s (held x .points) (held x .labels)) k (held x .quads) .count

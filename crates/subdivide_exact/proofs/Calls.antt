@@ -12,11 +12,11 @@ use Rattle.rule_sheet.specs.Numbers.{short, edgeNumber}
 use Rattle.rule_sheet.specs.Sheet.{Sheet, countsOf, sheetVerdict}
 use Rattle.rule_sheet.specs.Lent.{held, isLarge, isShort}
 use Rattle.rule_sheet.specs.Outcomes.{refuses, gives, afterTest}
-use Rattle.rule_admission.specs.Admission.{admits}
+use Rattle.rule_admission.specs.Admission.{settingVerdict, admits}
 use Rattle.rule_finer.specs.Finer.{finerSheet}
 use Rattle.rule_finer.specs.Smoothed.{paired, smoothSheet}
 use Rattle.rule_finer.specs.Subdivide.{astray, landsAt, projectedSheet, projected, subdivided, subdivideRule}
-use Rattle.safety.proofs.Tested.{lent-accepted}
+use Rattle.admission.proofs.Accepted.{lent-accepted}
 use Rattle.subdivide_exact.specs.Paper.{Subdivided, EverySheet, EveryCall}
 use Rattle.subdivide_exact.proofs.Paper.{catmull-clark}
 
@@ -42,4 +42,4 @@ every-call s x w room t =
     go Accepted a false false p z lands e = not-made edgeNumber t e
     go Accepted a false true p (Refused n) lands e = not-made n t e
     go Accepted a false true p Accepted false e = not-made astray t e
-    go Accepted a false true p Accepted true e = record { projection = cc; paper = λ at. catmull-clark (held x) at (lent-accepted s x w a) p }
+    go Accepted a false true p Accepted true e = record { projection = cc; paper = λ at. catmull-clark (held x) at (lent-accepted (settingVerdict s) x w a) p }

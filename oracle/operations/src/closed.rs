@@ -21,7 +21,7 @@ pub struct Claim {
 }
 
 /// Whether `quality` says that every edge has two quads that run opposite ways and that the quads of each point are
-/// one ring.
+/// one ring: tight, and no bad link, which tight says too.
 fn is_closed(sheet: &QuadMesh) -> bool {
     let call = Call { operation: Operation::Quality, argument: 0, band: PLAIN, sheet: sheet.clone() };
     library::answer(&call)
@@ -82,6 +82,7 @@ mod tests {
     fn other_sheets_have_none() {
         assert_eq!(numbers(&sheets::fan(6)), None);
         assert_eq!(numbers(&sheets::pillows()), None);
+        assert_eq!(numbers(&sheets::cubes()), None);
         assert_eq!(numbers(&sheets::empty()), None);
     }
 

@@ -8,7 +8,7 @@ use oracle::field::BandNumbers;
 use oracle::operation::Operation;
 use oracle::quads::QuadMesh;
 use oracle::random::Random;
-use oracle::{bands, drawn, sheets};
+use oracle::{bands, drawn, rings, sheets};
 
 /// The operations of the lists.
 const OPERATIONS: [Operation; 7] = [
@@ -37,10 +37,11 @@ struct Seen {
     tallies: Tallies,
     lists: u64,
     closed: u64,
+    pinched: u64,
     broken: u64,
 }
 
-/// A sheet to start from, with its band: closed or drawn, as it is, opened, turned, or damaged.
+/// A sheet to start from, with its band: closed or drawn, as it is, opened, turned, pinched, or damaged.
 fn start(r: &mut Random) -> (BandNumbers, QuadMesh) {
     let (band, mut sheet) = match r.below(4) {
         0 => (bands::band(r), sheets::closed(r)),
@@ -51,6 +52,7 @@ fn start(r: &mut Random) -> (BandNumbers, QuadMesh) {
         0 => sheets::open(r, &mut sheet),
         1 => sheets::damage(r, &mut sheet),
         2 | 3 => (0..1 + r.below(8)).for_each(|_| sheets::turn(r, &mut sheet)),
+        4 => sheets::pinch(r, &mut sheet),
         _ => (),
     }
     (band, sheet)
@@ -107,6 +109,7 @@ fn list(r: &mut Random, seen: &mut Seen) {
     let mut claim = Claim::of(&sheet);
     seen.lists += 1;
     seen.closed += u64::from(claim.is_some());
+    seen.pinched += u64::from(rings::is_closed(&sheet) && !rings::is_tight(&sheet));
     let mut chain = Chain::of(sheet);
     for _ in 0..2 + r.below(7) {
         if !step(r, &band, &mut chain, &mut claim, seen) {
@@ -123,6 +126,7 @@ pub fn run(calls: u64, seed: u64) -> Total {
         list(&mut r, &mut seen);
     }
     println!("{} lists, {} of them from closed sheets, {} of those broken", seen.lists, seen.closed, seen.broken);
+    println!("{} lists from sheets that are closed but for a point of two rings", seen.pinched);
     seen.tallies.print("in lists, ");
     let mut total = seen.tallies.total();
     total.differ += seen.broken;
@@ -139,6 +143,6 @@ mod tests {
         let mut seen = Seen::default();
         (0..60).for_each(|_| list(&mut r, &mut seen));
         assert_eq!((seen.tallies.total().differ, seen.broken), (0, 0));
-        assert!(30 < seen.closed && seen.closed < 60);
+        assert!(30 < seen.closed && seen.closed < 60 && seen.pinched > 0);
     }
 }

@@ -3,13 +3,13 @@ use crate::field::{BandNumbers, Field};
 use crate::implicit::ScalarField;
 use crate::operation::Operation;
 use crate::quads::{self, Band, QuadMesh, Quality};
-use crate::{MeshingError, Point, inner, refusal};
+use crate::{MeshingError, Point, inner, refusal, rings};
 
 /// The result is a digest of the sheet.
 pub const DIGEST: u8 = 1;
 /// Quality: `is_valid` says yes.
 pub const VALID: u8 = 2;
-/// Quality: every edge has exactly two quads that run opposite ways.
+/// Quality: every edge has exactly two quads that run opposite ways, and the original counts no bad link.
 pub const TIGHT: u8 = 4;
 /// Quality: no score is NaN, so shape_size_p05 is compared.
 pub const SCORED: u8 = 8;
@@ -132,18 +132,6 @@ impl Answer {
     }
 }
 
-/// Whether every edge has exactly two quads that run opposite ways.
-fn is_tight(sheet: &QuadMesh) -> bool {
-    let mut edges = std::collections::BTreeMap::<(usize, usize), Vec<bool>>::new();
-    for quad in &sheet.quads {
-        for k in 0..4 {
-            let (a, b) = (quad[k], quad[(k + 1) % 4]);
-            edges.entry((a.min(b), a.max(b))).or_default().push(a < b);
-        }
-    }
-    edges.values().all(|ways| ways.len() == 2 && ways[0] != ways[1])
-}
-
 /// An operation of the original that alters a sheet in place and counts.
 type Clean = fn(&mut QuadMesh, &Band<'_, Field>, usize) -> Result<usize, MeshingError>;
 
@@ -168,7 +156,9 @@ pub fn original(call: &Call) -> Answer {
         Operation::Regularize => cleaned(call, quads::regularize),
         Operation::ImproveLayout => cleaned(call, quads::improve_layout),
         Operation::Coarsen => cleaned(call, quads::coarsen),
-        Operation::Quality => Answer::of(quads::quality(sheet, band), |q| Answer::quality(&q, is_tight(sheet))),
+        Operation::Quality => Answer::of(quads::quality(sheet, band), |q| {
+            Answer::quality(&q, rings::is_closed(sheet) && q.bad_vertex_links == 0)
+        }),
         Operation::Project => Answer::of(inner::project(band, point, call.argument as u8), Answer::point),
         Operation::Value => Answer::number(call.band.field.value(point)),
         Operation::Gradient => Answer::point(inner::gradient(band, point)),

@@ -122,13 +122,16 @@ pub fn small(r: &mut Random) -> (BandNumbers, QuadMesh) {
     }
 }
 
-/// A drawn sheet with its band, up to two times worked on and sometimes damaged.
+/// A drawn sheet with its band, up to two times worked on, sometimes pinched and sometimes damaged.
 pub fn sheet(r: &mut Random) -> (BandNumbers, QuadMesh) {
     let Some((band, mut sheet)) = draw(r) else {
         return (bands::band(r), sheets::closed(r));
     };
     for _ in 0..r.below(3) {
         worked(r, &band, &mut sheet);
+    }
+    if r.one_in(8) {
+        sheets::pinch(r, &mut sheet);
     }
     for _ in 0..r.pick(&[0, 0, 0, 1]) {
         sheets::damage(r, &mut sheet);

@@ -16,5 +16,6 @@ pub mod patches;
 pub mod random;
 pub mod record;
 pub mod refusal;
+pub mod rings;
 pub mod sample;
 pub mod sheets;

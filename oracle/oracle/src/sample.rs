@@ -168,6 +168,12 @@ fn is_small(sheet: &QuadMesh) -> bool {
     [sheet.points.len(), sheet.quads.len(), sheet.labels.len()].iter().all(|&n| n <= 64)
 }
 
+/// Measures of a pillow, and of two pillows and two cubes at one point.
+fn pinched() -> [Call; 3] {
+    let of = |sheet| Call { operation: Operation::Quality, argument: 0, band: UNIT, sheet };
+    [sheets::pillow(), sheets::pillows(), sheets::cubes()].map(of)
+}
+
 /// The operations on the changed cubes and on random small sheets.
 fn operations(seed: u64) -> Vec<Record> {
     let mut r = Random::new(seed);
@@ -180,6 +186,7 @@ fn operations(seed: u64) -> Vec<Record> {
         let random = std::iter::repeat_with(|| inputs::call(&mut r, operation));
         calls.extend(random.filter(|call| is_small(&call.sheet)).take(count));
     }
+    calls.extend(pinched());
     calls.into_iter().map(record).collect()
 }
 
@@ -265,7 +272,8 @@ pub fn records(seed: u64) -> Vec<Record> {
 #[cfg(test)]
 mod tests {
     use super::*;
-    use crate::record;
+    use crate::call::{Answer, TIGHT};
+    use crate::{record, rings};
     use std::collections::BTreeSet;
 
     /// The operations and numbers that occur.
@@ -291,6 +299,26 @@ mod tests {
         let cleaned = regularize.into_iter().chain(improve).chain(coarsen).chain(rows).chain(drawn);
         let expected = leaf.into_iter().chain(tests).chain(sheet).chain(measured).chain(cleaned).collect();
         assert_eq!(seen(&records(SEED)), expected);
+    }
+
+    /// Whether an answer of `quality` says tight, and its bad links.
+    fn tight_and_links(answer: &Answer) -> (bool, u64) {
+        (answer.flags & TIGHT != 0, answer.words[5])
+    }
+
+    #[test]
+    fn two_parts_at_one_point_are_not_tight() {
+        let answers = pinched().map(|call| tight_and_links(&original(&call)));
+        assert_eq!(answers, [(true, 0), (false, 1), (false, 1)]);
+    }
+
+    #[test]
+    fn tight_and_pinched_sheets_are_measured() {
+        let measures = operations(SEED).into_iter().filter(|record| record.call.operation == Operation::Quality);
+        let closed = measures.filter(|record| record.answer.number == 0 && rings::is_closed(&record.call.sheet));
+        let (tight, pinched): (Vec<_>, Vec<_>) = closed.map(|r| tight_and_links(&r.answer)).partition(|found| found.0);
+        assert!(tight.len() > 10 && tight.iter().all(|found| found.1 == 0));
+        assert!(pinched.len() > 4 && pinched.iter().all(|found| found.1 > 0));
     }
 
     #[test]

@@ -36,6 +36,14 @@ pub fn pillows() -> QuadMesh {
     QuadMesh { points, quads, labels }
 }
 
+/// Two cubes of one label that share one point.
+pub fn cubes() -> QuadMesh {
+    let mut sheet = cube();
+    sheet.labels.fill(2);
+    attach(&mut sheet, 7, &cube(), 2);
+    sheet
+}
+
 /// A torus of n times m quads.
 pub fn torus(n: usize, m: usize) -> QuadMesh {
     let at = |i: usize, j: usize| (i % n) * m + j % m;
@@ -172,6 +180,51 @@ pub fn turn(r: &mut Random, sheet: &mut QuadMesh) {
     }
 }
 
+/// Puts the point b of a sheet onto the point a; the last point takes the number of b.
+fn join(sheet: &mut QuadMesh, a: usize, b: usize) {
+    let last = sheet.points.len() - 1;
+    sheet.points.swap_remove(b);
+    for v in sheet.quads.iter_mut().flatten() {
+        *v = if *v == b { a } else { *v };
+        *v = if *v == last { b } else { *v };
+    }
+}
+
+/// The quads at a point.
+fn quads_at(sheet: &QuadMesh, point: usize) -> impl Iterator<Item = (&[usize; 4], u8)> {
+    let all = sheet.quads.iter().zip(sheet.labels.iter().copied());
+    all.filter(move |(quad, _)| quad.contains(&point))
+}
+
+/// Whether the quads at two points have no point in common and no two opposite labels.
+fn are_apart(sheet: &QuadMesh, a: usize, b: usize) -> bool {
+    quads_at(sheet, a)
+        .all(|(p, l)| quads_at(sheet, b).all(|(q, m)| p.iter().all(|v| !q.contains(v)) && (l == m || l / 2 != m / 2)))
+}
+
+/// Adds another sheet, all of one label, whose first point is put onto the point a.
+fn attach(sheet: &mut QuadMesh, a: usize, other: &QuadMesh, label: u8) {
+    let first = sheet.points.len();
+    sheet.points.extend(&other.points);
+    sheet.quads.extend(other.quads.iter().map(|quad| quad.map(|v| first + v)));
+    sheet.labels.extend(other.quads.iter().map(|_| label));
+    join(sheet, a, first);
+}
+
+/// Puts two random points of a sheet into one if their quads are apart; else adds a small sheet that shares a point.
+/// Each edge keeps its quads, and where two points had a ring each, one point has two.
+pub fn pinch(r: &mut Random, sheet: &mut QuadMesh) {
+    let n = sheet.points.len().max(1);
+    let (a, b) = (r.below(n), r.below(n));
+    let label = quads_at(sheet, a).next().map(|(_, label)| label);
+    if a != b && are_apart(sheet, a, b) {
+        join(sheet, a, b);
+    } else if let Some(label) = label {
+        let other = if r.one_in(2) { cube() } else { pillow() };
+        attach(sheet, a, &other, label);
+    }
+}
+
 /// Takes up to three quads out of a sheet, but not the last one.
 pub fn open(r: &mut Random, sheet: &mut QuadMesh) {
     for _ in 0..1 + r.below(3) {
@@ -233,9 +286,12 @@ fn empty_one(r: &mut Random, sheet: &mut QuadMesh) {
     }
 }
 
-/// Any sheet: closed, or with one or two damages.
+/// Any sheet: closed, pinched at a point, or with one or two damages.
 pub fn any(r: &mut Random) -> QuadMesh {
     let mut sheet = closed(r);
+    if r.one_in(8) {
+        pinch(r, &mut sheet);
+    }
     for _ in 0..r.pick(&[0, 0, 1, 1, 1, 2]) {
         damage(r, &mut sheet);
     }

@@ -25,7 +25,9 @@ steps that bring or change the sheet
 steps that show the sheet
   display                 two lines: the quads, and the bad points
   page                    eight counts, one a line
-  quality                 the counts and all measures
+  quality                 the counts, all measures, whether it is tight (each
+                          edge with two quads that run opposite ways, no bad
+                          point: clean-up keeps it so), and whether it is valid
   check                   go on only if the sheet is valid: closed, the quads of
                           each point one ring, no quad twice or turned over
   write FILE.ply          write the sheet, its labels as colours too; - is

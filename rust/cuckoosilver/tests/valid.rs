@@ -6,6 +6,12 @@ use std::fs;
 /// A band whose sheet is closed, but in which smoothing collapses quads.
 const SPOILED: &str = "--quadric 1.155 .977 1.043 0 0 0 0 0 0 0 --box -1 -1 -1 1 1 .246 --levels .26 .67";
 
+/// Two pillows, each two quads back to back, that share their first point.
+const PINCHED: &str = "ply\nformat ascii 1.0\nelement vertex 7\nproperty float x\nproperty float y\nproperty float z\n\
+    element face 4\nproperty list uchar int vertex_indices\nproperty uchar label\nend_header\n\
+    .6 0 0 .7 0 0 .7 .1 0 .6 .1 0 .5 0 0 .5 -.1 0 .6 -.1 0\n\
+    4 0 1 2 3 6 4 3 2 1 0 6 4 0 4 5 6 6 4 6 5 4 0 6\n";
+
 /// The warnings of a log.
 fn warnings(log: &str) -> Vec<&str> {
     log.lines().filter(|line| line.starts_with("warning: ")).collect()
@@ -74,4 +80,19 @@ fn the_check_tells_each_count_that_is_not_0() {
     let unknown = run_in(&here, "read a.ply check");
     assert_eq!(unknown.code, Some(2));
     assert!(unknown.log.contains("the band is not whole"));
+}
+
+#[test]
+fn parts_that_meet_at_one_point_are_not_tight() {
+    let here = folder("pinched");
+    fs::write(here.join("a.ply"), PINCHED).unwrap();
+    let shows = |steps: &str| does(&here, &format!("--quiet {SHELL} read a.ply {steps}"));
+    assert_eq!(shows("display"), "quads              4\nbad points         1\n");
+    let record = shows("quality");
+    let value = |name: &str| record.lines().find(|line| line.starts_with(name)).map(|line| line[24..].trim());
+    assert_eq!(["boundary", "nonmanifold", "orientation", "links"].map(value), ["0", "0", "0", "1"].map(Some));
+    assert_eq!(["tight", "valid"].map(value), ["no", "no"].map(Some));
+    let check = run_in(&here, &format!("--quiet {SHELL} read a.ply check"));
+    assert_eq!(check.code, Some(1));
+    assert!(check.log.starts_with("cuckoosilver: the sheet is not valid: 1 bad point, 2 duplicate quads, "));
 }

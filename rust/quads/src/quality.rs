@@ -27,7 +27,9 @@ pub struct Quality {
     pub minimum_sampled_jacobian: f64,
     /// Quads that are turned over or collapsed somewhere.
     pub invalid_cells: usize,
-    /// Whether every edge has exactly two quads that run opposite ways.
+    /// Whether every edge has exactly two quads that run opposite ways, and the quads of every point are one ring: the
+    /// first is that no edge is counted above, the second that no link is bad. From such a sheet on, no list of
+    /// `regularize`, `improve_layout`, `coarsen` and `subdivide` opens it or joins its skins.
     pub tight: bool,
     /// What the library answers for `is_valid`.
     valid: bool,

@@ -1,4 +1,4 @@
-/* Refines the unit cube and measures it, through include/quads.h. */
+/* Refines the unit cube, measures it, and measures two pillows at one point, through include/quads.h. */
 #include <quads.h>
 #include <stdio.h>
 
@@ -8,6 +8,10 @@
 static const double points[] = {0, 0, 0, 1, 0, 0, 0, 1, 0, 1, 1, 0, 0, 0, 1, 1, 0, 1, 0, 1, 1, 1, 1, 1};
 static const uint32_t quads[] = {0, 4, 6, 2, 1, 3, 7, 5, 0, 1, 5, 4, 2, 6, 7, 3, 0, 2, 3, 1, 4, 5, 7, 6};
 static const uint8_t labels[] = {2, 3, 4, 5, 6, 7};
+
+/* Two pillows, each two quads back to back, on some of the points of the cube; they share point 0. */
+static const uint32_t pillows[] = {0, 1, 3, 2, 2, 3, 1, 0, 0, 4, 5, 6, 6, 5, 4, 0};
+static const uint8_t one_label[] = {6, 6, 6, 6};
 
 /* Refines the cube: 26 points and 24 quads. */
 static uint32_t refine(void)
@@ -24,15 +28,15 @@ static uint32_t refine(void)
     return number;
 }
 
-/* Measures the cube in the box from 0 to `side`. */
-static uint32_t quality(double side)
+/* Measures np points of the cube with nq quads in the box from 0 to `side`. */
+static uint32_t quality(size_t np, const uint32_t *q, const uint8_t *l, size_t nq, double side)
 {
     static uint32_t work[QUADS_WORK(8, 6)];
     static double floats[QUADS_FLOATS(8, 6)];
     const double numbers[10] = {0, 0, 1, 0}, bounds[6] = {0, 0, 0, side, side, side};
     uint64_t answer[10];
     double measures[4];
-    uint32_t number = quads_quality(points, COUNT(points), quads, COUNT(quads), labels, COUNT(labels), 8, 6, 6,
+    uint32_t number = quads_quality(points, COUNT(points), q, 4 * nq, l, nq, np, nq, nq,
         QUADS_PLANE, numbers, COUNT(numbers), bounds, COUNT(bounds), -1, 2,
         work, COUNT(work), floats, COUNT(floats), answer, COUNT(answer), measures, COUNT(measures));
     printf("quality %u: %llu quads, %llu bad links, tight %llu, valid %llu, least shape %g\n", number,
@@ -43,5 +47,6 @@ static uint32_t quality(double side)
 
 int main(void)
 {
-    return !(refine() == QUADS_ACCEPTED && quality(1) == QUADS_ACCEPTED && quality(-1) == QUADS_BOX);
+    return !(refine() == QUADS_ACCEPTED && quality(8, quads, labels, 6, 1) == QUADS_ACCEPTED
+        && quality(8, quads, labels, 6, -1) == QUADS_BOX && quality(7, pillows, one_label, 4, 1) == QUADS_ACCEPTED);
 }

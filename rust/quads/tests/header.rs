@@ -100,12 +100,13 @@ fn the_header_has_the_sizes_of_the_crate() {
 }
 
 #[test]
-fn a_c_program_refines_and_measures_the_cube() {
+fn a_c_program_refines_and_measures() {
     let program = compiled("cube");
     assert_eq!(
         run(&mut Command::new(&program)),
         "refine 0: 26 points, 24 quads, last label 7\n\
          quality 0: 6 quads, 0 bad links, tight 1, valid 1, least shape 1\n\
-         quality 1: 0 quads, 0 bad links, tight 0, valid 0, least shape 0\n"
+         quality 1: 0 quads, 0 bad links, tight 0, valid 0, least shape 0\n\
+         quality 0: 4 quads, 1 bad links, tight 0, valid 0, least shape -1\n"
     );
 }

@@ -18,6 +18,27 @@ pub fn cube() -> Sheet {
     }
 }
 
+/// Two quads back to back.
+pub fn pillow() -> Sheet {
+    Sheet {
+        points: vec![[0.0, 0.0, 0.0], [1.0, 0.0, 0.0], [1.0, 1.0, 0.0], [0.0, 1.0, 0.0]],
+        quads: vec![[0, 1, 2, 3], [3, 2, 1, 0]],
+        labels: vec![6, 6],
+    }
+}
+
+/// Two sheets as one, of one label: point `b` of the second is put onto point `a` of the first.
+pub fn joined(first: &Sheet, a: u32, second: &Sheet, b: u32) -> Sheet {
+    let mut sheet = first.clone();
+    let behind = first.points.len() as u32;
+    let number = |v: u32| if v == b { a } else { behind + v - u32::from(v > b) };
+    let others = second.points.iter().enumerate().filter(|(v, _)| *v != b as usize);
+    sheet.points.extend(others.map(|(_, point)| point));
+    sheet.quads.extend(second.quads.iter().map(|quad| quad.map(number)));
+    sheet.labels = vec![6; first.quads.len() + second.quads.len()];
+    sheet
+}
+
 /// A band that has the unit cube as its box.
 pub fn unit_box() -> Band {
     let field = Field::Plane { a: 0.0, b: 0.0, c: 1.0, d: 0.0 };

@@ -1,0 +1,2 @@
+-- `Tight` has the two theorems.
+pub mod Tight
