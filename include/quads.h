@@ -182,8 +182,8 @@ uint32_t quads_coarsen(
  *   answer[5]    points whose quads are not one ring
  *   answer[6]    quads with the corners of an earlier one
  *   answer[7]    quads that are turned over or collapsed somewhere
- *   answer[8]    1 if tight: every edge has exactly two quads, running opposite ways, and the quads of every point are one ring (answer[2] to
- *                answer[5] are 0); no list of clean-up calls opens such a sheet
+ *   answer[8]    1 if tight: every edge has exactly two quads, running opposite ways, and the quads of every point
+ *                are one ring (answer[2] to answer[5] are 0); no list of clean-up calls opens such a sheet
  *   answer[9]    1 if valid: answer[2] to answer[7] are 0, and measures[3] is finite
  *   measures[0]  the least shape of a quad
  *   measures[1]  the score, shape times size, below which one quad in twenty lies

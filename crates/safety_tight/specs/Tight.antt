@@ -28,8 +28,10 @@ TightIsSound = (x : Lent) (q : Quality) (t : Bool) → Assesses x (Done q t)
 -- `quality` of it says tight if it answers with a record
 pub record StaysTight (x : Lent) (cs : List Call) : Type 0 where
   pub demand : Demand3 (held x) cs
-  pub tight : (y : Lent) (q : Quality) (t : Bool) → held y ≡ after (held x) cs → Assesses y (Done q t) → t ≡ true
+  pub tight : (y : Lent) (q : Quality) (t : Bool) → held y ≡ after (held x) cs → Assesses y (Done q t)
+      → t ≡ true
 
 -- the second theorem: every list of calls from a sheet that `quality` called tight
 unfoldable pub TightStays : Type 0
-TightStays = (x : Lent) (q : Quality) (cs : List Call) → Assesses x (Done q true) → Run (held x) cs → StaysTight x cs
+TightStays = (x : Lent) (q : Quality) (cs : List Call) → Assesses x (Done q true) → Run (held x) cs
+    → StaysTight x cs

@@ -1,5 +1,5 @@
-//! Standard output that nobody reads. One test in a program of its own: a process that another test has just begun could
-//! hold the pipe open for a moment.
+//! Standard output that nobody reads. One test in a program of its own: a process that another test has just begun
+//! could hold the pipe open for a moment.
 mod common;
 use common::{Run, SHELL, does, folder, piped};
 use std::fs;

@@ -1,6 +1,6 @@
 //! What tight says: every edge has two quads that run opposite ways, and each point has one ring.
 mod common;
-use common::{cube, joined, pillow, unit_box};
+use common::{bowl, cube, joined, pillow, unit_box};
 use quads::{Quality, Sheet};
 
 /// The quality of a sheet that is not refused.
@@ -13,7 +13,7 @@ fn edges(quality: &Quality) -> [usize; 3] {
     [quality.boundary_edges, quality.nonmanifold_edges, quality.orientation_errors]
 }
 
-/// Asserts that each edge of a sheet has two quads that run opposite ways, but that it is not tight, for so many points.
+/// Asserts that each edge of a sheet has two quads that run opposite ways, and that so many bad points forbid tight.
 fn assert_pinched(sheet: &Sheet, points: usize) {
     let quality = quality(sheet);
     assert_eq!((edges(&quality), quality.bad_vertex_links), ([0; 3], points));
@@ -54,10 +54,12 @@ fn whole_rings_are_not_enough() {
 
 #[test]
 fn a_tight_sheet_stays_so() {
-    let mut sheet = cube().subdivide(&unit_box()).unwrap();
-    assert!(quality(&sheet).tight);
-    sheet.regularize(&unit_box(), 9).unwrap();
-    sheet.improve_layout(&unit_box(), 9).unwrap();
-    sheet.coarsen(&unit_box(), 9).unwrap();
-    assert!(quality(&sheet).tight);
+    let band = bowl();
+    let mut sheet = Sheet::extract_candidate(&band, 10).unwrap();
+    let is_tight = |sheet: &Sheet| sheet.quality(&band).unwrap().tight;
+    assert!(is_tight(&sheet));
+    assert!(sheet.coarsen(&band, 2).unwrap() > 0 && is_tight(&sheet));
+    assert!(sheet.regularize(&band, 9).unwrap() > 0 && is_tight(&sheet));
+    sheet.improve_layout(&band, 2).unwrap();
+    assert!(is_tight(&sheet) && is_tight(&sheet.subdivide(&band).unwrap()));
 }
