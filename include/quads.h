@@ -22,11 +22,12 @@
  * WORK is two slices, `work` and `floats`. For a lent sheet they hold at least QUADS_WORK(np, nq) and QUADS_FLOATS(np, nq) elements, for
  * drawing QUADS_DRAW_WORK(cells) and QUADS_DRAW_FLOATS(cells). What is in them does not matter. After every call all of both is zero.
  *
- * The ANSWER slice has at least four elements (for quality ten). After a call it holds
+ * The ANSWER slice has at least four elements (for quality ten, for corners per point two). After a call it holds
  *   answer[0]   the number of swaps or merges; 0 where the operation counts none
  *   answer[1]   the points, answer[2] the quads and answer[3] the labels of the sheet that was made or altered
- * and zeros there after a refusal. Elements behind these stay as they came, and so does a whole answer slice that is too short. The same holds
- * of quality's four measures: each of the two slices by its own length, whatever the other's is.
+ * (for quality and corners per point what is said at the function) and zeros there after a refusal. Elements behind these stay as they came,
+ * and so does a whole answer slice that is too short. The same holds of quality's four measures: each of the two slices by its own length,
+ * whatever the other's is.
  *
  * AFTER SUCCESS every slice that the operation writes a sheet to has the sheet in front and zeros behind it. AFTER A REFUSAL a sheet that was to
  * be altered in its own slices is bit for bit as it came, and the slices for a new sheet are all zero.
@@ -198,6 +199,22 @@ uint32_t quads_quality(
     double lower, double upper,
     uint32_t *work, size_t work_len, double *floats, size_t floats_len, uint64_t *answer, size_t answer_len,
     double *measures, size_t measures_len);
+
+/*
+ * Gives the corners per point exactly: 4 * nq, the corners of all quads, divided by np, as a whole number and the remainder. So
+ * answer[0] * np + answer[1] is 4 * nq, and answer[1] is below np. The cube has 3 and 0, the cube after quads_refine 3 and 18.
+ * The answer slice has at least two elements; a refusal leaves zeros there.
+ *   answer[0]    the quotient
+ *   answer[1]    the remainder
+ * It is refused as quality is, apart from NORMAL: a sheet that quality refuses with NORMAL is answered.
+ * Refusals: LARGE, SHORT (lent), BOX, BARE, CORNER, CLASH.
+ */
+uint32_t quads_corners_per_point(
+    const double *points, size_t points_len, const uint32_t *quads, size_t quads_len,
+    const uint8_t *labels, size_t labels_len, size_t np, size_t nq, size_t nl,
+    uint32_t kind, const double *numbers, size_t numbers_len, const double *bounds, size_t bounds_len,
+    double lower, double upper,
+    uint32_t *work, size_t work_len, double *floats, size_t floats_len, uint64_t *answer, size_t answer_len);
 
 #ifdef __cplusplus
 }

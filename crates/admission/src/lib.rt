@@ -10,7 +10,7 @@ ghost use Rattle.setting.specs.Settings.{domainOf, settingOf};
 ghost use Rattle.rule_sheet.specs.Flat.{quadsOf};
 ghost use Rattle.rule_sheet.specs.Sheet.{sheetOf, sheetVerdict};
 ghost use Rattle.rule_sheet.specs.Lent.{lentOf, workWith};
-ghost use Rattle.rule_admission.specs.Admission.{domainVerdict, admits};
+ghost use Rattle.rule_admission.specs.Admission.{domainVerdict, admitsAfter, admits, measurable};
 ghost use Rattle.sheet.specs.Sheet.{masksOf, LentSheet};
 ghost use Rattle.admission.specs.Contracts.{MasksAt};
 
@@ -46,8 +46,35 @@ fn test_sheet(
     sheet::constraints(c, points, quads, labels, &mut w[at..at + c.points])
 }
 
-// The tests of a call. The masks of an admitted sheet go to a region of the work slice, which is given in units of
-// points and quads together.
+// 12 and 13, then the verdict on what a call brings, then 5, 6 and 7. The masks of an admitted sheet go to a region of
+// the work slice, which is given in units of points and quads together.
+fn admit_after(
+    brought: Verdict,
+    c: Counts,
+    points: &[f64],
+    quads: &[u32],
+    labels: &[u8],
+    masks: usize,
+    w: &mut [u32],
+    floats: usize,
+) -> Verdict
+    requires { ⌜ masks < 64 ⌝ }
+    ensures { λ r. ⌜ r ≡ admitsAfter brought (lentOf c (now (points .entry)) (now (quads .entry))
+        (now (labels .entry))) (workWith (length (now (w .entry))) floats) ⌝ }
+    ensures { λ r. ⌜ MasksAt r (masks * (c .points + c .quads)) (c .points) (masksOf (c .points)
+        (quadsOf (c .quads) (now (quads .entry))) (take (c .labels) (now (labels .entry)))) (now (w .exit)) ⌝ }
+{
+    let lent = sheet::lent(c, points.len(), quads.len(), labels.len(), w.len(), floats);
+    if let Verdict::Refused(n) = lent {
+        return Verdict::Refused(n);
+    }
+    if let Verdict::Refused(n) = brought {
+        return Verdict::Refused(n);
+    }
+    test_sheet(c, points, quads, labels, masks * (c.points + c.quads), w)
+}
+
+// The tests of a call.
 pub fn admit(
     b: Band,
     c: Counts,
@@ -64,13 +91,24 @@ pub fn admit(
     ensures { λ r. ⌜ MasksAt r (masks * (c .points + c .quads)) (c .points) (masksOf (c .points)
         (quadsOf (c .quads) (now (quads .entry))) (take (c .labels) (now (labels .entry)))) (now (w .exit)) ⌝ }
 {
-    let lent = sheet::lent(c, points.len(), quads.len(), labels.len(), w.len(), floats);
-    if let Verdict::Refused(n) = lent {
-        return Verdict::Refused(n);
-    }
     let brought = band_verdict(b);
-    if let Verdict::Refused(n) = brought {
-        return Verdict::Refused(n);
-    }
-    test_sheet(c, points, quads, labels, masks * (c.points + c.quads), w)
+    admit_after(brought, c, points, quads, labels, masks, w, floats)
+}
+
+// The tests of a call that only measures: `quality`, and the corners per point. The work slice behind it may hold
+// anything.
+pub fn measure_verdict(
+    b: Band,
+    c: Counts,
+    points: &[f64],
+    quads: &[u32],
+    labels: &[u8],
+    w: &mut [u32],
+    floats: usize,
+) -> Verdict
+    ensures { λ r. ⌜ r ≡ measurable (domainOf b) (lentOf c (now (points .entry)) (now (quads .entry))
+        (now (labels .entry))) (workWith (length (now (w .entry))) floats) ⌝ }
+{
+    let brought = band_verdict(b);
+    admit_after(brought, c, points, quads, labels, 0, w, floats)
 }

@@ -34,6 +34,7 @@ use Rattle.rule_rows.specs.Rows.{isCopied, copies, numberOf, labelCentres, inwa
 use Rattle.rule_quality.specs.Census.{isClosed, reached, connected, goodLink, badLinks, tight}
 use Rattle.rule_quality.specs.Measure.{cornersOf, cellsOf, goodNormal, measureRule}
 use Rattle.rule_quality.specs.Quality.{qualityOf, qualityRule}
+use Rattle.rule_corners.specs.Corners.{ratioOf, cornersRule}
 use Rattle.cases.specs.Cases.{cube, turnedCube, pillow, twoPillows, swapPatch, mergePatch, AllHold, cases}
 
 pub cases-hold : AllHold cases
@@ -47,7 +48,8 @@ unfolding cube turnedCube pillow twoPillows swapPatch mergePatch cases ofBits ad
     movedTo movedAt quadStays mergeFits coarsenVerdict coarsenRule asked midOf cenOf finer newPoints finerSheet
     refined refineRule those edgeQuads pointQuads paired labelCount centreAt isCopied copies numberOf labelCentres
     inward tryFrom copyOf copiedQuads sidesOf edgeSides rowSides stripAt rowsSheet rowsMade rowed rowsRule isClosed
-    reached connected goodLink badLinks tight cornersOf cellsOf goodNormal measureRule qualityOf qualityRule zipWith
+    reached connected goodLink badLinks tight cornersOf cellsOf goodNormal measureRule qualityOf qualityRule zipWith ratioOf
+    cornersRule
 cases-hold = (
   (refl, refl, refl, refl, refl, refl),
   (
@@ -66,7 +68,7 @@ cases-hold = (
                 (refl, refl, refl),
                 (
                   (refl, refl, refl),
-                  (refl, (refl, ((refl, (refl, refl)), ((refl, (refl, refl)), ((refl, (refl, refl)), ((refl, (refl, refl)), tt)))))),
+                  (refl, (refl, ((refl, (refl, refl)), ((refl, (refl, refl)), ((refl, (refl, refl)), ((refl, (refl, refl)), ((refl, refl), ((refl, refl), tt)))))))),
                 ),
               ),
             ),

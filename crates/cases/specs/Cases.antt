@@ -1,5 +1,5 @@
 -- The cases that document 01 marks with *, "proved of the definitions together, by a table and one theorem about it",
--- and those of tight. A row says what is asked of the rules and what they must answer.
+-- and those of tight and of the corners per point. A row says what is asked of the rules and what they must answer.
 use Prim.Native.Nat.{ℕ, _+_, _-_, _*_}
 use mathlib.Core.Path.{_≡_}
 use mathlib.Core.Bool.{Bool, true, false}
@@ -29,6 +29,7 @@ use Rattle.rule_finer.specs.Finer.{refineRule}
 use Rattle.rule_rows.specs.Rows.{rowsRule}
 use Rattle.rule_quality.specs.Census.{isClosed}
 use Rattle.rule_quality.specs.Quality.{qualityRule}
+use Rattle.rule_corners.specs.Corners.{cornersRule}
 
 -- ---- what the rules are asked with
 
@@ -142,8 +143,18 @@ pub data Case : Type 0 where
   mergeCase : (va vc vb vd : ℕ) (gain : ℤ) (taken : Bool) → Case
   -- `quality` of a sheet: whether each edge has two quads that run opposite ways, the bad links, and tight
   qualityCase : (s : Sheet) (closed : Bool) (links : ℕ) (tight : Bool) → Case
+  -- `corners_per_point` of a sheet: quotient and remainder
+  cornersCase : (s : Sheet) (quotient remainder : ℕ) → Case
+  -- the same of its finer sheet, which has so many points and quads
+  finerCornersCase : (s : Sheet) (points quads quotient remainder : ℕ) → Case
   -- a square root
   rootCase : (of is : Float) → Case
+
+-- `corners_per_point` of a sheet gives these two numbers
+abbrev pub HasCorners : Sheet → ℕ → ℕ → Type 0
+HasCorners s quotient remainder =
+    Gives (cornersRule (domainIn unitBox) (lentSheet s) (workFor s))
+    (λ q. (q .quotient ≡ quotient) × (q .remainder ≡ remainder))
 
 -- what a row says: the answers of the rules
 abbrev pub Holds : Case → Type 0
@@ -169,6 +180,9 @@ Holds (qualityCase s closed links tight) =
     (isClosed (length (s .points)) (s .quads) ≡ closed)
     × Gives (qualityRule (domainIn unitBox) (lentSheet s) (workFor s))
     (λ a. (a .quality .«bad_vertex_links» ≡ links) × (a .isTight ≡ tight))
+Holds (cornersCase s quotient remainder) = HasCorners s quotient remainder
+Holds (finerCornersCase s points quads quotient remainder) =
+    Gives (refineRule (lentSheet s) (workFor s) (roomFor points quads)) (λ t. HasCorners t quotient remainder)
 Holds (rootCase of is) = sqrtOf of ≡ is
 
 -- the same of every row
@@ -206,4 +220,7 @@ cases =
     qualityCase pillow true 0 true ∷
     qualityCase twoPillows true 1 false ∷
     qualityCase turnedCube false 0 false ∷
+    -- Document 02, Point 8: "The cube gives 3 and 0, the refined cube 3 and 18."
+    cornersCase cube 3 0 ∷
+    finerCornersCase cube 26 24 3 18 ∷
     []

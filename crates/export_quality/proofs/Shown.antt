@@ -1,9 +1,8 @@
 -- What `quads_quality` leaves in the answer slice and in the slice of measures. Assumes nothing.
-use Prim.Native.Nat.{ℕ, suc, _≤_}
-use mathlib.Core.Path.{_≡_, refl, ap, _∙_}
+use Prim.Native.Nat.{ℕ, _≤_}
+use mathlib.Core.Path.{_≡_, _∙_}
 use mathlib.Core.Bool.{Bool, false, _||_}
-use mathlib.Core.List.{List, [], _∷_}
-use native.Mathlib.Omega.{arith}
+use mathlib.Core.List.{List}
 use lib.ListN.{length, set}
 use lib.Ieee.{Float}
 use Rattle.band.specs.declared.Band.{Band}
@@ -16,26 +15,12 @@ use Rattle.rule_quality.specs.declared.report.Quality.{Quality}
 use Rattle.rule_quality.specs.declared.report.Assessed.{Assessed}
 use Rattle.rule_quality.specs.declared.report.Assessed.the-variants.{Done, Refused}
 use Rattle.rule_quality.specs.Quality.{isValid, Assessment, assessedOf}
+use Rattle.rule_exports.proofs.Fronted.{stores-front}
 use Rattle.rule_exports.specs.Told.{Told, bandOf, isShortTold, beforeVerdict, byTold}
 use Rattle.rule_exports.specs.Measured.{qualityCounts, qualityMeasures, countsShown, measuresShown, fronted, ShowsMeasures}
 use Rattle.export_quality.specs.Steps.{noQuality}
 
 -- ---- stores one after the other
-
--- s with the elements of l stored from place k on
-abbrev stores : {A : Type 0} → ℕ → List A → List A → List A
-stores k [] s = s
-stores k (x ∷ l) s = stores (suc k) l (set s k x)
-
-stores-behind : {A : Type 0} (k : ℕ) (l : List A) (y : A) (s : List A) → stores (suc k) l (y ∷ s) ≡ y ∷ stores k l s
-stores-behind k [] y s = refl
-stores-behind k (x ∷ l) y s = stores-behind (suc k) l y (set s k x)
-
-stores-front : {A : Type 0} (l s : List A) → length l ≤ length s → stores 0 l s ≡ fronted l s
-unfolding fronted
-stores-front [] s h = refl
-stores-front (x ∷ l) [] h = absurd (omega arith)
-stores-front (x ∷ l) (y ∷ s) h = stores-behind 0 l x s ∙ ap (λ r. x ∷ r) (stores-front l s (omega arith))
 
 -- the ten stores of `put_counts`
 pub counts-put : (q : Quality) (s : List ℕ) (x y : ℕ) (tight valid : Bool) → 10 ≤ length s → x ≡ num tight → y ≡ num valid

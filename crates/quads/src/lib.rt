@@ -12,10 +12,12 @@ ghost use Rattle.rule_finer.specs.Finer.{refineRule};
 ghost use Rattle.rule_finer.specs.Subdivide.{subdivideRule};
 ghost use Rattle.rule_rows.specs.Rows.{rowsRule};
 ghost use Rattle.rule_quality.specs.Quality.{qualityRule, assessedOf};
+ghost use Rattle.rule_corners.specs.Corners.{cornersRule, dividedOf};
 ghost use Rattle.rule_extract.specs.Drawing.{extractRule};
 ghost use Rattle.rule_exports.specs.Told.{toldOf, byTold, drawnByTold};
 ghost use Rattle.rule_exports.specs.Exports.{isShortAnswer, withAnswer, ExportMakes, ExportAlters, ExportAltersQuads};
 ghost use Rattle.rule_exports.specs.Measured.{isShortCounts, isShortMeasures, ShowsMeasures};
+ghost use Rattle.rule_exports.specs.Divided.{isShortRatio, ShowsRatio};
 
 // `extract_candidate`: the counts of the drawn sheet go to answer[1..4], answer[0] is 0.
 #[no_mangle]
@@ -274,6 +276,47 @@ pub extern "C" fn quads_quality(
     let b = export_band::band_of(kind, numbers, bounds, lower, upper);
     let r = export_quality::quality_after(v, b, c, points, quads, labels, work, floats);
     export_quality::put_assessed(answer, measures, r)
+}
+
+// `corners_per_point`: the quotient goes to answer[0], the remainder to answer[1].
+#[no_mangle]
+pub extern "C" fn quads_corners_per_point(
+    points: &[f64],
+    quads: &[u32],
+    labels: &[u8],
+    np: usize,
+    nq: usize,
+    nl: usize,
+    kind: u32,
+    numbers: &[f64],
+    bounds: &[f64],
+    lower: f64,
+    upper: f64,
+    work: &mut [u32],
+    floats: &mut [f64],
+    answer: &mut [u64],
+) -> u32
+    ensures answer { λ r. ⌜ (
+        let x = lentOf (record { points = np; quads = nq; labels = nl }) (now (points .entry)) (now (quads .entry))
+        (now (labels .entry)) in
+        let t = toldOf kind (now (numbers .entry)) (now (bounds .entry)) lower upper in
+        let w = workOf (now (work .entry)) (now (floats .entry)) in
+        let l = now (answer .entry) in
+        ShowsRatio (dividedOf (byTold (x .counts) (isShortRatio l) t (λ s. cornersRule s x w))) l r
+        (now (answer .exit))) ⌝ }
+    ensures cleared { λ _. ⌜ Cleared (now (work .entry)) (now (floats .entry)) (now (work .exit))
+        (now (floats .exit)) ⌝ }
+{
+    let c = Counts {
+        points: np,
+        quads: nq,
+        labels: nl,
+    };
+    let few = answer.len() < export_corners::ANSWERS;
+    let v = export_band::told_verdict(c, few, numbers.len(), bounds.len());
+    let b = export_band::band_of(kind, numbers, bounds, lower, upper);
+    let r = export_corners::corners_after(v, b, c, points, quads, labels, work, floats);
+    export_corners::put_divided(answer, r)
 }
 
 // `regularize`: the swaps go to answer[0], the counts of the sheet to answer[1..4].

@@ -159,8 +159,8 @@ fn quality_or_refusal(
     ensures { λ r. ⌜ r ≡ assessedOf (qualityRule (domainOf b) (lentOf c (now (points .entry)) (now (quads .entry))
         (now (labels .entry))) (workOf (now (work .entry)) (now (floats .entry)))) ⌝ }
 {
-    let admitted = admission::admit(b, c, points, quads, labels, 0, work, floats.len());
-    if let Verdict::Refused(k) = admitted {
+    let tested = admission::measure_verdict(b, c, points, quads, labels, work, floats.len());
+    if let Verdict::Refused(k) = tested {
         return Assessed::Refused(k);
     }
     assess(b, c, points, quads, labels, work, floats)

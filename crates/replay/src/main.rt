@@ -19,7 +19,7 @@ fn records_in(head: &[u8]) -> u64 {
 }
 
 // Goes through the records, until one is missing or too long.
-fn replay_all(records: u64, seen: &mut [u64; 256], agreed: &mut [u64; 256]) {
+fn replay_all(records: u64, seen: &mut [u64; 1024], agreed: &mut [u64; 1024]) {
     let mut left = records;
     while 0 < left && record::replay(seen, agreed) {
         left -= 1;
@@ -30,8 +30,8 @@ fn main() {
     let mut head = [0u8; 16];
     io::read_full(0, &mut head);
     let records = records_in(&head);
-    let mut seen = [0u64; 256];
-    let mut agreed = [0u64; 256];
+    let mut seen = [0u64; 1024];
+    let mut agreed = [0u64; 1024];
     replay_all(records, &mut seen, &mut agreed);
     table::print(records, &seen, &agreed);
 }

@@ -23,10 +23,14 @@ fn read(bytes: &mut [u8]) -> bool {
     read_part(bytes, 208, size)
 }
 
-// Whether the proved function of an operation answers as the record says. Operations up to number 8 take a sheet; a
-// larger one is not taken.
+// Whether an operation takes a sheet and shows what it makes or measures of it.
+fn takes_sheet(operation: u64) -> bool {
+    operation <= 8 || operation == 16
+}
+
+// Whether the proved function of an operation answers as the record says; a larger sheet is not taken.
 fn agrees(bytes: &[u8], operation: u64, number: u64) -> bool {
-    if operation <= 8 && !sheets::is_taken(bytes) {
+    if takes_sheet(operation) && !sheets::is_taken(bytes) {
         return false;
     }
     let mut k = [0.0; 21];
@@ -41,21 +45,21 @@ fn agrees(bytes: &[u8], operation: u64, number: u64) -> bool {
 }
 
 // One more at a place.
-fn count(tally: &mut [u64; 256], at: usize) {
-    if at < 256 {
+fn count(tally: &mut [u64; 1024], at: usize) {
+    if at < 1024 {
         tally[at] = std::num::wrapping_add_u64(tally[at], 1);
     }
 }
 
 // Reads and replays one record; false if there is none.
-pub fn replay(seen: &mut [u64; 256], agreed: &mut [u64; 256]) -> bool {
+pub fn replay(seen: &mut [u64; 1024], agreed: &mut [u64; 1024]) -> bool {
     let mut bytes = [0u8; 8192];
     if !read(&mut bytes) {
         return false;
     }
     let operation = numbers::byte_at(&bytes, 4);
     let number = numbers::byte_at(&bytes, 5);
-    let at = (operation % 16 * 16 + number % 16) as usize;
+    let at = (operation % 32 * 32 + number % 32) as usize;
     count(seen, at);
     if agrees(&bytes, operation, number) {
         count(agreed, at);

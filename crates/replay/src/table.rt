@@ -1,4 +1,4 @@
-// The table of what was seen and what agreed, at operation × 16 + number.
+// The table of what was seen and what agreed, at operation × 32 + number.
 
 // Writes the name of a function at a point, or of a test.
 fn print_function(operation: usize) -> bool {
@@ -25,6 +25,7 @@ fn print_name(operation: usize) -> bool {
         6 => io::write_all(1, b"coarsen "),
         7 => io::write_all(1, b"boundary_rows "),
         8 => io::write_all(1, b"quality "),
+        16 => io::write_all(1, b"corners_per_point "),
         _ => print_function(operation),
     }
 }
@@ -34,8 +35,8 @@ fn print_line(at: usize, seen: u64, agreed: u64) {
     if seen == 0 {
         return;
     }
-    print_name(at / 16);
-    io::print_decimal(1, (at % 16) as u64);
+    print_name(at / 32);
+    io::print_decimal(1, (at % 32) as u64);
     io::write_all(1, b": ");
     io::print_decimal(1, agreed);
     io::write_all(1, b" of ");
@@ -44,10 +45,10 @@ fn print_line(at: usize, seen: u64, agreed: u64) {
 }
 
 // The sum of a tally.
-fn total(tally: &[u64; 256]) -> u64 {
+fn total(tally: &[u64; 1024]) -> u64 {
     let mut sum = 0;
     let mut i = 0;
-    while i < 256 {
+    while i < 1024 {
         sum = std::num::wrapping_add_u64(sum, tally[i]);
         i += 1;
     }
@@ -55,16 +56,16 @@ fn total(tally: &[u64; 256]) -> u64 {
 }
 
 // Writes the lines of the table.
-fn print_lines(seen: &[u64; 256], agreed: &[u64; 256]) {
+fn print_lines(seen: &[u64; 1024], agreed: &[u64; 1024]) {
     let mut i = 0;
-    while i < 256 {
+    while i < 1024 {
         print_line(i, seen[i], agreed[i]);
         i += 1;
     }
 }
 
 // Writes the table, how many records there are and how many agree.
-pub fn print(records: u64, seen: &[u64; 256], agreed: &[u64; 256]) {
+pub fn print(records: u64, seen: &[u64; 1024], agreed: &[u64; 1024]) {
     print_lines(seen, agreed);
     io::print_decimal(1, records);
     io::write_all(1, b" records, ");

@@ -120,3 +120,12 @@ pub fn same_quality(
     let at = result_at(bytes);
     same_tally(bytes, at, answer) && same_measures(bytes, at + 64, measures)
 }
+
+// Whether the number of an answer of `corners_per_point` and, if it is accepted, its two numbers are the stored ones.
+pub fn same_ratio(bytes: &[u8], got: u32, number: u64, answer: &[u64; 2]) -> bool {
+    if got != 0 || number != 0 {
+        return got as u64 == number;
+    }
+    let at = result_at(bytes);
+    answer[0] == numbers::word_at(bytes, at) && answer[1] == numbers::word_at(bytes, at + 8)
+}

@@ -1,4 +1,5 @@
 pub mod Told
 pub mod Exports
 pub mod Measured
+pub mod Divided
 pub mod Refusals

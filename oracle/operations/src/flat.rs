@@ -83,20 +83,23 @@ impl Flat {
 
 /// A band's numbers in flat lists.
 pub struct FlatBand {
-    kind: u32,
-    numbers: [f64; 10],
-    bounds: [f64; 6],
+    /// The kind of its field.
+    pub kind: u32,
+    /// The ten numbers of its field.
+    pub numbers: Vec<f64>,
+    /// The six bounds of its box.
+    pub bounds: Vec<f64>,
     lower: f64,
     upper: f64,
 }
 
 impl From<&BandNumbers> for FlatBand {
     fn from(band: &BandNumbers) -> FlatBand {
-        let ([[x, y, z], [high_x, high_y, high_z]], [lower, upper]) = (band.bounds, band.levels);
+        let [lower, upper] = band.levels;
         FlatBand {
             kind: u32::from(band.field.kind()),
-            numbers: band.field.numbers(),
-            bounds: [x, y, z, high_x, high_y, high_z],
+            numbers: band.field.numbers().to_vec(),
+            bounds: band.bounds.as_flattened().to_vec(),
             lower,
             upper,
         }
@@ -112,8 +115,10 @@ impl FlatBand {
 
 /// The two work slices, filled with what must be cleared.
 pub struct Work {
-    wholes: Vec<u32>,
-    floats: Vec<f64>,
+    /// Whole numbers.
+    pub wholes: Vec<u32>,
+    /// Floats.
+    pub floats: Vec<f64>,
 }
 
 impl From<WorkSize> for Work {

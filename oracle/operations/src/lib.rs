@@ -2,6 +2,7 @@
 pub mod chain;
 pub mod closed;
 pub mod draws;
+pub mod faults;
 pub mod flat;
 pub mod library;
 pub mod lists;

@@ -7,16 +7,36 @@ use quads::{Counts, LIMIT, Refusal, ffi, sizes};
 
 /// All that an operation is lent; what it writes is filled with what must be overwritten.
 pub struct Lent {
-    sheet: Flat,
+    /// The sheet.
+    pub sheet: Flat,
     /// The sheet as it came.
     came: Flat,
     /// Passes or cells.
     argument: usize,
-    band: FlatBand,
+    /// The band.
+    pub band: FlatBand,
     result: Flat,
-    work: Work,
-    answer: [u64; 10],
-    measures: [f64; 4],
+    /// The work.
+    pub work: Work,
+    /// The answer slice, one element longer than the longest answer.
+    pub answer: Vec<u64>,
+    /// The measures slice, one element longer than the measures.
+    pub measures: Vec<f64>,
+}
+
+/// How many elements of its answer and measures slices an operation writes.
+fn written(operation: Operation) -> (usize, usize) {
+    match operation {
+        Operation::Quality => (10, 4),
+        Operation::Corners => (2, 0),
+        _ => (4, 0),
+    }
+}
+
+/// The elements of a slice that a call writes, so many, and those behind them; of a slice that is too short none is
+/// written.
+fn parts<T>(slice: &[T], written: usize) -> (&[T], &[T]) {
+    slice.split_at_checked(written).unwrap_or((&[], slice))
 }
 
 /// Room for the largest sheet that an operation can make, and one element more; none where it makes no sheet.
@@ -48,9 +68,16 @@ impl Lent {
             argument,
             band: FlatBand::from(&call.band),
             work: work.into(),
-            answer: [u64::MAX; 10],
-            measures: [f64::NAN; 4],
+            answer: vec![u64::MAX; 11],
+            measures: vec![f64::NAN; 5],
         }
+    }
+
+    /// The same with something changed before the call.
+    pub fn changed(mut self, change: impl FnOnce(&mut Lent)) -> Lent {
+        change(&mut self);
+        self.came = self.sheet.clone();
+        self
     }
 
     /// Calls the operation: 0, or the number of its refusal. None where it is not one of the library's.
@@ -66,20 +93,20 @@ impl Lent {
             Operation::ImproveLayout => Some(ffi::improve_layout(sheet.as_sheet_mut(), band, number, work, answer)),
             Operation::Coarsen => Some(ffi::coarsen(sheet.as_sheet_mut(), band, number, work, answer)),
             Operation::Quality => Some(ffi::quality(sheet.as_sheet_ref(), band, work, answer, &mut self.measures)),
+            Operation::Corners => Some(ffi::corners_per_point(sheet.as_sheet_ref(), band, work, answer)),
             Operation::Project | Operation::Value | Operation::Gradient | Operation::Normal => None,
             Operation::Sqrt | Operation::Constraints | Operation::Validate => None,
         }
     }
 
-    /// The count, and the counts of the sheet that was made or altered.
-    fn answered(&self) -> ffi::Answer {
-        let [count, points, quads, labels, ..] = self.answer;
-        [count, points, quads, labels].into()
+    /// The count, and the counts of the sheet that was made or altered; none in a slice that is too short for them.
+    fn answered(&self) -> Option<ffi::Answer> {
+        self.answer.first_chunk::<4>().map(|&answer| answer.into())
     }
 
     /// The sheet that an operation made or altered in all its slices; none if something is left behind it.
     fn sheet_in(&self, slices: &Flat) -> Option<Answer> {
-        let ffi::Answer { count, sheet } = self.answered();
+        let ffi::Answer { count, sheet } = self.answered()?;
         Some(Answer::sheet(count, &slices.sheet(sheet)?))
     }
 
@@ -89,7 +116,7 @@ impl Lent {
         let Flat { points, labels, counts, .. } = self.came.clone();
         let mut left = self.sheet.clone();
         (left.points, left.labels) = (points, labels);
-        let answer = self.answered();
+        let answer = self.answered()?;
         if !left.same(&self.sheet) || answer.sheet != counts {
             return None;
         }
@@ -111,8 +138,9 @@ impl Lent {
             invalid_cells,
             tight,
             valid,
-        ] = self.answer.map(|n| n as usize);
-        let [minimum_shape, shape_size_p05, shape_size_mean, minimum_sampled_jacobian] = self.measures;
+        ] = self.answer.first_chunk::<10>()?.map(|n| n as usize);
+        let [minimum_shape, shape_size_p05, shape_size_mean, minimum_sampled_jacobian] =
+            *self.measures.first_chunk()?;
         let quality = Quality {
             quads,
             irregular_vertices,
@@ -131,11 +159,24 @@ impl Lent {
         bits.then(|| Answer::quality(&quality, tight == 1))
     }
 
+    /// The quotient and the remainder that `corners_per_point` wrote.
+    fn divided(&self) -> Option<Answer> {
+        self.answer.first_chunk().map(|&words| Answer::ratio(words))
+    }
+
     /// Whether a refusal left zeros in everything that would have been made.
     fn is_bare(&self, operation: Operation) -> bool {
-        let answers = if operation == Operation::Quality { 10 } else { 4 };
-        let measures = operation != Operation::Quality || self.measures.iter().all(|x| x.to_bits() == 0);
-        self.answer[..answers].iter().all(|&n| n == 0) && measures && self.result.sheet(Counts::default()).is_some()
+        let (answers, measures) = written(operation);
+        parts(&self.answer, answers).0.iter().all(|&n| n == 0)
+            && parts(&self.measures, measures).0.iter().all(|x| x.to_bits() == 0)
+            && self.result.sheet(Counts::default()).is_some()
+    }
+
+    /// Whether what is behind the answer and the measures, all of a slice that is too short, is as it was filled.
+    fn is_kept_behind(&self, operation: Operation) -> bool {
+        let (answers, measures) = written(operation);
+        parts(&self.answer, answers).1.iter().all(|&n| n == u64::MAX)
+            && parts(&self.measures, measures).1.iter().all(|x| x.to_bits() == f64::NAN.to_bits())
     }
 
     /// Whether the lent sheet is as it came, which only an accepted clean-up may change.
@@ -146,11 +187,12 @@ impl Lent {
     /// The answer to a call that ended with this number; none if it left something behind.
     pub fn answer(&self, operation: Operation, number: u32) -> Option<Answer> {
         match (number, operation) {
-            _ if !self.work.is_zero() => None,
+            _ if !self.work.is_zero() || !self.is_kept_behind(operation) => None,
             (0, Operation::Regularize | Operation::ImproveLayout) => self.swapped(),
             (0, Operation::Coarsen) => self.sheet_in(&self.sheet),
             _ if !self.is_kept() => None,
             (0, Operation::Quality) => self.measured(),
+            (0, Operation::Corners) => self.divided(),
             (0, _) => self.sheet_in(&self.result),
             _ => self.is_bare(operation).then(|| Answer::refused(number as u8)),
         }
@@ -158,9 +200,9 @@ impl Lent {
 
     /// The slices of the sheet that a call with this number leaves for the next one.
     pub fn left(self, operation: Operation, number: u8) -> Flat {
-        let counts = self.answered().sheet;
+        let counts = self.answered().map_or(self.sheet.counts, |answer| answer.sheet);
         match operation {
-            _ if number != 0 || operation == Operation::Quality => self.sheet,
+            _ if number != 0 || operation.measures() => self.sheet,
             Operation::Regularize | Operation::ImproveLayout | Operation::Coarsen => Flat { counts, ..self.sheet },
             _ => Flat { counts, ..self.result },
         }

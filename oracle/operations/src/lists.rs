@@ -11,7 +11,7 @@ use oracle::random::Random;
 use oracle::{bands, drawn, rings, sheets};
 
 /// The operations of the lists.
-const OPERATIONS: [Operation; 7] = [
+const OPERATIONS: [Operation; 8] = [
     Operation::Regularize,
     Operation::ImproveLayout,
     Operation::Coarsen,
@@ -19,6 +19,7 @@ const OPERATIONS: [Operation; 7] = [
     Operation::Refine,
     Operation::Rows,
     Operation::Quality,
+    Operation::Corners,
 ];
 
 /// Those of which demand 3 says something; `refine` can make coordinates infinite.
@@ -87,7 +88,7 @@ fn step(r: &mut Random, band: &BandNumbers, chain: &mut Chain, claim: &mut Optio
     let Some(answer) = chain.ask(operation, passes, &band, &mut seen.tallies) else {
         return false;
     };
-    if answer.number != 0 || operation == Operation::Quality {
+    if answer.number != 0 || operation.measures() {
         return true;
     }
     let before = claim.filter(|_| CLAIMED.contains(&operation));

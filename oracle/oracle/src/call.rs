@@ -3,7 +3,7 @@ use crate::field::{BandNumbers, Field};
 use crate::implicit::ScalarField;
 use crate::operation::Operation;
 use crate::quads::{self, Band, QuadMesh, Quality};
-use crate::{MeshingError, Point, inner, refusal, rings};
+use crate::{MeshingError, Point, corners, inner, refusal, rings};
 
 /// The result is a digest of the sheet.
 pub const DIGEST: u8 = 1;
@@ -112,6 +112,11 @@ impl Answer {
         Answer { flags: valid | tight | scored, words, ..Answer::default() }
     }
 
+    /// Accepted, with a quotient and a remainder as the result.
+    pub fn ratio(words: [u64; 2]) -> Answer {
+        Answer { words: words.to_vec(), ..Answer::default() }
+    }
+
     /// The answer of a result of the original.
     fn of<T>(result: Result<T, MeshingError>, accepted: impl FnOnce(T) -> Answer) -> Answer {
         result.map_or_else(|error| Answer::refused(refusal::number(&error)), accepted)
@@ -142,7 +147,8 @@ fn cleaned(call: &Call, operation: Clean) -> Answer {
     Answer::of(count, |count| Answer::sheet(count, &sheet))
 }
 
-/// What the original answers; `project` only on a band that `validate` accepts, `normal` only on labels up to 7.
+/// What the original answers, and where it has no operation, its tests and a model; `project` only on a band that
+/// `validate` accepts, `normal` only on labels up to 7.
 pub fn original(call: &Call) -> Answer {
     let band = &call.band.band();
     let sheet = &call.sheet;
@@ -166,6 +172,7 @@ pub fn original(call: &Call) -> Answer {
         Operation::Sqrt => Answer::number(point[0].sqrt()),
         Operation::Constraints => Answer::of(inner::constraints(sheet, band), |()| Answer::accepted()),
         Operation::Validate => Answer::of(inner::validate(band), |()| Answer::accepted()),
+        Operation::Corners => Answer::of(inner::constraints(sheet, band), |()| Answer::ratio(corners::dealt(sheet))),
     }
 }
 

@@ -13,6 +13,9 @@ pub type Shares = [(Operation, u64)];
 /// What an implementation answers to a call; none where it has no such operation.
 pub type Implementation = fn(&Call) -> Option<Answer>;
 
+/// What is expected of a call, and what an implementation answers.
+pub type Answers = (Answer, Option<Answer>);
+
 /// How many differing calls of an operation are shown.
 const SHOWN: u64 = 5;
 
@@ -90,7 +93,7 @@ impl Tallies {
 }
 
 /// Compares random calls of all operations, each on a sheet of its own; prints a line for each operation.
-pub fn single_calls(shares: &Shares, calls: u64, seed: u64, answer: Implementation) -> Total {
+pub fn single_calls(shares: &Shares, calls: u64, seed: u64, mut ask: impl FnMut(&Call) -> Answers) -> Total {
     let mut r = Random::new(seed);
     let (mut share, mut total) = (0, Total::default());
     for &(operation, part) in shares {
@@ -98,7 +101,8 @@ pub fn single_calls(shares: &Shares, calls: u64, seed: u64, answer: Implementati
         let mut tallies = Tallies::default();
         for _ in total.calls..calls * share / 100 {
             let call = inputs::call(&mut r, operation);
-            tallies.count(&call, &original(&call), answer(&call).as_ref());
+            let (expected, got) = ask(&call);
+            tallies.count(&call, &expected, got.as_ref());
         }
         tallies.print("");
         total += tallies.total();
@@ -114,5 +118,5 @@ pub fn ends_well(total: Total) -> bool {
 
 /// Compares random single calls and prints all lines; whether none differs.
 pub fn run(shares: &Shares, calls: u64, seed: u64, answer: Implementation) -> bool {
-    ends_well(single_calls(shares, calls, seed, answer))
+    ends_well(single_calls(shares, calls, seed, |call| (original(call), answer(call))))
 }

@@ -5,6 +5,7 @@ pub use error::MeshingError;
 pub mod arguments;
 pub mod bands;
 pub mod call;
+pub mod corners;
 pub mod drawn;
 pub mod driver;
 pub mod field;

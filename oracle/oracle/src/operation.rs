@@ -35,6 +35,8 @@ pub enum Operation {
     Constraints = 14,
     /// Tests a band.
     Validate = 15,
+    /// Divides the corners of the quads by the points.
+    Corners = 16,
 }
 
 impl Operation {
@@ -56,12 +58,18 @@ impl Operation {
             Operation::Sqrt => "sqrt",
             Operation::Constraints => "constraints",
             Operation::Validate => "validate",
+            Operation::Corners => "corners_per_point",
         }
     }
 
     /// Its number.
     pub fn number(self) -> u8 {
         self as u8
+    }
+
+    /// Whether it measures a sheet, which stays as it is.
+    pub fn measures(self) -> bool {
+        matches!(self, Operation::Quality | Operation::Corners)
     }
 
     /// All of them in the order of their numbers.
@@ -91,6 +99,7 @@ impl TryFrom<u8> for Operation {
             13 => Ok(Operation::Sqrt),
             14 => Ok(Operation::Constraints),
             15 => Ok(Operation::Validate),
+            16 => Ok(Operation::Corners),
             _ => Err(UnknownOperation(number)),
         }
     }
@@ -130,16 +139,17 @@ mod tests {
             "sqrt",
             "constraints",
             "validate",
+            "corners_per_point",
         ];
         assert_eq!(Operation::all().map(Operation::name).collect::<Vec<_>>(), names);
-        assert!(Operation::all().map(Operation::number).eq(1..=15));
+        assert!(Operation::all().map(Operation::number).eq(1..=16));
     }
 
     #[test]
     fn another_number_is_none() {
-        for number in [0, 16, u8::MAX] {
+        for number in [0, 17, u8::MAX] {
             assert_eq!(Operation::try_from(number), Err(UnknownOperation(number)));
         }
-        assert_eq!(UnknownOperation(16).to_string(), "16 is the number of no operation");
+        assert_eq!(UnknownOperation(17).to_string(), "17 is the number of no operation");
     }
 }

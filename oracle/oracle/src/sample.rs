@@ -3,7 +3,7 @@ use crate::bands::UNIT;
 use crate::call::{Call, lone, original};
 use crate::field::{BandNumbers, Field};
 use crate::operation::Operation;
-use crate::quads::QuadMesh;
+use crate::quads::{self, QuadMesh};
 use crate::random::Random;
 use crate::record::{Record, shortened};
 use crate::{Point, drawn, inputs, patches, sheets};
@@ -37,6 +37,9 @@ const CLEANED: [usize; 4] = [8, 12, 6, 20];
 
 /// How many random drawings the sample holds: around a part of a ball, and any.
 const DRAWINGS: [usize; 2] = [20, 50];
+
+/// How many random small sheets the sample holds for corners per point.
+const CORNERS: usize = 30;
 
 /// The numbers of passes.
 const PASSES: [u64; 5] = [0, 1, 2, 3, 1000];
@@ -174,12 +177,16 @@ fn pinched() -> [Call; 3] {
     [sheets::pillow(), sheets::pillows(), sheets::cubes()].map(of)
 }
 
+/// A cube on the upper level of a field without a direction, which `quality` refuses with 11.
+fn flat() -> (BandNumbers, QuadMesh) {
+    (BandNumbers { field: Field::Plane([0.0; 4]), ..UNIT }, changed(|s| s.labels.fill(0)))
+}
+
 /// The operations on the changed cubes and on random small sheets.
 fn operations(seed: u64) -> Vec<Record> {
     let mut r = Random::new(seed);
-    let flat = BandNumbers { field: Field::Plane([0.0; 4]), ..UNIT };
-    let upper = changed(|s| s.labels.fill(0));
-    let mut calls = vec![Call { operation: Operation::Quality, argument: 0, band: flat, sheet: upper }];
+    let (band, sheet) = flat();
+    let mut calls = vec![Call { operation: Operation::Quality, argument: 0, band, sheet }];
     for (operation, count) in OPERATIONS {
         let on = |sheet| Call { operation, argument: 2, band: UNIT, sheet };
         calls.extend(changed_cubes().into_iter().map(on));
@@ -259,13 +266,30 @@ fn drawings(seed: u64) -> Vec<Record> {
     calls.into_iter().map(record).chain(random.take(DRAWINGS[1])).collect()
 }
 
-/// The sample of a seed.
+/// Corners per point: of the changed cubes, of a pillow in the changed bands, of a field without a direction, of the
+/// refined cube, of two pillows at one point, and of random small sheets.
+fn corners(seed: u64) -> Vec<Record> {
+    let mut r = Random::new(seed);
+    let operation = Operation::Corners;
+    let on = |(band, sheet)| Call { operation, argument: 0, band, sheet };
+    let mut calls: Vec<Call> = changed_cubes().into_iter().map(|sheet| on((UNIT, sheet))).collect();
+    calls.extend(changed_bands().map(|band| on((band, sheets::pillow()))));
+    calls.push(on(flat()));
+    calls.extend(quads::refine(&sheets::cube()).ok().map(|sheet| on((UNIT, sheet))));
+    calls.push(on((UNIT, sheets::pillows())));
+    let random = std::iter::repeat_with(|| inputs::call(&mut r, operation));
+    calls.extend(random.filter(|call| is_small(&call.sheet)).take(CORNERS));
+    calls.into_iter().map(record).collect()
+}
+
+/// The sample of a seed. What is new stands behind, so that the records before it stay as they are.
 pub fn records(seed: u64) -> Vec<Record> {
     let mut records = leaves(seed);
     records.extend(constraints(seed));
     records.extend(operations(seed));
     records.extend(cleanings(seed));
     records.extend(drawings(seed));
+    records.extend(corners(seed));
     records
 }
 
@@ -295,7 +319,8 @@ mod tests {
         let coarsen = [0, 1, 5, 6, 7].map(|number| (Coarsen, number));
         let rows = [0, 1, 5, 6, 7, 8, 10].map(|number| (Rows, number));
         let drawn = [0, 1, 2, 3, 4, 5, 7].map(|number| (Extract, number));
-        let measured = refine.into_iter().chain(subdivide).chain(quality);
+        let corners = [0, 1, 5, 6, 7].map(|number| (Corners, number));
+        let measured = refine.into_iter().chain(subdivide).chain(quality).chain(corners);
         let cleaned = regularize.into_iter().chain(improve).chain(coarsen).chain(rows).chain(drawn);
         let expected = leaf.into_iter().chain(tests).chain(sheet).chain(measured).chain(cleaned).collect();
         assert_eq!(seen(&records(SEED)), expected);
@@ -333,10 +358,27 @@ mod tests {
 
     #[test]
     fn the_replay_has_room_for_every_result() {
-        for record in operations(SEED).into_iter().chain(cleanings(SEED)).chain(drawings(SEED)) {
+        for record in operations(SEED).into_iter().chain(cleanings(SEED)).chain(drawings(SEED)).chain(corners(SEED)) {
             let [points, quads, labels] = record.answer.counts;
             assert!(points <= 384 && quads <= 256 && labels <= 256);
         }
+    }
+
+    #[test]
+    fn corners_per_point_stand_last() {
+        let (records, corners) = (records(SEED), corners(SEED));
+        let (before, last) = records.split_at(records.len() - corners.len());
+        assert!(before.iter().all(|record| record.call.operation != Operation::Corners));
+        assert_eq!(record::file(last), record::file(&corners));
+    }
+
+    #[test]
+    fn corners_per_point_have_their_words() {
+        let words: Vec<Vec<u64>> = corners(SEED).into_iter().map(|record| record.answer.words).collect();
+        let known = [0, 15, 21, 22, 23].map(|place| &words[place][..]);
+        assert_eq!(known, [&[3, 0], &[2, 0], &[3, 0], &[3, 18], &[2, 2]]);
+        assert_eq!(words.len(), 24 + CORNERS);
+        assert!(words.iter().all(|words| [0, 2].contains(&words.len())));
     }
 
     #[test]

@@ -1,11 +1,11 @@
 //! What is printed.
 use crate::problem::Problem;
-use quads::Quality;
+use quads::{Band, Quality, Ratio, Refused, Sheet, Workspace};
 use std::fmt::Display;
 use std::io::Write;
 use std::path::Path;
 
-/// What a step prints of a sheet's quality.
+/// What a step prints of a sheet.
 #[derive(Clone, Copy, Debug, PartialEq)]
 pub enum Report {
     /// The two-line display.
@@ -14,6 +14,8 @@ pub enum Report {
     Page,
     /// The whole record.
     Quality,
+    /// The corners per point.
+    Corners,
 }
 
 impl Report {
@@ -23,16 +25,18 @@ impl Report {
             "display" => Some(Report::Display),
             "page" => Some(Report::Page),
             "quality" => Some(Report::Quality),
+            "corners" => Some(Report::Corners),
             _ => None,
         }
     }
 
-    /// Its text.
-    pub fn text(self, quality: &Quality) -> String {
+    /// Its text for a sheet, or why what it asks of the sheet is refused.
+    pub fn text(self, work: &mut Workspace, sheet: &Sheet, band: &Band) -> Result<String, Refused> {
         match self {
-            Report::Display => two_lines(quality),
-            Report::Page => page(quality),
-            Report::Quality => record(quality),
+            Report::Display => work.quality(sheet, band).map(|quality| two_lines(&quality)),
+            Report::Page => work.quality(sheet, band).map(|quality| page(&quality)),
+            Report::Quality => work.quality(sheet, band).map(|quality| record(&quality)),
+            Report::Corners => work.corners_per_point(sheet, band).map(corners),
         }
     }
 }
@@ -79,4 +83,9 @@ fn record(quality: &Quality) -> String {
         + &measure("minimum Jacobian", quality.minimum_sampled_jacobian)
         + &answer("tight", quality.tight)
         + &answer("valid", quality.is_valid())
+}
+
+/// The corners per point with their remainder, laid out like the page.
+fn corners(Ratio { quotient, remainder }: Ratio) -> String {
+    line("corners per point", quotient) + &line("remainder", remainder)
 }

@@ -28,6 +28,8 @@ steps that show the sheet
   quality                 the counts, all measures, whether it is tight (each
                           edge with two quads that run opposite ways, no bad
                           point: clean-up keeps it so), and whether it is valid
+  corners                 two lines: the corners per point, that is 4 * quads /
+                          points as a whole number, and the exact remainder
   check                   go on only if the sheet is valid: closed, the quads of
                           each point one ring, no quad twice or turned over
   write FILE.ply          write the sheet, its labels as colours too; - is

@@ -102,7 +102,7 @@ mod tests {
     #[test]
     fn a_sheet_comes_first() {
         assert!(parse("draw 8 refine").is_ok());
-        for wrong in ["refine", "quality draw 8", "--levels 1 2", "page read a.ply"] {
+        for wrong in ["refine", "quality draw 8", "corners draw 8", "--levels 1 2", "page read a.ply"] {
             assert!(matches!(parse(wrong), Err(Problem::Usage(_))), "{wrong}");
         }
     }

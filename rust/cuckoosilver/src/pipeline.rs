@@ -117,11 +117,11 @@ impl<'a> Pipeline<'a> {
         }
     }
 
-    /// Prints what is asked of the sheet's quality; to the log, where the output is the sheet.
+    /// Prints what is asked of the sheet; to the log, where the output is the sheet.
     fn print(&mut self, report: Report) -> Result<(), Problem> {
-        let quality = self.workspace.quality(&self.sheet, &self.parts.band()?)?;
+        let text = report.text(&mut self.workspace, &self.sheet, &self.parts.band()?)?;
         let out = if self.output_is_sheet { &mut *self.log } else { &mut *self.out };
-        display::print(out, &report.text(&quality))
+        display::print(out, &text)
     }
 
     /// Works on the sheet: what was done.

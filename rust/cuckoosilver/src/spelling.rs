@@ -1,7 +1,7 @@
 //! The word that may have been meant by one that is not known.
 
 /// The steps and options.
-const KNOWN: [&str; 28] = [
+const KNOWN: [&str; 29] = [
     "draw",
     "read",
     "refine",
@@ -13,6 +13,7 @@ const KNOWN: [&str; 28] = [
     "display",
     "page",
     "quality",
+    "corners",
     "check",
     "write",
     "picture",
@@ -83,6 +84,7 @@ mod tests {
             ("row", Some("rows")),
             ("regularise", Some("regularize")),
             ("coarse", Some("coarsen")),
+            ("corner", Some("corners")),
             ("--level", Some("--levels")),
             ("-quiet", Some("--quiet")),
             ("help", Some("--help")),

@@ -100,8 +100,8 @@ mod tests {
 
     #[test]
     fn reports_are_named_by_their_words() {
-        let reports = [Report::Display, Report::Page, Report::Quality].map(Action::Print);
-        assert_eq!(actions("display page quality"), Ok(reports.to_vec()));
+        let reports = [Report::Display, Report::Page, Report::Quality, Report::Corners].map(Action::Print);
+        assert_eq!(actions("display page quality corners"), Ok(reports.to_vec()));
     }
 
     #[test]

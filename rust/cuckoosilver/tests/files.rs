@@ -1,35 +1,7 @@
 //! Files, by running the program: PLY that is read again, and pictures.
 mod common;
-use common::{SHELL, UNIT_BOX, does, folder, prints, run_in};
+use common::{CUBE, SHELL, UNIT_BOX, does, folder, prints, run_in};
 use std::fs;
-
-/// The unit cube with other names, an element that is not known, and colours in place of labels.
-const CUBE: &str = "ply\r
-format ascii 1.0\r
-comment made by hand\r
-obj_info nothing\r
-element material 1\r
-property list uchar float numbers\r
-element vertex 8\r
-property float32 x\r
-property float32 y\r
-property float32 z\r
-property uint8 extra\r
-element face 6\r
-property uchar red\r
-property uchar green\r
-property uchar blue\r
-property list uint8 int32 vertex_index\r
-end_header\r
-2 0.5 0.5\r
-0 0 0 9 1 0 0 9 0 1 0 9 1 1 0 9 0 0 1 9 1 0 1 9 0 1 1 9 1 1 1 9\r
-0 158 115 4 0 4 6 2\r
-240 228 66 4 1 3 7 5\r
-0 114 178 4 0 1 5 4\r
-213 94 0 4 2 6 7 3\r
-204 121 167 4 0 2 3 1\r
-153 153 153 4 4 5 7 6\r
-";
 
 #[test]
 fn a_sheet_that_is_written_is_read_again() {

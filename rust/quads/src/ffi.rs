@@ -132,6 +132,12 @@ unsafe extern "C" {
         floats: *mut f64, floats_len: usize, answer: *mut u64, answer_len: usize, measures: *mut f64,
         measures_len: usize,
     ) -> u32;
+    fn quads_corners_per_point(
+        points: *const f64, points_len: usize, quads: *const u32, quads_len: usize, labels: *const u8,
+        labels_len: usize, np: usize, nq: usize, nl: usize, kind: u32, numbers: *const f64, numbers_len: usize,
+        bounds: *const f64, bounds_len: usize, lower: f64, upper: f64, work: *mut u32, work_len: usize,
+        floats: *mut f64, floats_len: usize, answer: *mut u64, answer_len: usize,
+    ) -> u32;
 }
 
 /// Calls an export. Each group of arguments in turn adds its own to the list, a slice as its pointer and its length.
@@ -216,6 +222,11 @@ pub fn coarsen(sheet: SheetMut, band: BandRef, passes: usize, work: WorkMut, ans
 /// `quads_quality`.
 pub fn quality(sheet: SheetRef, band: BandRef, work: WorkMut, answer: &mut [u64], measures: &mut [f64]) -> u32 {
     call!(quads_quality() sheet sheet; band band; work work; writes answer; writes measures;)
+}
+
+/// `quads_corners_per_point`.
+pub fn corners_per_point(sheet: SheetRef, band: BandRef, work: WorkMut, answer: &mut [u64]) -> u32 {
+    call!(quads_corners_per_point() sheet sheet; band band; work work; writes answer;)
 }
 
 #[cfg(test)]

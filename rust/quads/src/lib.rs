@@ -19,6 +19,8 @@
 //! let swaps = sheet.regularize(&band, 4)?;
 //! let quality = sheet.quality(&band)?;
 //! println!("{merges} merges, {swaps} swaps, {} quads, tight: {}", quality.quads, quality.tight);
+//! let corners = sheet.corners_per_point(&band)?;
+//! println!("{} corners per point, remainder {}", corners.quotient, corners.remainder);
 //! # Ok::<(), quads::Refused>(())
 //! ```
 //!
@@ -32,6 +34,7 @@ mod label;
 mod look;
 mod operations;
 mod quality;
+mod ratio;
 mod refusal;
 mod refused;
 mod sheet;
@@ -42,6 +45,7 @@ pub use band::{Band, Field};
 pub use cause::{Cause, Miss, Origin};
 pub use label::{Label, UnknownLabel};
 pub use quality::Quality;
+pub use ratio::Ratio;
 pub use refusal::{Refusal, UnknownRefusal};
 pub use refused::Refused;
 pub use sheet::{Counts, Sheet};

@@ -4,6 +4,7 @@ use crate::cause::Cause;
 use crate::ffi::{self, Answer, BandRef, SheetMut, SheetOut, SheetRef, WorkMut};
 use crate::look;
 use crate::quality::Quality;
+use crate::ratio::Ratio;
 use crate::refusal::{self, Refusal};
 use crate::refused::Refused;
 use crate::sheet::{Counts, Sheet};
@@ -111,6 +112,15 @@ impl Sheet {
     pub fn quality(&self, band: &Band) -> Result<Quality, Refused> {
         Workspace::new().quality(self, band)
     }
+
+    /// The corners per point, exactly: 4 × quads ÷ points as a whole number and the remainder. The cube has 3 and 0.
+    ///
+    /// # Errors
+    ///
+    /// Those of [`quality`](Sheet::quality) apart from the last: the field need not have a direction (11).
+    pub fn corners_per_point(&self, band: &Band) -> Result<Ratio, Refused> {
+        Workspace::new().corners_per_point(self, band)
+    }
 }
 
 /// The operations, with the work that is kept.
@@ -196,6 +206,19 @@ impl Workspace {
         let number = ffi::quality(lent, flat.as_band_ref(), work, &mut answer, &mut measures);
         accepted(number, |refusal| look::lent(refusal, sheet, band))?;
         Ok(Quality::new(answer, measures))
+    }
+
+    /// [`Sheet::corners_per_point`].
+    ///
+    /// # Errors
+    ///
+    /// Those of [`Sheet::corners_per_point`].
+    pub fn corners_per_point(&mut self, sheet: &Sheet, band: &Band) -> Result<Ratio, Refused> {
+        let (flat, mut answer) = (FlatBand::from(band), [0; 2]);
+        let (lent, work) = (sheet.as_sheet_ref(), self.work_for(sheet));
+        let number = ffi::corners_per_point(lent, flat.as_band_ref(), work, &mut answer);
+        accepted(number, |refusal| look::lent(refusal, sheet, band))?;
+        Ok(Ratio::new(answer))
     }
 
     /// The work of a call on a sheet.

@@ -4,7 +4,7 @@ mod common;
 mod random;
 
 use common::{bowl, cube, edges, shell, unit_box};
-use quads::{Band, Cause, Field, Refusal, Refused, Sheet, Workspace};
+use quads::{Band, Cause, Field, Ratio, Refusal, Refused, Sheet, Workspace};
 use random::Random;
 use std::collections::BTreeMap;
 
@@ -47,7 +47,8 @@ fn refusals(workspace: &mut Workspace, sheet: &Sheet, band: &Band) -> Vec<Refuse
     let made = [workspace.refine(sheet), workspace.subdivide(sheet, band), workspace.boundary_rows(sheet, band)];
     let altered = workspace.coarsen(&mut sheet.clone(), band, 1).err();
     let measured = workspace.quality(sheet, band).err();
-    made.into_iter().filter_map(Result::err).chain(altered).chain(measured).collect()
+    let divided = workspace.corners_per_point(sheet, band).err();
+    made.into_iter().filter_map(Result::err).chain(altered).chain(measured).chain(divided).collect()
 }
 
 /// Whether what a cause says of a sheet is so, as far as that is seen in the sheet alone.
@@ -90,6 +91,29 @@ fn each_refusal_of_a_sheet_has_its_cause() {
         }
     }
     assert!(seen.into_keys().eq([1, 5, 6, 7, 8, 9, 10, 11]));
+}
+
+#[test]
+fn corners_per_point_are_refused_as_quality_apart_from_normal() {
+    let (mut random, mut workspace, mut normals) = (Random(3), Workspace::new(), 0);
+    let start = [(cube(), unit_box()), (Sheet::extract_candidate(&bowl(), 6).unwrap(), bowl())];
+    for _ in 0..1500 {
+        let (mut sheet, mut band) = start[random.below(2)].clone();
+        spoil_sheet(&mut sheet, &mut random);
+        spoil_band(&mut band, &mut random);
+        let corners = workspace.corners_per_point(&sheet, &band);
+        match workspace.quality(&sheet, &band) {
+            Err(refused) if refused.refusal() != Refusal::Normal => {
+                assert_eq!(corners.unwrap_err().to_string(), refused.to_string());
+            }
+            measured => {
+                normals += usize::from(measured.is_err());
+                let Ratio { quotient, remainder } = corners.unwrap();
+                assert_eq!(quotient * sheet.points.len() + remainder, 4 * sheet.quads.len());
+            }
+        }
+    }
+    assert!(normals > 0);
 }
 
 #[test]

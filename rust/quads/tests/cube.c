@@ -1,4 +1,4 @@
-/* Refines the unit cube, measures it, and measures two pillows at one point, through include/quads.h. */
+/* Refines the unit cube, measures it and two pillows at one point, and gives corners per point, by include/quads.h. */
 #include <quads.h>
 #include <stdio.h>
 
@@ -13,27 +13,32 @@ static const uint8_t labels[] = {2, 3, 4, 5, 6, 7};
 static const uint32_t pillows[] = {0, 1, 3, 2, 2, 3, 1, 0, 0, 4, 5, 6, 6, 5, 4, 0};
 static const uint8_t one_label[] = {6, 6, 6, 6};
 
-/* Refines the cube: 26 points and 24 quads. */
+/* The refined cube: 26 points and 24 quads. */
+static double finer_points[3 * 26];
+static uint32_t finer_quads[4 * 24];
+static uint8_t finer_labels[24];
+
+/* The numbers of the field, and work for each of these sheets. */
+static const double numbers[10] = {0, 0, 1, 0};
+static uint32_t work[QUADS_WORK(26, 24)];
+static double floats[QUADS_FLOATS(26, 24)];
+
+/* Refines the cube. */
 static uint32_t refine(void)
 {
-    static uint32_t work[QUADS_WORK(8, 6)], new_quads[4 * 24];
-    static double floats[QUADS_FLOATS(8, 6)], new_points[3 * 26];
-    uint8_t new_labels[24];
     uint64_t answer[4];
     uint32_t number = quads_refine(points, COUNT(points), quads, COUNT(quads), labels, COUNT(labels), 8, 6, 6,
-        new_points, COUNT(new_points), new_quads, COUNT(new_quads), new_labels, COUNT(new_labels),
+        finer_points, COUNT(finer_points), finer_quads, COUNT(finer_quads), finer_labels, COUNT(finer_labels),
         work, COUNT(work), floats, COUNT(floats), answer, COUNT(answer));
     printf("refine %u: %llu points, %llu quads, last label %u\n", number, (unsigned long long)answer[1],
-        (unsigned long long)answer[2], new_labels[23]);
+        (unsigned long long)answer[2], finer_labels[23]);
     return number;
 }
 
 /* Measures np points of the cube with nq quads in the box from 0 to `side`. */
 static uint32_t quality(size_t np, const uint32_t *q, const uint8_t *l, size_t nq, double side)
 {
-    static uint32_t work[QUADS_WORK(8, 6)];
-    static double floats[QUADS_FLOATS(8, 6)];
-    const double numbers[10] = {0, 0, 1, 0}, bounds[6] = {0, 0, 0, side, side, side};
+    const double bounds[6] = {0, 0, 0, side, side, side};
     uint64_t answer[10];
     double measures[4];
     uint32_t number = quads_quality(points, COUNT(points), q, 4 * nq, l, nq, np, nq, nq,
@@ -45,8 +50,24 @@ static uint32_t quality(size_t np, const uint32_t *q, const uint8_t *l, size_t n
     return number;
 }
 
+/* Gives the corners per point of a sheet of np points and nq quads in the box from 0 to `side`. */
+static uint32_t corners(const double *p, size_t np, const uint32_t *q, const uint8_t *l, size_t nq, double side)
+{
+    const double bounds[6] = {0, 0, 0, side, side, side};
+    uint64_t answer[2] = {7, 7};
+    uint32_t number = quads_corners_per_point(p, 3 * np, q, 4 * nq, l, nq, np, nq, nq,
+        QUADS_PLANE, numbers, COUNT(numbers), bounds, COUNT(bounds), -1, 2,
+        work, COUNT(work), floats, COUNT(floats), answer, COUNT(answer));
+    printf("corners %u: %llu per point, remainder %llu\n", number, (unsigned long long)answer[0],
+        (unsigned long long)answer[1]);
+    return number;
+}
+
 int main(void)
 {
     return !(refine() == QUADS_ACCEPTED && quality(8, quads, labels, 6, 1) == QUADS_ACCEPTED
-        && quality(8, quads, labels, 6, -1) == QUADS_BOX && quality(7, pillows, one_label, 4, 1) == QUADS_ACCEPTED);
+        && quality(8, quads, labels, 6, -1) == QUADS_BOX && quality(7, pillows, one_label, 4, 1) == QUADS_ACCEPTED
+        && corners(points, 8, quads, labels, 6, 1) == QUADS_ACCEPTED
+        && corners(finer_points, 26, finer_quads, finer_labels, 24, 1) == QUADS_ACCEPTED
+        && corners(points, 8, quads, labels, 6, -1) == QUADS_BOX);
 }

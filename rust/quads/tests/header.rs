@@ -55,7 +55,7 @@ fn from_rattle(text: &str) -> String {
 #[test]
 fn header_library_and_crate_declare_the_same() {
     let header = declared("include/quads.h", "uint32_t quads_", from_c);
-    assert_eq!(header.len(), 8);
+    assert_eq!(header.len(), 9);
     assert_eq!(header, declared("rust/quads/src/ffi.rs", "fn quads_", str::to_string));
     assert_eq!(header, declared("crates/quads/src/lib.rt", "extern \"C\" fn quads_", from_rattle));
 }
@@ -107,6 +107,9 @@ fn a_c_program_refines_and_measures() {
         "refine 0: 26 points, 24 quads, last label 7\n\
          quality 0: 6 quads, 0 bad links, tight 1, valid 1, least shape 1\n\
          quality 1: 0 quads, 0 bad links, tight 0, valid 0, least shape 0\n\
-         quality 0: 4 quads, 1 bad links, tight 0, valid 0, least shape -1\n"
+         quality 0: 4 quads, 1 bad links, tight 0, valid 0, least shape -1\n\
+         corners 0: 3 per point, remainder 0\n\
+         corners 0: 3 per point, remainder 18\n\
+         corners 1: 0 per point, remainder 0\n"
     );
 }

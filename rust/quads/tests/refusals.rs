@@ -1,7 +1,7 @@
 //! Each refusal by the smallest sheet that shows it, with the text of its cause. A refusal leaves the sheet as it came.
 mod common;
 use common::{counts, cube, shell, unit_box};
-use quads::{Band, Cause, Field, LIMIT, Refusal, Refused, Sheet};
+use quads::{Band, Cause, Field, LIMIT, Ratio, Refusal, Refused, Sheet};
 
 /// A band of a ball around the middle of the unit box.
 fn ball() -> Band {
@@ -45,6 +45,7 @@ fn refused(sheet: &Sheet, band: &Band, refusal: Refusal, cause: &str) {
     told(sheet.subdivide(band), refusal, cause);
     told(sheet.boundary_rows(band), refusal, cause);
     told(sheet.quality(band), refusal, cause);
+    told(sheet.corners_per_point(band), refusal, cause);
     told(left.regularize(band, 2), refusal, cause);
     told(left.improve_layout(band, 0), refusal, cause);
     told(left.coarsen(band, 1), refusal, cause);
@@ -71,7 +72,7 @@ fn box_1() {
 fn bottomless_2() {
     let band = Band { lower: f64::NEG_INFINITY, ..ball() };
     told(Sheet::extract_candidate(&band, 8), Refusal::Bottomless, "");
-    assert!(cube().quality(&band).is_ok());
+    assert!(cube().quality(&band).is_ok() && cube().corners_per_point(&band).is_ok());
 }
 
 #[test]
@@ -236,8 +237,13 @@ fn normal_11() {
     let refused = told(measure(flat().field), Refusal::Normal, text);
     assert_eq!(refused.advice(), "move the levels away from where the field is flat");
     let text = "at the centre of quad 5 the gradient is (NaN, 0.0, 1e200)";
-    let refused = told(measure(Field::Plane { a: f64::NAN, b: 0.0, c: 1e200, d: 0.0 }), Refusal::Normal, text);
+    let steep = Field::Plane { a: f64::NAN, b: 0.0, c: 1e200, d: 0.0 };
+    let refused = told(measure(steep), Refusal::Normal, text);
     assert_eq!(refused.advice(), "give finite and smaller numbers for the field");
+    for field in [flat().field, steep] {
+        let corners = labelled(5, 0).corners_per_point(&Band { field, ..unit_box() });
+        assert_eq!(corners, Ok(Ratio { quotient: 3, remainder: 0 }));
+    }
 }
 
 #[test]

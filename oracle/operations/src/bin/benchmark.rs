@@ -1,6 +1,7 @@
 //! benchmark [CELLS]: the library's operations and the original's on the same drawn sheets at 8, 16, .. cells, in one
 //! process; then the library's on hostile sheets, in which one point has almost all the quads. Each figure is the
-//! best of several runs, taken in turns; growth is the library's time over that at half as many cells or quads.
+//! best of several runs, taken in turns; growth is the library's time over that at half as many cells or quads. The
+//! original has no corners per point: its figure there is that of its tests and of the oracle's model.
 use operations::library::{self, Lent};
 use oracle::bands::UNIT;
 use oracle::call::{Call, original};
@@ -13,7 +14,7 @@ use std::process::ExitCode;
 use std::time::Instant;
 
 /// The operations on a sheet that are timed, each with its number of passes.
-const OPERATIONS: [(Operation, u64); 7] = [
+const OPERATIONS: [(Operation, u64); 8] = [
     (Operation::Refine, 0),
     (Operation::Subdivide, 0),
     (Operation::Regularize, 1),
@@ -21,6 +22,7 @@ const OPERATIONS: [(Operation, u64); 7] = [
     (Operation::Coarsen, 5),
     (Operation::Rows, 0),
     (Operation::Quality, 0),
+    (Operation::Corners, 0),
 ];
 
 /// A shell, and a shell that the box cuts.

@@ -1,41 +1,97 @@
-//! operations [CALLS] [SEED]: the library's operations and the original on the same random sheets, every bit
-//! compared: single calls, lists of calls on one sheet, and drawings. The library's result and work slices are filled
-//! before, and must hold the result and zeros after.
-use operations::{draws, library, lists};
+//! operations [CALLS] [SEED] [OPERATION]: the library's operations and the original on the same random sheets, every
+//! bit compared: single calls, lists of calls on one sheet, and drawings; with the name of an operation, single calls
+//! of it alone. The library's result and work slices are filled before, and must hold the result and zeros after.
+use operations::faults::Faults;
+use operations::{draws, lists};
+use oracle::arguments;
+use oracle::driver::{self, Shares, Total};
 use oracle::operation::Operation;
-use oracle::{arguments, driver};
 use std::process::ExitCode;
 
 /// The operations that are compared by single calls, each with its share of 100 calls.
-const SHARES: [(Operation, u64); 7] = [
+const SHARES: [(Operation, u64); 8] = [
     (Operation::Refine, 5),
-    (Operation::Subdivide, 20),
+    (Operation::Subdivide, 18),
     (Operation::Regularize, 12),
     (Operation::ImproveLayout, 12),
     (Operation::Coarsen, 12),
     (Operation::Rows, 7),
-    (Operation::Quality, 18),
+    (Operation::Quality, 14),
+    (Operation::Corners, 6),
 ];
 
 /// The shares of the calls in lists, and of the drawings with their rows.
 const IN_LISTS: u64 = 12;
 const DRAWN: u64 = 2;
 
-/// Compares all calls; whether none differs.
-fn run(calls: u64, seed: u64) -> bool {
-    let mut total = driver::single_calls(&SHARES, calls, seed, library::answer);
-    total += lists::run(calls * IN_LISTS / 100, seed);
-    total += draws::run(calls * DRAWN / 100, seed);
-    driver::ends_well(total)
+/// What a command line asks for.
+struct Asked {
+    calls: u64,
+    seed: u64,
+    /// The one operation that is called, if one is named.
+    operation: Option<Operation>,
+}
+
+impl Asked {
+    /// What the words of the command line ask for.
+    fn parse() -> Result<Asked, String> {
+        let operation = arguments::word(3).map(|name| named(&name)).transpose()?;
+        Ok(Asked { calls: arguments::number(1, 200_000)?, seed: arguments::number(2, 1)?, operation })
+    }
+
+    /// Compares all calls; whether none differs.
+    fn run(self) -> bool {
+        let Asked { calls, seed, operation } = self;
+        if let Some(operation) = operation {
+            return driver::ends_well(single_calls(&[(operation, 100)], calls, seed));
+        }
+        let mut total = single_calls(&SHARES, calls, seed);
+        total += lists::run(calls * IN_LISTS / 100, seed);
+        total += draws::run(calls * DRAWN / 100, seed);
+        driver::ends_well(total)
+    }
+}
+
+/// The operation of a name.
+fn named(name: &str) -> Result<Operation, String> {
+    let mut known = SHARES.iter().map(|share| share.0).chain([Operation::Extract]);
+    known.find(|operation| operation.name() == name).ok_or_else(|| format!("{name} is no operation"))
+}
+
+/// Compares single calls, some of them with faults of lending; prints a line for each operation and one for the faults.
+fn single_calls(shares: &Shares, calls: u64, seed: u64) -> Total {
+    let mut faults = Faults::new(seed);
+    let total = driver::single_calls(shares, calls, seed, |call| faults.ask(call));
+    faults.print();
+    total
 }
 
 fn main() -> ExitCode {
-    match (arguments::number(1, 200_000), arguments::number(2, 1)) {
-        (Ok(calls), Ok(seed)) if run(calls, seed) => ExitCode::SUCCESS,
-        (Ok(_), Ok(_)) => ExitCode::FAILURE,
-        (Err(wrong), _) | (_, Err(wrong)) => {
-            eprintln!("{wrong}: operations [CALLS] [SEED]");
+    match Asked::parse().map(Asked::run) {
+        Ok(true) => ExitCode::SUCCESS,
+        Ok(false) => ExitCode::FAILURE,
+        Err(wrong) => {
+            eprintln!("{wrong}: operations [CALLS] [SEED] [OPERATION]");
             ExitCode::FAILURE
+        }
+    }
+}
+
+#[cfg(test)]
+mod tests {
+    use super::*;
+
+    #[test]
+    fn the_shares_are_100() {
+        assert_eq!(SHARES.iter().map(|share| share.1).sum::<u64>() + IN_LISTS + DRAWN, 100);
+    }
+
+    #[test]
+    fn operations_are_found_by_their_names() {
+        assert_eq!(named("corners_per_point"), Ok(Operation::Corners));
+        assert_eq!(named("extract_candidate"), Ok(Operation::Extract));
+        for wrong in ["corners", "sqrt", "8", ""] {
+            assert_eq!(named(wrong), Err(format!("{wrong} is no operation")));
         }
     }
 }

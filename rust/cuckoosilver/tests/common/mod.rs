@@ -75,6 +75,34 @@ pub const SHELL: &str = "--ball 0 0 0 0 --box -1 -1 -1 1 1 1 --levels 0.25 0.64"
 /// The unit cube as its own box, as options.
 pub const UNIT_BOX: &str = "--plane 0 0 1 0 --box 0 0 0 1 1 1 --levels -1 2";
 
+/// The unit cube with other names, an element that is not known, and colours in place of labels.
+pub const CUBE: &str = "ply\r
+format ascii 1.0\r
+comment made by hand\r
+obj_info nothing\r
+element material 1\r
+property list uchar float numbers\r
+element vertex 8\r
+property float32 x\r
+property float32 y\r
+property float32 z\r
+property uint8 extra\r
+element face 6\r
+property uchar red\r
+property uchar green\r
+property uchar blue\r
+property list uint8 int32 vertex_index\r
+end_header\r
+2 0.5 0.5\r
+0 0 0 9 1 0 0 9 0 1 0 9 1 1 0 9 0 0 1 9 1 0 1 9 0 1 1 9 1 1 1 9\r
+0 158 115 4 0 4 6 2\r
+240 228 66 4 1 3 7 5\r
+0 114 178 4 0 1 5 4\r
+213 94 0 4 2 6 7 3\r
+204 121 167 4 0 2 3 1\r
+153 153 153 4 4 5 7 6\r
+";
+
 /// The program with its three streams as pipes.
 pub fn piped(here: &Path, steps: &str) -> Child {
     let streams = (Stdio::piped(), Stdio::piped(), Stdio::piped());

@@ -15,10 +15,11 @@ pub enum Operation {
     ImproveLayout,
     Coarsen,
     Quality,
+    Corners,
 }
 
 /// All of them.
-pub const OPERATIONS: [Operation; 8] = [
+pub const OPERATIONS: [Operation; 9] = [
     Operation::Extract,
     Operation::Refine,
     Operation::Subdivide,
@@ -27,6 +28,7 @@ pub const OPERATIONS: [Operation; 8] = [
     Operation::ImproveLayout,
     Operation::Coarsen,
     Operation::Quality,
+    Operation::Corners,
 ];
 
 impl Operation {
@@ -40,6 +42,11 @@ impl Operation {
         matches!(self, Operation::Regularize | Operation::ImproveLayout | Operation::Coarsen)
     }
 
+    /// Whether it measures the lent sheet, and neither makes nor alters one.
+    fn measures(self) -> bool {
+        matches!(self, Operation::Quality | Operation::Corners)
+    }
+
     /// Whether it takes a band.
     fn takes_band(self) -> bool {
         self != Operation::Refine
@@ -47,7 +54,11 @@ impl Operation {
 
     /// How many elements of the answer it writes.
     fn answers(self) -> usize {
-        if self == Operation::Quality { 10 } else { 4 }
+        match self {
+            Operation::Quality => 10,
+            Operation::Corners => 2,
+            _ => 4,
+        }
     }
 }
 
@@ -103,6 +114,7 @@ impl Lent {
             Operation::Subdivide => ffi::subdivide(read, band, made, work, answer),
             Operation::Rows => ffi::boundary_rows(read, band, made, work, answer),
             Operation::Quality => ffi::quality(read, band, work, answer, self.measures.list_mut()),
+            Operation::Corners => ffi::corners_per_point(read, band, work, answer),
             Operation::Regularize => {
                 ffi::regularize(SheetMut { points, quads, labels, counts }, band, argument, work, answer)
             }
@@ -136,7 +148,7 @@ impl Lent {
             (self.reads_stay(before, operation, accepted), "something that is only read is changed"),
             (is_zero(self.work.list()) && is_zero(self.floats.list()), "the work slices are not zero"),
             (self.answers_fit(before, operation, accepted), "the answer is not as promised"),
-            (!accepted || self.sheet_fits(operation), "the sheet has something behind it"),
+            (!accepted || operation.measures() || self.sheet_fits(operation), "the sheet has something behind it"),
             (accepted || !operation.makes() || self.made_is_zero(), "a refusal leaves something"),
             (self.short_is_told(operation, number), "a slice that is too short is not refused in its place"),
         ];
@@ -208,12 +220,9 @@ impl Lent {
             ends(in_points, 3 * points) && ends(in_quads, 4 * quads) && ends(in_labels, labels)
         };
         match operation {
-            Operation::Quality => true,
             Operation::Regularize | Operation::ImproveLayout => ends(self.quads.list(), 4 * quads),
             Operation::Coarsen => fits(self.points.list(), self.quads.list(), self.labels.list()),
-            Operation::Extract | Operation::Refine | Operation::Subdivide | Operation::Rows => {
-                fits(self.new_points.list(), self.new_quads.list(), self.new_labels.list())
-            }
+            _ => fits(self.new_points.list(), self.new_quads.list(), self.new_labels.list()),
         }
     }
 

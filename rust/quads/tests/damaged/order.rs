@@ -5,13 +5,16 @@ use crate::inputs::{self, Input};
 use crate::random::Random;
 use quads::LIMIT;
 
+/// Makes a call wrong.
+type Fault = fn(&mut Input);
+
 /// The operations that take a band and a lent sheet.
 fn banded() -> impl Iterator<Item = Operation> {
     OPERATIONS.into_iter().filter(|operation| !matches!(operation, Operation::Extract | Operation::Refine))
 }
 
 /// Calls an operation, right but for the faults: its number and what it left.
-fn call(operation: Operation, faults: &[fn(&mut Input)]) -> (u32, Lent) {
+fn call(operation: Operation, faults: &[Fault]) -> (u32, Lent) {
     let draws = operation == Operation::Extract;
     let from = if draws { (cube(), shell()) } else { (cube(), unit_box()) };
     let mut input = inputs::right(&mut Random(1), &from, draws);
@@ -24,30 +27,38 @@ fn call(operation: Operation, faults: &[fn(&mut Input)]) -> (u32, Lent) {
 }
 
 /// The number alone.
-fn number(operation: Operation, faults: &[fn(&mut Input)]) -> u32 {
+fn number(operation: Operation, faults: &[Fault]) -> u32 {
     call(operation, faults).0
 }
 
-const LARGE: fn(&mut Input) = |input| input.counts.points = LIMIT + 1;
-const FEW_NUMBERS: fn(&mut Input) = |input| input.numbers.truncate(9);
-const FEW_BOUNDS: fn(&mut Input) = |input| input.bounds.truncate(5);
-const FEW_ANSWERS: fn(&mut Input) = |input| input.answer.truncate(3);
-const FEW_MEASURES: fn(&mut Input) = |input| input.measures.truncate(3);
-const FEW_WORK: fn(&mut Input) = |input| input.work.truncate(7);
-const NO_KIND: fn(&mut Input) = |input| input.kind = 3;
-const NO_PASS: fn(&mut Input) = |input| input.argument = 0;
-const NO_POINT: fn(&mut Input) = |input| input.counts.points = 0;
-const BOTTOMLESS: fn(&mut Input) = |input| input.levels[0] = f64::NEG_INFINITY;
-const THREE_CELLS: fn(&mut Input) = |input| input.argument = 3;
-const NO_SAMPLES: fn(&mut Input) = |input| input.numbers[3] = f64::NAN;
+const LARGE: Fault = |input| input.counts.points = LIMIT + 1;
+const FEW_NUMBERS: Fault = |input| input.numbers.truncate(9);
+const FEW_BOUNDS: Fault = |input| input.bounds.truncate(5);
+const FEW_MEASURES: Fault = |input| input.measures.truncate(3);
+const FEW_WORK: Fault = |input| input.work.truncate(7);
+const NO_KIND: Fault = |input| input.kind = 3;
+const NO_PASS: Fault = |input| input.argument = 0;
+const NO_POINT: Fault = |input| input.counts.points = 0;
+const BOTTOMLESS: Fault = |input| input.levels[0] = f64::NEG_INFINITY;
+const THREE_CELLS: Fault = |input| input.argument = 3;
+const NO_SAMPLES: Fault = |input| input.numbers[3] = f64::NAN;
+
+/// An answer slice that is one element too short for an operation.
+fn few_answers(operation: Operation) -> Fault {
+    match operation {
+        Operation::Quality => |input| input.answer.truncate(9),
+        Operation::Corners => |input| input.answer.truncate(1),
+        _ => |input| input.answer.truncate(3),
+    }
+}
 
 #[test]
 fn large_comes_first() {
-    for fault in [FEW_ANSWERS, FEW_WORK] {
+    for fault in [few_answers(Operation::Refine), FEW_WORK] {
         assert_eq!(number(Operation::Refine, &[LARGE, fault]), 12);
     }
     for operation in banded() {
-        for fault in [FEW_NUMBERS, FEW_BOUNDS, FEW_ANSWERS, FEW_WORK, NO_KIND] {
+        for fault in [FEW_NUMBERS, FEW_BOUNDS, few_answers(operation), FEW_WORK, NO_KIND] {
             assert_eq!(number(operation, &[LARGE, fault]), 12, "{operation:?}");
         }
     }
@@ -57,7 +68,7 @@ fn large_comes_first() {
 #[test]
 fn every_short_comes_before_box() {
     for operation in banded() {
-        for fault in [FEW_NUMBERS, FEW_BOUNDS, FEW_ANSWERS, FEW_WORK] {
+        for fault in [FEW_NUMBERS, FEW_BOUNDS, few_answers(operation), FEW_WORK] {
             assert_eq!(number(operation, &[NO_KIND, fault]), 13, "{operation:?}");
         }
     }
@@ -87,7 +98,7 @@ fn a_drawing_is_refused_in_its_order() {
         assert_eq!(number(Operation::Extract, &[fault, NO_KIND]), 13);
         assert_eq!(number(Operation::Extract, &[fault, THREE_CELLS]), 13);
     }
-    for fault in [FEW_ANSWERS, FEW_WORK] {
+    for fault in [few_answers(Operation::Extract), FEW_WORK] {
         assert_eq!(number(Operation::Extract, &[fault, NO_KIND]), 1);
         assert_eq!(number(Operation::Extract, &[fault, BOTTOMLESS]), 2);
         assert_eq!(number(Operation::Extract, &[fault, THREE_CELLS]), 3);
@@ -101,9 +112,55 @@ fn a_refusal_clears_each_slice_that_is_long_enough() {
     let (number, lent) = call(Operation::Quality, &[FEW_MEASURES]);
     assert_eq!((number, lent.answer.list()), (13, &[0; 10][..]));
     assert!(lent.measures.list().iter().all(|x| x.is_nan()));
-    let (number, lent) = call(Operation::Quality, &[FEW_ANSWERS]);
-    assert_eq!((number, lent.answer.list()), (13, &[u64::MAX; 3][..]));
+    let (number, lent) = call(Operation::Quality, &[few_answers(Operation::Quality)]);
+    assert_eq!((number, lent.answer.list()), (13, &[u64::MAX; 9][..]));
     assert_eq!(lent.measures.list(), [0.0; 4]);
+}
+
+/// The number of corners per point, right but for the faults, and the answer slice after it.
+fn corners(faults: &[Fault]) -> (u32, Vec<u64>) {
+    let (number, lent) = call(Operation::Corners, faults);
+    (number, lent.answer.list().to_vec())
+}
+
+#[test]
+fn corners_per_point_answer_in_two_elements() {
+    const KEPT: u64 = u64::MAX;
+    assert_eq!(corners(&[|input| input.answer.truncate(2)]), (0, vec![3, 0]));
+    assert_eq!(corners(&[|input| input.answer.truncate(3)]), (0, vec![3, 0, KEPT]));
+    assert_eq!(corners(&[|input| input.answer.truncate(3), NO_KIND]), (1, vec![0, 0, KEPT]));
+    assert_eq!(corners(&[|input| input.answer.truncate(3), LARGE]), (12, vec![0, 0, KEPT]));
+    assert_eq!(corners(&[|input| input.answer.truncate(1)]), (13, vec![KEPT]));
+    assert_eq!(corners(&[|input| input.answer.truncate(1), LARGE]), (12, vec![KEPT]));
+    assert_eq!(corners(&[|input| input.answer.truncate(1), NO_KIND]), (13, vec![KEPT]));
+    assert_eq!(corners(&[|input| input.answer.clear()]), (13, vec![]));
+}
+
+#[test]
+fn corners_per_point_are_refused_in_their_order() {
+    let faults: [(Fault, u32); 6] = [
+        (LARGE, 12),
+        (FEW_NUMBERS, 13),
+        (NO_KIND, 1),
+        (NO_POINT, 5),
+        (|input| input.labels[0] = 8, 6),
+        (|input| input.labels[2] = 3, 7),
+    ];
+    for (i, &(earlier, expected)) in faults.iter().enumerate() {
+        assert_eq!(number(Operation::Corners, &[earlier]), expected);
+        for &(later, _) in &faults[i..] {
+            assert_eq!(number(Operation::Corners, &[later, earlier]), expected);
+        }
+    }
+}
+
+#[test]
+fn corners_per_point_read_no_direction() {
+    const FLAT: Fault = |input| input.numbers.fill(0.0);
+    const UPPER: Fault = |input| input.labels.fill(0);
+    assert_eq!(number(Operation::Quality, &[FLAT, UPPER]), 11);
+    let (number, answer) = corners(&[FLAT, UPPER]);
+    assert_eq!((number, &answer[..2]), (0, &[3, 0][..]));
 }
 
 /// The bytes of stack that a call needs at most, as the header says.
@@ -113,5 +170,5 @@ const STACK: usize = 64 * 1024;
 fn calls_need_little_stack() {
     let called =
         std::thread::Builder::new().stack_size(STACK).spawn(|| OPERATIONS.map(|operation| number(operation, &[])));
-    assert_eq!(called.unwrap().join().unwrap(), [0; 8]);
+    assert_eq!(called.unwrap().join().unwrap(), [0; OPERATIONS.len()]);
 }

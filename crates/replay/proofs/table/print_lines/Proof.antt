@@ -9,7 +9,7 @@ abbrev Inv-loop : tie.InvT-loop
 Inv-loop seen agreed i₀ i = Unit {0}
 
 abbrev μ-loop : tie.MeasureT-loop
-μ-loop seen agreed i₀ i = 256 - i
+μ-loop seen agreed i₀ i = 1024 - i
 
 loop-holds : tie.Need-loop-holds Inv-loop μ-loop
 loop-holds c = tt

@@ -1,0 +1,2 @@
+-- `Shown` has what an answer shows in its slice.
+pub mod Shown
