@@ -23,8 +23,8 @@ dividedNumber (Refused n) = n
 abbrev pub isShortRatio : List ℕ → Bool
 isShortRatio l = ltb (length l) 2
 
--- the number n of the export with the answer r, and its answer slice l′ at its end, l at its start: untouched if it is
--- too short
+-- the number n of the export with the answer r, and its answer slice, l at its start and l′ at its end: untouched if
+-- it is too short
 pub record ShowsRatio (r : Divided) (l : List ℕ) (n : ℕ) (l′ : List ℕ) : Type 0 where
   pub number : n ≡ dividedNumber r
   pub ratio : l′ ≡ cond (isShortRatio l) l (fronted (ratioShown r) l)
