@@ -22,19 +22,22 @@
  * WORK is two slices, `work` and `floats`. For a lent sheet they hold at least QUADS_WORK(np, nq) and QUADS_FLOATS(np, nq) elements, for
  * drawing QUADS_DRAW_WORK(cells) and QUADS_DRAW_FLOATS(cells). What is in them does not matter. After every call all of both is zero.
  *
- * The ANSWER slice has at least four elements (for quality ten, for corners per point two). After a call it holds
+ * The ANSWER slice has at least four elements (for quality ten, for corners per point two; the page has none). After a
+ * call it holds
  *   answer[0]   the number of swaps or merges; 0 where the operation counts none
  *   answer[1]   the points, answer[2] the quads and answer[3] the labels of the sheet that was made or altered
  * (for quality and corners per point what is said at the function) and zeros there after a refusal. Elements behind these stay as they came,
  * and so does a whole answer slice that is too short. The same holds of quality's four measures: each of the two slices by its own length,
  * whatever the other's is.
  *
- * AFTER SUCCESS every slice that the operation writes a sheet to has the sheet in front and zeros behind it. AFTER A REFUSAL a sheet that was to
- * be altered in its own slices is bit for bit as it came, and the slices for a new sheet are all zero.
+ * AFTER SUCCESS every slice that the operation writes a sheet or a page to has it in front and zeros behind it. AFTER A
+ * REFUSAL a sheet that was to be altered in its own slices is bit for bit as it came, and the slices for a new sheet or
+ * for a page are all zero, also those that are too short.
  *
- * THE ORDER OF REFUSALS is said at each function; the first that applies is returned. SHORT (lent) means a slice of the sheet shorter than its
- * count says, too little work, or a numbers, bounds, answer or measures slice that is too short. SHORT (result) means more points or quads than
- * the slices for the new sheet, or QUADS_LIMIT, hold. A kind above 2 is refused with QUADS_BOX, where a band of any other fault is.
+ * THE ORDER OF REFUSALS is said at each function; the first that applies is returned. SHORT (lent) means a slice of the
+ * sheet shorter than its count says, too little work, or a numbers, bounds, answer, measures or page slice that is too
+ * short. SHORT (result) means more points or quads than the slices for the new sheet, or QUADS_LIMIT, hold. A kind
+ * above 2 is refused with QUADS_BOX, where a band of any other fault is.
  *
  * THE MACHINE. The library is compiled for x86-64. A call needs the floating-point environment that a C program starts with: rounding to
  * nearest, subnormal numbers kept (no flush to zero, no denormals are zero); it changes nothing in it. It uses no more than 64 KiB of stack.
@@ -51,6 +54,9 @@ extern "C" {
 
 /* The most points, quads or labels of a sheet. */
 #define QUADS_LIMIT 1048576
+
+/* The bytes of a page: eight lines of 41. */
+#define QUADS_PAGE 328
 
 /* The kinds of field. */
 #define QUADS_PLANE 0
@@ -215,6 +221,31 @@ uint32_t quads_corners_per_point(
     uint32_t kind, const double *numbers, size_t numbers_len, const double *bounds, size_t bounds_len,
     double lower, double upper,
     uint32_t *work, size_t work_len, double *floats, size_t floats_len, uint64_t *answer, size_t answer_len);
+
+/*
+ * Writes the page of the sheet: the eight counts of quads_quality, its answer[0] to answer[7], one to a line.
+ *   quads          answer[0]: quads
+ *   irregular      answer[1]: points of other than four quads
+ *   boundary       answer[2]: edges of one quad
+ *   nonmanifold    answer[3]: edges of more than two quads
+ *   orientation    answer[4]: edges of two quads that run the same way
+ *   links          answer[5]: points whose quads are not one ring
+ *   duplicates     answer[6]: quads with the corners of an earlier one
+ *   invalid        answer[7]: quads that are turned over or collapsed somewhere
+ * A line is 41 bytes: its name left in 24 columns, its count right in 16, both filled with spaces, and byte 10. A count
+ * stands in decimal digits, without zeros in front. So the page is QUADS_PAGE bytes; no zero byte ends it.
+ * The page slice has at least QUADS_PAGE elements. After success the page is in front, and all behind it is zero; after
+ * a refusal all of the slice is zero, also of one that is too short.
+ * It shows exactly the counts that quads_quality gives for the sheet and the band, and is refused exactly as that is: a
+ * page slice that is too short is a SHORT (lent), as an answer or measures slice is there.
+ * Refusals: LARGE, SHORT (lent), BOX, BARE, CORNER, CLASH, NORMAL.
+ */
+uint32_t quads_page(
+    const double *points, size_t points_len, const uint32_t *quads, size_t quads_len,
+    const uint8_t *labels, size_t labels_len, size_t np, size_t nq, size_t nl,
+    uint32_t kind, const double *numbers, size_t numbers_len, const double *bounds, size_t bounds_len,
+    double lower, double upper,
+    uint32_t *work, size_t work_len, double *floats, size_t floats_len, uint8_t *page, size_t page_len);
 
 #ifdef __cplusplus
 }

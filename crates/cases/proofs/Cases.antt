@@ -1,6 +1,8 @@
 -- The theorem about the table of cases, by computation. Assumes nothing.
-use mathlib.Core.Path.{refl}
-use mathlib.Core.List.{zipWith}
+use Prim.Native.Nat.{ℕ}
+use mathlib.Core.Path.{_≡_, refl, ap}
+use mathlib.Core.List.{[], _∷_, zipWith}
+use lib.ListN.{getD}
 use lib.Ieee.{ofBits, add, sub, mul, div, neg, lt, le, ne, ofInt}
 use Rattle.lists.specs.Every.{every, some, countTo}
 use Rattle.lists.specs.Sort.{tabulate, bucket}
@@ -19,6 +21,7 @@ use Rattle.rule_sheet.specs.Places.{centreOf}
 use Rattle.rule_sheet.specs.Tests.{inRange, distinct, goodCorners, goodMask, goodMasks}
 use Rattle.rule_sheet.specs.Sheet.{pointsOf, flatPoints, isBare, quadsVerdict, sheetVerdict}
 use Rattle.rule_sheet.specs.Lent.{isLarge, isShort, isShortWork, lentVerdict}
+use Rattle.rule_sheet.specs.Results.{padded}
 use Rattle.rule_sheet.specs.Squared.{squared}
 use Rattle.rule_admission.specs.Admission.{domainVerdict, admitsAfter}
 use Rattle.rule_passes.specs.Shapes.{quadShape, noWorse}
@@ -33,9 +36,17 @@ use Rattle.rule_finer.specs.Smoothed.{those, edgeQuads, pointQuads, paired, lab
 use Rattle.rule_rows.specs.Rows.{isCopied, copies, numberOf, labelCentres, inward, tryFrom, copyOf, copiedQuads, sidesOf, edgeSides, rowSides, stripAt, rowsSheet, rowsMade, rowed, rowsRule}
 use Rattle.rule_quality.specs.Census.{isClosed, reached, connected, goodLink, badLinks, tight}
 use Rattle.rule_quality.specs.Measure.{cornersOf, cellsOf, goodNormal, measureRule}
-use Rattle.rule_quality.specs.Quality.{qualityOf, qualityRule}
+use Rattle.rule_quality.specs.declared.report.Quality.{Quality}
+use Rattle.rule_quality.specs.Quality.{qualityOf, eightCounts, qualityRule}
 use Rattle.rule_corners.specs.Corners.{ratioOf, cornersRule}
+use Rattle.rule_page.specs.Page.{columnOf, lineOf, line, joined, pageOf}
 use Rattle.cases.specs.Cases.{cube, turnedCube, pillow, twoPillows, swapPatch, mergePatch, AllHold, cases}
+
+-- the lines of a record, by its counts
+page-lines : (q : Quality) {a b c d e f g h : ℕ} → eightCounts q ≡ a ∷ b ∷ c ∷ d ∷ e ∷ f ∷ g ∷ h ∷ []
+    → pageOf q ≡ joined (line "quads" a ∷ line "irregular" b ∷ line "boundary" c ∷ line "nonmanifold" d ∷ line "orientation" e ∷ line "links" f ∷ line "duplicates" g ∷ line "invalid" h ∷ [])
+unfolding pageOf
+page-lines q k = let at : (i : ℕ) → _ = λ i. ap (λ l. getD l i 0) k in rw (at 0, at 1, at 2, at 3, at 4, at 5, at 6, at 7)
 
 pub cases-hold : AllHold cases
 unfolding cube turnedCube pillow twoPillows swapPatch mergePatch cases ofBits add sub mul div neg lt le ne ofInt every some countTo tabulate bucket
@@ -49,7 +60,7 @@ unfolding cube turnedCube pillow twoPillows swapPatch mergePatch cases ofBits ad
     refined refineRule those edgeQuads pointQuads paired labelCount centreAt isCopied copies numberOf labelCentres
     inward tryFrom copyOf copiedQuads sidesOf edgeSides rowSides stripAt rowsSheet rowsMade rowed rowsRule isClosed
     reached connected goodLink badLinks tight cornersOf cellsOf goodNormal measureRule qualityOf qualityRule zipWith ratioOf
-    cornersRule
+    cornersRule padded columnOf lineOf
 cases-hold = (
   (refl, refl, refl, refl, refl, refl),
   (
@@ -68,7 +79,7 @@ cases-hold = (
                 (refl, refl, refl),
                 (
                   (refl, refl, refl),
-                  (refl, (refl, ((refl, (refl, refl)), ((refl, (refl, refl)), ((refl, (refl, refl)), ((refl, (refl, refl)), ((refl, refl), ((refl, refl), tt)))))))),
+                  (refl, (refl, ((refl, (refl, refl)), ((refl, (refl, refl)), ((refl, (refl, refl)), ((refl, (refl, refl)), ((refl, refl), ((refl, refl), ((λ q e. page-lines q e), ((λ q e. page-lines q e), tt)))))))))),
                 ),
               ),
             ),

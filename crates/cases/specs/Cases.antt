@@ -1,6 +1,8 @@
 -- The cases that document 01 marks with *, "proved of the definitions together, by a table and one theorem about it",
--- and those of tight and of the corners per point. A row says what is asked of the rules and what they must answer.
+-- and those of tight, of the corners per point and of the page. A row says what is asked of the rules and what they
+-- must answer.
 use Prim.Native.Nat.{ℕ, _+_, _-_, _*_}
+use Prim.Native.String.{String}
 use mathlib.Core.Path.{_≡_}
 use mathlib.Core.Bool.{Bool, true, false}
 use mathlib.Core.List.{List, [], _∷_, _++_, map}
@@ -16,6 +18,7 @@ use Rattle.setting.specs.Settings.{Setting, domainIn, settingOf}
 use Rattle.rule_sheet.specs.declared.Verdict.the-variants.{Accepted}
 use Rattle.rule_sheet.specs.Quads.{Quad, quad, num, valence}
 use Rattle.rule_sheet.specs.Flat.{flatQuads}
+use Rattle.rule_sheet.specs.Edges.{joinOf}
 use Rattle.rule_sheet.specs.Sheet.{Sheet, flatPoints, countsOf, withQuads}
 use Rattle.rule_sheet.specs.Lent.{Lent, Work, Room, lentOf, workWith, roomWith}
 use Rattle.rule_sheet.specs.Outcomes.{Outcome, refuses, gives}
@@ -28,8 +31,10 @@ use Rattle.rule_coarsen.specs.Rule.{coarsenRule}
 use Rattle.rule_finer.specs.Finer.{refineRule}
 use Rattle.rule_rows.specs.Rows.{rowsRule}
 use Rattle.rule_quality.specs.Census.{isClosed}
-use Rattle.rule_quality.specs.Quality.{qualityRule}
+use Rattle.rule_quality.specs.declared.report.Quality.{Quality}
+use Rattle.rule_quality.specs.Quality.{eightCounts, qualityRule}
 use Rattle.rule_corners.specs.Corners.{cornersRule}
+use Rattle.rule_page.specs.Page.{bytesOf, lineEnd, pageOf}
 
 -- ---- what the rules are asked with
 
@@ -147,6 +152,8 @@ pub data Case : Type 0 where
   cornersCase : (s : Sheet) (quotient remainder : ℕ) → Case
   -- the same of its finer sheet, which has so many points and quads
   finerCornersCase : (s : Sheet) (points quads quotient remainder : ℕ) → Case
+  -- the page of a record with these eight counts: its lines, without their ends
+  pageCase : (counts : List ℕ) (lines : List String) → Case
   -- a square root
   rootCase : (of is : Float) → Case
 
@@ -183,6 +190,8 @@ Holds (qualityCase s closed links tight) =
 Holds (cornersCase s quotient remainder) = HasCorners s quotient remainder
 Holds (finerCornersCase s points quads quotient remainder) =
     Gives (refineRule (lentSheet s) (workFor s) (roomFor points quads)) (λ t. HasCorners t quotient remainder)
+Holds (pageCase counts lines) =
+    (q : Quality) → eightCounts q ≡ counts → pageOf q ≡ joinOf (λ l. bytesOf l ++ (lineEnd ∷ [])) lines
 Holds (rootCase of is) = sqrtOf of ≡ is
 
 -- the same of every row
@@ -223,4 +232,26 @@ cases =
     -- Document 02, Point 8: "The cube gives 3 and 0, the refined cube 3 and 18."
     cornersCase cube 3 0 ∷
     finerCornersCase cube 26 24 3 18 ∷
+    -- Document 02, Point 2: "name left in 24 columns, count right in 16, filled with spaces, each line ended by byte
+    -- 10"; the counts of the cube, and others
+    pageCase (6 ∷ 8 ∷ 0 ∷ 0 ∷ 0 ∷ 0 ∷ 0 ∷ 0 ∷ [])
+    ("quads                                  6"
+    ∷ "irregular                              8"
+    ∷ "boundary                               0"
+    ∷ "nonmanifold                            0"
+    ∷ "orientation                            0"
+    ∷ "links                                  0"
+    ∷ "duplicates                             0"
+    ∷ "invalid                                0"
+    ∷ []) ∷
+    pageCase (1048576 ∷ 1000 ∷ 4194304 ∷ 10 ∷ 9 ∷ 1050 ∷ 99 ∷ 100 ∷ [])
+    ("quads                            1048576"
+    ∷ "irregular                           1000"
+    ∷ "boundary                         4194304"
+    ∷ "nonmanifold                           10"
+    ∷ "orientation                            9"
+    ∷ "links                               1050"
+    ∷ "duplicates                            99"
+    ∷ "invalid                              100"
+    ∷ []) ∷
     []

@@ -14,10 +14,10 @@ use Rattle.rule_sheet.specs.declared.Answer.{Answer}
 use Rattle.rule_sheet.specs.declared.Answer.the-variants.{Refused}
 use Rattle.rule_sheet.specs.Numbers.{short}
 use Rattle.rule_sheet.specs.Sheet.{Sheet}
-use Rattle.rule_sheet.specs.Lent.{Lent, Room, Work, roomOf, workWith}
+use Rattle.rule_sheet.specs.Lent.{Lent, Room, Work, roomOf, workWith, beforeVerdict}
 use Rattle.rule_sheet.specs.Outcomes.{Outcome, refuses, RunEnd, afterTest}
 use Rattle.rule_sheet.specs.Results.{shownCounts, Makes, Alters, AltersQuads}
-use Rattle.rule_exports.specs.Told.{Told, bandOf, isShortTold, beforeVerdict, byTold, drawnByTold}
+use Rattle.rule_exports.specs.Told.{Told, bandOf, isShortTold, byTold, drawnByTold}
 use Rattle.rule_exports.specs.Exports.{Shows, isShortAnswer, withAnswer, ExportMakes, ExportAlters, ExportAltersQuads}
 use Rattle.sheet.specs.Results.{cleared}
 use Rattle.sheet.proofs.Results.{refused-fills, fills-leaves}

@@ -15,11 +15,11 @@ ghost use lib.Ieee.{nan};
 ghost use lib.ListN.{getD};
 ghost use Rattle.rule_sheet.specs.declared.Verdict.the-variants.{Accepted, Refused};
 ghost use Rattle.rule_sheet.specs.Numbers.{short};
-ghost use Rattle.rule_sheet.specs.Lent.{roomOf};
+ghost use Rattle.rule_sheet.specs.Lent.{roomOf, beforeVerdict};
 ghost use Rattle.rule_sheet.specs.Outcomes.{refuses};
 ghost use Rattle.rule_sheet.specs.Results.{Makes, Cleared};
-ghost use Rattle.rule_exports.specs.Told.{toldOf, coefficientsOf, fieldOf, lowerOf, bandOf, beforeVerdict};
-ghost use Rattle.rule_exports.specs.Exports.{answerNumber, answerCount, Shows};
+ghost use Rattle.rule_exports.specs.Told.{toldOf, coefficientsOf, fieldOf, lowerOf, bandOf};
+ghost use Rattle.rule_exports.specs.Exports.{answerNumber, verdictNumber, answerCount, Shows};
 ghost use Rattle.export_band.specs.Steps.{countsLeft};
 
 // The numbers of the kinds of field.
@@ -115,31 +115,19 @@ pub fn is_short_told(numbers: usize, bounds: usize) -> bool
     (numbers < NUMBERS) | (bounds < BOUNDS)
 }
 
-// What comes before an operation on a lent sheet: 12, then 13 where a slice of the export is too short.
-fn before_verdict(c: Counts, short: bool) -> Verdict
-    ensures { λ r. ⌜ r ≡ beforeVerdict c short ⌝ }
-{
-    if sheet::is_large(c) {
-        return Verdict::Refused(sheet::LARGE);
-    }
-    if short {
-        return Verdict::Refused(sheet::SHORT);
-    }
-    Verdict::Accepted
-}
-
-// The same of an export that is told a band; few where what it answers in is too short.
+// What comes before an operation on a lent sheet, of an export that is told a band: 12, then 13; few where what it
+// answers in is too short.
 pub fn told_verdict(c: Counts, few: bool, numbers: usize, bounds: usize) -> Verdict
     ensures { λ r. ⌜ r ≡ beforeVerdict c (few || (ltb numbers 10 || ltb bounds 6)) ⌝ }
 {
-    before_verdict(c, few | is_short_told(numbers, bounds))
+    sheet::before_verdict(c, few | is_short_told(numbers, bounds))
 }
 
 // The same of an export that is told no band.
 pub fn answer_verdict(c: Counts, answers: usize) -> Verdict
     ensures { λ r. ⌜ r ≡ beforeVerdict c (ltb answers 4) ⌝ }
 {
-    before_verdict(c, answers < ANSWERS)
+    sheet::before_verdict(c, answers < ANSWERS)
 }
 
 // What comes before extraction: 13 for numbers and bounds, without which there is no band.
@@ -150,6 +138,16 @@ pub fn band_verdict(numbers: usize, bounds: usize) -> Verdict
         return Verdict::Refused(sheet::SHORT);
     }
     Verdict::Accepted
+}
+
+// The number of a verdict: 0 if accepted.
+pub fn verdict_number(v: Verdict) -> u32
+    ensures { λ r. ⌜ r ≡ verdictNumber v ⌝ }
+{
+    match v {
+        Verdict::Accepted => 0,
+        Verdict::Refused(n) => n,
+    }
 }
 
 // The number of an answer: 0 if accepted.

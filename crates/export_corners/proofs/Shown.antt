@@ -7,12 +7,13 @@ use Rattle.band.specs.declared.Band.{Band}
 use Rattle.setting.specs.Settings.{Setting, settingOf}
 use Rattle.rule_sheet.specs.declared.Counts.{Counts}
 use Rattle.rule_sheet.specs.declared.Verdict.{Verdict}
+use Rattle.rule_sheet.specs.Lent.{beforeVerdict}
 use Rattle.rule_sheet.specs.Outcomes.{Outcome, afterTest}
 use Rattle.rule_corners.specs.declared.Ratio.{Ratio}
 use Rattle.rule_corners.specs.declared.Divided.{Divided}
 use Rattle.rule_corners.specs.declared.Divided.the-variants.{Done, Refused}
 use Rattle.rule_corners.specs.Corners.{dividedOf}
-use Rattle.rule_exports.specs.Told.{Told, bandOf, isShortTold, beforeVerdict, byTold}
+use Rattle.rule_exports.specs.Told.{Told, bandOf, isShortTold, byTold}
 use Rattle.rule_exports.specs.Measured.{fronted}
 use Rattle.rule_exports.specs.Divided.{ratioShown, ShowsRatio}
 

@@ -16,10 +16,11 @@ use Rattle.rule_sheet.specs.Sheet.{sheetVerdict}
 use Rattle.rule_sheet.specs.Lent.{Lent, held, isLarge}
 use Rattle.rule_sheet.specs.Outcomes.{Outcome, refuses, gives}
 use Rattle.rule_exports.specs.Told.{Told, bandOf, isShortTold}
+use Rattle.rule_exports.specs.Exports.{verdictNumber}
 use Rattle.rule_exports.specs.Refusals.{box, large, short}
 use Rattle.sheet.specs.Sheet.{masksOf, MasksIf}
 use Rattle.export_leaves.specs.Answers.{ofBand, pointNumber, pointLeft, ShowsPoint}
-use Rattle.export_leaves.specs.Answers.{verdictNumber, sheetTests, toldTests, ShowsMasks}
+use Rattle.export_leaves.specs.Answers.{sheetTests, toldTests, ShowsMasks}
 
 -- ---- a point
 

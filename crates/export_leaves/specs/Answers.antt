@@ -20,6 +20,7 @@ use Rattle.rule_sheet.specs.Sheet.{sheetVerdict}
 use Rattle.rule_sheet.specs.Lent.{Lent, lentOf, held, isLarge}
 use Rattle.rule_sheet.specs.Outcomes.{Outcome, refuses, gives}
 use Rattle.rule_exports.specs.Told.{Told, coefficientsOf, fieldOf, bandOf, isShortTold}
+use Rattle.rule_exports.specs.Exports.{verdictNumber}
 use Rattle.rule_exports.specs.Refusals.{box, astray, large, short}
 use Rattle.sheet.specs.Sheet.{masksOf, MasksIf}
 
@@ -72,11 +73,6 @@ pub record ShowsPoint (o : Outcome Point) (l : List Float) (n : ℕ) (l′ : Lis
   pub point : l′ ≡ pointLeft o l
 
 -- ---- a verdict
-
--- 0 if accepted
-unfoldable pub verdictNumber : Verdict → ℕ
-verdictNumber verdicts.Accepted = 0
-verdictNumber (verdicts.Refused n) = n
 
 -- 13 where too little is told of a band, 1 where it fails `validate`
 unfoldable pub bandNumber : Told → ℕ

@@ -6,14 +6,13 @@ use projection::LONGEST_MOVE;
 use projection::LOOKS;
 use projection::Projected;
 use rule_sheet::Counts;
-use rule_sheet::Verdict;
 ghost use mathlib.Core.Path.{_≡_};
 ghost use lib.ListN.{length};
 ghost use Rattle.numeric.specs.Root.{sqrtOf};
 ghost use Rattle.rule_sheet.specs.Outcomes.{gives};
 ghost use Rattle.rule_exports.specs.Told.{toldOf};
 ghost use Rattle.export_leaves.specs.Answers.{pointOf, valueAt, ofBand, gradientAt, normalAt};
-ghost use Rattle.export_leaves.specs.Answers.{projectionAt, ShowsPoint, verdictNumber, bandNumber, filling};
+ghost use Rattle.export_leaves.specs.Answers.{projectionAt, ShowsPoint, bandNumber, filling};
 ghost use Rattle.export_leaves.specs.Answers.{sheetTests, toldTests, ShowsMasks};
 
 // Accepted.
@@ -159,16 +158,6 @@ pub extern "C" fn leaf_validate(
     admission::BOX
 }
 
-// The number of a verdict: 0 if accepted.
-fn verdict_number(v: Verdict) -> u32
-    ensures { λ r. ⌜ r ≡ verdictNumber v ⌝ }
-{
-    match v {
-        Verdict::Accepted => ACCEPTED,
-        Verdict::Refused(number) => number,
-    }
-}
-
 // Tests a sheet that fills its slices; masks has an element for each point.
 fn tested(b: Band, points: &[f64], quads: &[u32], labels: &[u8], masks: &mut [u32]) -> u32
     ensures { λ r. ⌜ (
@@ -189,7 +178,7 @@ fn tested(b: Band, points: &[f64], quads: &[u32], labels: &[u8], masks: &mut [u3
     if !band::validate(b) {
         return admission::BOX;
     }
-    verdict_number(sheet::constraints(c, points, quads, labels, masks))
+    export_band::verdict_number(sheet::constraints(c, points, quads, labels, masks))
 }
 
 // Tests a sheet and its band.

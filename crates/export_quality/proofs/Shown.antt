@@ -10,13 +10,14 @@ use Rattle.setting.specs.Settings.{Setting, settingOf}
 use Rattle.rule_sheet.specs.declared.Counts.{Counts}
 use Rattle.rule_sheet.specs.declared.Verdict.{Verdict}
 use Rattle.rule_sheet.specs.Quads.{num}
+use Rattle.rule_sheet.specs.Lent.{beforeVerdict}
 use Rattle.rule_sheet.specs.Outcomes.{Outcome, afterTest}
 use Rattle.rule_quality.specs.declared.report.Quality.{Quality}
 use Rattle.rule_quality.specs.declared.report.Assessed.{Assessed}
 use Rattle.rule_quality.specs.declared.report.Assessed.the-variants.{Done, Refused}
 use Rattle.rule_quality.specs.Quality.{isValid, Assessment, assessedOf}
 use Rattle.rule_exports.proofs.Fronted.{stores-front}
-use Rattle.rule_exports.specs.Told.{Told, bandOf, isShortTold, beforeVerdict, byTold}
+use Rattle.rule_exports.specs.Told.{Told, bandOf, isShortTold, byTold}
 use Rattle.rule_exports.specs.Measured.{qualityCounts, qualityMeasures, countsShown, measuresShown, fronted, ShowsMeasures}
 use Rattle.export_quality.specs.Steps.{noQuality}
 

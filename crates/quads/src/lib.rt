@@ -3,7 +3,8 @@
 // count of swaps or merges and the counts of the sheet.
 
 use rule_sheet::Counts;
-ghost use mathlib.Core.Bool.{_||_};
+ghost use mathlib.Core.Bool.{false, _||_};
+ghost use lib.ListN.{length};
 ghost use Rattle.rule_sheet.specs.Lent.{lentOf, roomOf, workOf};
 ghost use Rattle.rule_sheet.specs.Results.{Cleared};
 ghost use Rattle.rule_regularize.specs.Rule.{regularizeRule, improveRule};
@@ -13,11 +14,13 @@ ghost use Rattle.rule_finer.specs.Subdivide.{subdivideRule};
 ghost use Rattle.rule_rows.specs.Rows.{rowsRule};
 ghost use Rattle.rule_quality.specs.Quality.{qualityRule, assessedOf};
 ghost use Rattle.rule_corners.specs.Corners.{cornersRule, dividedOf};
+ghost use Rattle.rule_page.specs.Page.{pageRule};
 ghost use Rattle.rule_extract.specs.Drawing.{extractRule};
 ghost use Rattle.rule_exports.specs.Told.{toldOf, byTold, drawnByTold};
 ghost use Rattle.rule_exports.specs.Exports.{isShortAnswer, withAnswer, ExportMakes, ExportAlters, ExportAltersQuads};
 ghost use Rattle.rule_exports.specs.Measured.{isShortCounts, isShortMeasures, ShowsMeasures};
 ghost use Rattle.rule_exports.specs.Divided.{isShortRatio, ShowsRatio};
+ghost use Rattle.rule_exports.specs.Paged.{ShowsPage};
 
 // `extract_candidate`: the counts of the drawn sheet go to answer[1..4], answer[0] is 0.
 #[no_mangle]
@@ -455,4 +458,43 @@ pub extern "C" fn quads_coarsen(
     let b = export_band::band_of(kind, numbers, bounds, lower, upper);
     let r = export_cleanup::coarsen_after(v, b, passes, c, points, quads, labels, work, floats);
     export_band::put_answer(answer, r)
+}
+
+// `page`: the page goes to the slice of that name, zeros behind its 328 bytes; all zeros after a refusal.
+#[no_mangle]
+pub extern "C" fn quads_page(
+    points: &[f64],
+    quads: &[u32],
+    labels: &[u8],
+    np: usize,
+    nq: usize,
+    nl: usize,
+    kind: u32,
+    numbers: &[f64],
+    bounds: &[f64],
+    lower: f64,
+    upper: f64,
+    work: &mut [u32],
+    floats: &mut [f64],
+    page: &mut [u8],
+) -> u32
+    ensures answer { λ r. ⌜ (
+        let x = lentOf (record { points = np; quads = nq; labels = nl }) (now (points .entry)) (now (quads .entry))
+        (now (labels .entry)) in
+        let t = toldOf kind (now (numbers .entry)) (now (bounds .entry)) lower upper in
+        let w = workOf (now (work .entry)) (now (floats .entry)) in
+        let n = length (now (page .entry)) in
+        ShowsPage (byTold (x .counts) false t (λ s. pageRule s x w n)) n r (now (page .exit))) ⌝ }
+    ensures cleared { λ _. ⌜ Cleared (now (work .entry)) (now (floats .entry)) (now (work .exit))
+        (now (floats .exit)) ⌝ }
+{
+    let c = Counts {
+        points: np,
+        quads: nq,
+        labels: nl,
+    };
+    let v = export_band::told_verdict(c, false, numbers.len(), bounds.len());
+    let b = export_band::band_of(kind, numbers, bounds, lower, upper);
+    let r = export_page::page_after(v, b, c, points, quads, labels, work, floats, page);
+    export_band::verdict_number(r)
 }

@@ -47,18 +47,19 @@ isRefusal (Refused k) = 1
 pub record Told (d : Domain) (x : Lent) (w : Work) (q : Quality) (t : Bool) : Type 0 where
   pub admitted : measurable d x w ≡ verdict.Accepted
   pub measures : Measures
+  pub measured : measureRule d (held x) ≡ measured.Done measures
   pub is : q ≡ qualityOf (x .counts .points) (held x .quads) measures
   pub is-tight : t ≡ tight (x .counts .points) (held x .quads)
 
 module _ (d : Domain) (x : Lent) (w : Work) (q : Quality) (t : Bool) where
   pub told : assessedOf (qualityRule d x w) ≡ Done q t → Told d x w q t
   unfolding qualityRule
-  told e = go (measurable d x w) refl (measureRule d (held x)) (rw (length-points (x .counts .points) (x .points)) at e)
+  told e = go (measurable d x w) refl (measureRule d (held x)) refl (rw (length-points (x .counts .points) (x .points)) at e)
     where
-      go : (v : Verdict) → measurable d x w ≡ v → (m : Measured) → assessedOf (afterTest v (withCounts (x .counts .points) (held x .quads) m)) ≡ Done q t → Told d x w q t
-      go (verdict.Refused k) ev m h = absurd (let z : _≡_ {A = ℕ} 1 0 = ap isRefusal h in omega arith)
-      go verdict.Accepted ev (measured.Refused k) h = absurd (let z : _≡_ {A = ℕ} 1 0 = ap isRefusal h in omega arith)
-      go verdict.Accepted ev (measured.Done m) h = record { admitted = ev; measures = m; is = sym (ap (recordOr q) h); is-tight = sym (ap (tightOr t) h) }
+      go : (v : Verdict) → measurable d x w ≡ v → (m : Measured) → measureRule d (held x) ≡ m → assessedOf (afterTest v (withCounts (x .counts .points) (held x .quads) m)) ≡ Done q t → Told d x w q t
+      go (verdict.Refused k) ev m em h = absurd (let z : _≡_ {A = ℕ} 1 0 = ap isRefusal h in omega arith)
+      go verdict.Accepted ev (measured.Refused k) em h = absurd (let z : _≡_ {A = ℕ} 1 0 = ap isRefusal h in omega arith)
+      go verdict.Accepted ev (measured.Done m) em h = record { admitted = ev; measures = m; measured = em; is = sym (ap (recordOr q) h); is-tight = sym (ap (tightOr t) h) }
 
   -- tight says yes: the sheet is closed, with one ring at each point
   pub yes-rings : assessedOf (qualityRule d x w) ≡ Done q t → t ≡ true → Closed (held x .quads) × Rings (held x .quads)

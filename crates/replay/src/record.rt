@@ -25,7 +25,7 @@ fn read(bytes: &mut [u8]) -> bool {
 
 // Whether an operation takes a sheet and shows what it makes or measures of it.
 fn takes_sheet(operation: u64) -> bool {
-    operation <= 8 || operation == 16
+    operation <= 8 || operation == 16 || operation == 17
 }
 
 // Whether the proved function of an operation answers as the record says; a larger sheet is not taken.

@@ -26,6 +26,7 @@ fn print_name(operation: usize) -> bool {
         7 => io::write_all(1, b"boundary_rows "),
         8 => io::write_all(1, b"quality "),
         16 => io::write_all(1, b"corners_per_point "),
+        17 => io::write_all(1, b"page "),
         _ => print_function(operation),
     }
 }

@@ -1,5 +1,5 @@
 // What answers with numbers and no sheet, asked as a record says, and whether it answers as it: `quality`,
-// `corners_per_point`, the functions at a point, and the tests of a band and of a sheet.
+// `corners_per_point`, `page`, the functions at a point, and the tests of a band and of a sheet.
 
 mod constraints;
 mod measures;
@@ -126,12 +126,12 @@ fn agrees_at(bytes: &[u8], operation: u64, k: &[f64], number: u64) -> bool
     got as u64 == number && same_point(bytes, out[0], out[1], out[2])
 }
 
-// The same, and of `quality` and `corners_per_point`, which are operations 8 and 16.
+// The same, and of `quality`, `corners_per_point` and `page`, which are operations 8, 16 and 17.
 pub fn agrees(bytes: &[u8], operation: u64, k: &[f64], number: u64) -> bool
     requires { ⌜ 21 ≤ length (now k) ⌝ }
 {
     match operation {
-        8 | 16 => measures::agrees(bytes, operation, k, number),
+        8 | 16 | 17 => measures::agrees(bytes, operation, k, number),
         _ => agrees_at(bytes, operation, k, number),
     }
 }

@@ -1,4 +1,4 @@
-// `quality` and `corners_per_point`, asked as a record says.
+// `quality`, `corners_per_point` and `page`, asked as a record says.
 use replay_records::numbers;
 use replay_records::sheets;
 use replay_records::sheets::Sizes;
@@ -6,8 +6,10 @@ use replay_records::stored;
 ghost use Prim.Native.Nat.{_≤_};
 ghost use lib.ListN.{length};
 
-// The number of `corners_per_point`.
+// The numbers of `corners_per_point` and of `page`.
 const CORNERS: u64 = 16;
+
+const PAGE: u64 = 17;
 
 // Whether `quality` of the sheet that was read answers as the record says; k holds the band.
 fn quality_agrees(
@@ -79,7 +81,41 @@ fn corners_agree(
     stored::same_ratio(bytes, got, number, &answer)
 }
 
-// Whether the operation of a record, one of these two, answers as the record says.
+// The same of `page`, in a slice that is longer than it.
+fn page_agrees(
+    bytes: &[u8],
+    n: Sizes,
+    points: &[f64],
+    corners: &[u32],
+    labels: &[u8],
+    k: &[f64],
+    number: u64,
+) -> bool
+    requires { ⌜ 18 ≤ length (now k) ⌝ }
+{
+    let mut work = [0u32; 8192];
+    let mut floats = [0.0; 2048];
+    let mut page = [255u8; 336];
+    let got = quads::quads_page(
+        points,
+        corners,
+        labels,
+        n.points,
+        n.quads,
+        n.labels,
+        numbers::byte_at(bytes, 7) as u32,
+        &k[0..10],
+        &k[10..16],
+        k[16],
+        k[17],
+        &mut work,
+        &mut floats,
+        &mut page,
+    );
+    stored::same_page(bytes, got, number, &page)
+}
+
+// Whether the operation of a record, one of these three, answers as the record says.
 pub fn agrees(bytes: &[u8], operation: u64, k: &[f64], number: u64) -> bool
     requires { ⌜ 18 ≤ length (now k) ⌝ }
 {
@@ -89,6 +125,9 @@ pub fn agrees(bytes: &[u8], operation: u64, k: &[f64], number: u64) -> bool
     let n = sheets::load(bytes, &mut points, &mut corners, &mut labels);
     if operation == CORNERS {
         return corners_agree(bytes, n, &points, &corners, &labels, k, number);
+    }
+    if operation == PAGE {
+        return page_agrees(bytes, n, &points, &corners, &labels, k, number);
     }
     quality_agrees(bytes, n, &points, &corners, &labels, k, number)
 }

@@ -129,3 +129,35 @@ pub fn same_ratio(bytes: &[u8], got: u32, number: u64, answer: &[u64; 2]) -> boo
     let at = result_at(bytes);
     answer[0] == numbers::word_at(bytes, at) && answer[1] == numbers::word_at(bytes, at + 8)
 }
+
+// Whether a slice has a record's bytes from a place on, so many, and zeros behind them.
+fn same_bytes(bytes: &[u8], at: usize, size: usize, page: &[u8]) -> bool
+    requires { ⌜ at ≤ 4000 ⌝ }
+    requires { ⌜ size ≤ 328 ⌝ }
+{
+    let mut i = 0;
+    while i < page.len() {
+        let stored = if i < size {
+            numbers::byte_at(bytes, at + i)
+        } else {
+            0
+        };
+        if numbers::byte_at(page, i) != stored {
+            return false;
+        }
+        i += 1;
+    }
+    true
+}
+
+// Whether the number of an answer of `page` and its slice are the stored ones: zeros behind the page, and all zeros if
+// it is refused.
+pub fn same_page(bytes: &[u8], got: u32, number: u64, page: &[u8]) -> bool {
+    if got as u64 != number {
+        return false;
+    }
+    if number != 0 {
+        return same_bytes(bytes, 0, 0, page);
+    }
+    same_bytes(bytes, result_at(bytes), 328, page)
+}

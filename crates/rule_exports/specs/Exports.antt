@@ -9,11 +9,12 @@ use lib.ListN.{length, set}
 use Rattle.rule_sheet.specs.declared.Counts.{Counts}
 use Rattle.rule_sheet.specs.declared.Answer.{Answer}
 use Rattle.rule_sheet.specs.declared.Answer.the-variants as answers
+use Rattle.rule_sheet.specs.declared.Verdict.{Verdict}
+use Rattle.rule_sheet.specs.declared.Verdict.the-variants as verdicts
 use Rattle.rule_sheet.specs.Sheet.{Sheet}
-use Rattle.rule_sheet.specs.Lent.{Lent, Room}
+use Rattle.rule_sheet.specs.Lent.{Lent, Room, beforeVerdict}
 use Rattle.rule_sheet.specs.Outcomes.{Outcome, RunEnd, afterTest}
 use Rattle.rule_sheet.specs.Results.{answerOf, made, shownCounts, Makes, Alters, AltersQuads}
-use Rattle.rule_exports.specs.Told.{beforeVerdict}
 
 -- an answer slice is too short: it has fewer than 4 elements
 abbrev pub isShortAnswer : List ℕ → Bool
@@ -28,7 +29,12 @@ unfoldable pub answerNumber : Answer → ℕ
 answerNumber (answers.Done t) = 0
 answerNumber (answers.Refused n) = n
 
--- the count that it shows: 0 if refused
+-- the number of a verdict: 0 if accepted
+unfoldable pub verdictNumber : Verdict → ℕ
+verdictNumber verdicts.Accepted = 0
+verdictNumber (verdicts.Refused n) = n
+
+-- the count that an answer shows: 0 if refused
 unfoldable pub answerCount : Answer → ℕ
 answerCount (answers.Done t) = t .count
 answerCount (answers.Refused n) = 0

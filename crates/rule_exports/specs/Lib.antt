@@ -2,4 +2,5 @@ pub mod Told
 pub mod Exports
 pub mod Measured
 pub mod Divided
+pub mod Paged
 pub mod Refusals

@@ -12,22 +12,11 @@ use Rattle.rule_sheet.specs.Quads.{num}
 use Rattle.rule_quality.specs.declared.report.Quality.{Quality}
 use Rattle.rule_quality.specs.declared.report.Assessed.{Assessed}
 use Rattle.rule_quality.specs.declared.report.Assessed.the-variants.{Done, Refused}
-use Rattle.rule_quality.specs.Quality.{isValid}
+use Rattle.rule_quality.specs.Quality.{isValid, eightCounts}
 
--- the eight counts of a record in its order, tight and valid
+-- the eight counts of a record, tight and valid
 abbrev pub qualityCounts : Quality → ℕ → ℕ → List ℕ
-qualityCounts q tight valid =
-    q .quads
-    ∷ q .«irregular_vertices»
-    ∷ q .«boundary_edges»
-    ∷ q .«nonmanifold_edges»
-    ∷ q .«orientation_errors»
-    ∷ q .«bad_vertex_links»
-    ∷ q .«duplicate_faces»
-    ∷ q .«invalid_cells»
-    ∷ tight
-    ∷ valid
-    ∷ []
+qualityCounts q tight valid = eightCounts q ++ (tight ∷ valid ∷ [])
 
 -- the four measures of a record
 abbrev pub qualityMeasures : Quality → List Float

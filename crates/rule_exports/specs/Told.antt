@@ -12,10 +12,9 @@ use Rattle.field.specs.declared.Coefficients.{Coefficients}
 use Rattle.band.specs.declared.Band.{Band}
 use Rattle.setting.specs.Settings.{Setting, settingOf}
 use Rattle.rule_sheet.specs.declared.Counts.{Counts}
-use Rattle.rule_sheet.specs.declared.Verdict.{Verdict}
 use Rattle.rule_sheet.specs.declared.Verdict.the-variants.{Accepted, Refused}
-use Rattle.rule_sheet.specs.Numbers.{large, short}
-use Rattle.rule_sheet.specs.Lent.{Work, workWith, isLarge}
+use Rattle.rule_sheet.specs.Numbers.{short}
+use Rattle.rule_sheet.specs.Lent.{Work, workWith, beforeVerdict}
 use Rattle.rule_sheet.specs.Outcomes.{Outcome, afterTest}
 
 -- what an export is told of the band
@@ -68,10 +67,6 @@ bandOf t = record {
 -- 13, short: fewer than ten numbers or six bounds
 abbrev pub isShortTold : Told → Bool
 isShortTold t = ltb (length (t .numbers)) 10 || ltb (length (t .bounds)) 6
-
--- what comes before the tests of an operation on a lent sheet: 12, then 13 where a slice of the export is too short
-unfoldable pub beforeVerdict : Counts → Bool → Verdict
-beforeVerdict c tooShort = cond (isLarge c) (Refused large) (cond tooShort (Refused short) Accepted)
 
 -- an operation on a lent sheet of these counts, by what its export is told, few where what it answers in is too
 -- short: "12, 13 (counts or work), 1", every 13 before 1

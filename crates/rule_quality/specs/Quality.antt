@@ -1,7 +1,7 @@
 -- The measured sheet: the record of `quality`, and its refusals in order. Document 01, "The measured sheet".
 use Prim.Native.Nat.{ℕ}
 use mathlib.Core.Bool.{Bool, _&&_}
-use mathlib.Core.List.{List}
+use mathlib.Core.List.{List, [], _∷_}
 use lib.Dec.{eqb}
 use lib.ListN.{length}
 use Rattle.numeric.specs.Num.{finiteOf}
@@ -48,6 +48,19 @@ qualityOf n S m = record {
   «minimum_sampled_jacobian» = m .«minimum_sampled_jacobian»;
   «invalid_cells» = m .«invalid_cells»;
 }
+
+-- the eight counts of a record, in its order
+abbrev pub eightCounts : Quality → List ℕ
+eightCounts q =
+    q .quads
+    ∷ q .«irregular_vertices»
+    ∷ q .«boundary_edges»
+    ∷ q .«nonmanifold_edges»
+    ∷ q .«orientation_errors»
+    ∷ q .«bad_vertex_links»
+    ∷ q .«duplicate_faces»
+    ∷ q .«invalid_cells»
+    ∷ []
 
 -- the record, and beside it tight
 pub record Assessment : Type 0 where

@@ -73,3 +73,7 @@ unfoldable pub lentVerdict : Counts → Room → Work → Verdict
 lentVerdict c r w =
     cond (isLarge c) (Refused large) (cond (isShort c r) (Refused short)
     (cond (isShortWork c w) (Refused short) Accepted))
+
+-- 12, then 13 where something else that a call is lent is too short
+unfoldable pub beforeVerdict : Counts → Bool → Verdict
+beforeVerdict c tooShort = cond (isLarge c) (Refused large) (cond tooShort (Refused short) Accepted)

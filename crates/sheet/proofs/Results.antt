@@ -36,7 +36,8 @@ unfolding flatQuads
 length-flat-quads [] = refl
 length-flat-quads (quad a b c d ∷ S) = omega (arith, length-flat-quads S)
 
-pad : {A : Type 0} (x : A) (n : ℕ) (l s : List A) → Front l s → n ≡ length l → cleared x n s ≡ padded x (length s) l
+-- a slice that begins with the elements of l, once it is cleared behind them
+pub pad : {A : Type 0} (x : A) (n : ℕ) (l s : List A) → Front l s → n ≡ length l → cleared x n s ≡ padded x (length s) l
 unfolding cleared padded
 pad x n l s F e = rw (e, F .is)
 

@@ -16,6 +16,7 @@ ghost use Rattle.rule_sheet.specs.Tests.{inRange, distinct, goodMask};
 ghost use Rattle.sheet.specs.Tests.{goodQuadAt, goodMaskAt, withBit, marked};
 ghost use Rattle.rule_sheet.specs.Sheet.{sheetOf, quadsVerdict};
 ghost use Rattle.rule_sheet.specs.Lent.{isLarge, isShort, isShortWork, lentVerdict, roomWith, workWith};
+ghost use Rattle.rule_sheet.specs.Lent.{beforeVerdict};
 ghost use Rattle.rule_sheet.specs.Sheet.{sheetVerdict};
 ghost use Rattle.sheet.specs.Sheet.{Few, masksOf, MasksIf, LentSheet, finiteAt, bareBy};
 ghost use Rattle.numeric.specs.Num.{zeroF};
@@ -90,6 +91,19 @@ pub fn lent(
         return Verdict::Refused(SHORT);
     }
     if is_short_work(c, work, floats) {
+        return Verdict::Refused(SHORT);
+    }
+    Verdict::Accepted
+}
+
+// 12, then 13 where something else that a call is lent is too short.
+pub fn before_verdict(c: Counts, too_short: bool) -> Verdict
+    ensures { λ r. ⌜ r ≡ beforeVerdict c «too_short» ⌝ }
+{
+    if is_large(c) {
+        return Verdict::Refused(LARGE);
+    }
+    if too_short {
         return Verdict::Refused(SHORT);
     }
     Verdict::Accepted

@@ -9,7 +9,7 @@ use oracle::random::Random;
 use quads::Counts;
 
 /// The operations of which some calls have faults.
-const FAULTY: [Operation; 2] = [Operation::Quality, Operation::Corners];
+const FAULTY: [Operation; 3] = [Operation::Quality, Operation::Corners, Operation::Page];
 
 /// One of their calls in so many has.
 const ONE_IN: usize = 4;
@@ -46,6 +46,8 @@ enum Fault {
     FewAnswers(usize),
     /// A measure is missing.
     FewMeasures,
+    /// A page slice of this length, too short.
+    ShortPage(usize),
 }
 
 /// Puts a value into a place; that is a fault.
@@ -76,8 +78,17 @@ impl Fault {
             8 => Fault::FewNumbers,
             9 => Fault::FewBounds,
             10 => Fault::Kind(r.pick(&[3, u32::MAX])),
-            11 => Fault::FewAnswers(if operation == Operation::Quality { 9 } else { r.below(2) }),
+            11 => Fault::short_answer(r, operation),
             _ => Fault::FewMeasures,
+        }
+    }
+
+    /// A slice for the answer of an operation, or for its page, that is too short.
+    fn short_answer(r: &mut Random, operation: Operation) -> Fault {
+        match operation {
+            Operation::Quality => Fault::FewAnswers(9),
+            Operation::Page => Fault::ShortPage(r.pick(&[0, 1, 41, 327])),
+            _ => Fault::FewAnswers(r.below(2)),
         }
     }
 
@@ -97,6 +108,7 @@ impl Fault {
             Fault::Kind(kind) => set(&mut lent.band.kind, kind),
             Fault::FewAnswers(length) => cut(&mut lent.answer, length + 1),
             Fault::FewMeasures => cut(&mut lent.measures, 4),
+            Fault::ShortPage(length) => cut(&mut lent.page, length + 1),
         }
     }
 }
@@ -106,13 +118,22 @@ fn kinds(operation: Operation) -> usize {
     if operation == Operation::Quality { 13 } else { 12 }
 }
 
+/// How many answers, measures and bytes of a page an operation needs room for.
+fn needed(operation: Operation) -> (usize, usize, usize) {
+    match operation {
+        Operation::Quality => (10, 4, 0),
+        Operation::Page => (0, 0, 328),
+        _ => (2, 0, 0),
+    }
+}
+
 /// The number with which what is lent is refused, whatever the sheet and the band are; none where it is enough.
 fn refusal(lent: &Lent, operation: Operation) -> Option<u8> {
     let Counts { points, quads, labels } = lent.sheet.counts;
     if points > MOST || quads > MOST || labels > MOST {
         return Some(12);
     }
-    let (answers, measures) = if operation == Operation::Quality { (10, 4) } else { (2, 0) };
+    let (answers, measures, page) = needed(operation);
     let short = lent.sheet.points.len() < 3 * points
         || lent.sheet.quads.len() < 4 * quads
         || lent.sheet.labels.len() < labels
@@ -121,7 +142,8 @@ fn refusal(lent: &Lent, operation: Operation) -> Option<u8> {
         || lent.band.numbers.len() < 10
         || lent.band.bounds.len() < 6
         || lent.answer.len() < answers
-        || lent.measures.len() < measures;
+        || lent.measures.len() < measures
+        || lent.page.len() < page;
     if short {
         return Some(13);
     }
@@ -218,6 +240,12 @@ mod tests {
         refusal(&lend(&on_cube(), faults).0, Operation::Corners)
     }
 
+    /// The number with which its page is.
+    fn page_number(faults: &[Fault]) -> Option<u8> {
+        let call = Call { operation: Operation::Page, ..on_cube() };
+        refusal(&lend(&call, faults).0, Operation::Page)
+    }
+
     #[test]
     fn large_comes_before_short_and_short_before_the_kind() {
         assert_eq!(number(&[]), None);
@@ -228,6 +256,17 @@ mod tests {
                 assert_eq!([number(&[short, large]), number(&[large, short])], [Some(12); 2]);
             }
         }
+    }
+
+    #[test]
+    fn a_short_page_is_one_of_the_short() {
+        assert_eq!(page_number(&[]), None);
+        for short in [0, 1, 41, 327].map(Fault::ShortPage) {
+            assert_eq!([page_number(&[short]), page_number(&[Fault::Kind(3), short])], [Some(13); 2]);
+            assert_eq!(page_number(&[short, Fault::ManyQuads(MOST + 1)]), Some(12));
+            assert_eq!(number(&[short]), None);
+        }
+        assert_eq!(page_number(&[Fault::FewAnswers(0)]), None);
     }
 
     #[test]

@@ -22,13 +22,22 @@ pub struct Lent {
     pub answer: Vec<u64>,
     /// The measures slice, one element longer than the measures.
     pub measures: Vec<f64>,
+    /// The page slice, as long as a page or longer.
+    pub page: Vec<u8>,
 }
+
+/// The bytes of a page.
+const PAGE: usize = 328;
+
+/// The lengths of page slices, which take turns by the sheet's number of quads.
+const PAGES: [usize; 3] = [PAGE, PAGE + 1, 400];
 
 /// How many elements of its answer and measures slices an operation writes.
 fn written(operation: Operation) -> (usize, usize) {
     match operation {
         Operation::Quality => (10, 4),
         Operation::Corners => (2, 0),
+        Operation::Page => (0, 0),
         _ => (4, 0),
     }
 }
@@ -64,6 +73,7 @@ impl Lent {
         Lent {
             came: sheet.clone(),
             result: Flat::room(room(call.operation, argument, sheet.counts)),
+            page: vec![255; PAGES[sheet.counts.quads % PAGES.len()]],
             sheet,
             argument,
             band: FlatBand::from(&call.band),
@@ -94,6 +104,7 @@ impl Lent {
             Operation::Coarsen => Some(ffi::coarsen(sheet.as_sheet_mut(), band, number, work, answer)),
             Operation::Quality => Some(ffi::quality(sheet.as_sheet_ref(), band, work, answer, &mut self.measures)),
             Operation::Corners => Some(ffi::corners_per_point(sheet.as_sheet_ref(), band, work, answer)),
+            Operation::Page => Some(ffi::page(sheet.as_sheet_ref(), band, work, &mut self.page)),
             Operation::Project | Operation::Value | Operation::Gradient | Operation::Normal => None,
             Operation::Sqrt | Operation::Constraints | Operation::Validate => None,
         }
@@ -164,19 +175,33 @@ impl Lent {
         self.answer.first_chunk().map(|&words| Answer::ratio(words))
     }
 
+    /// The page that `page` wrote; none if something is left behind it.
+    fn shown(&self) -> Option<Answer> {
+        let (text, behind) = self.page.split_at_checked(PAGE)?;
+        behind.iter().all(|&byte| byte == 0).then(|| Answer::text(text))
+    }
+
+    /// Whether all bytes of the page slice are this one.
+    fn is_filled(&self, byte: u8) -> bool {
+        self.page.iter().all(|&found| found == byte)
+    }
+
     /// Whether a refusal left zeros in everything that would have been made.
     fn is_bare(&self, operation: Operation) -> bool {
         let (answers, measures) = written(operation);
         parts(&self.answer, answers).0.iter().all(|&n| n == 0)
             && parts(&self.measures, measures).0.iter().all(|x| x.to_bits() == 0)
             && self.result.sheet(Counts::default()).is_some()
+            && (operation != Operation::Page || self.is_filled(0))
     }
 
-    /// Whether what is behind the answer and the measures, all of a slice that is too short, is as it was filled.
+    /// Whether what is behind the answer and the measures, all of a slice that is too short, is as it was filled, and
+    /// the page slice of another operation too.
     fn is_kept_behind(&self, operation: Operation) -> bool {
         let (answers, measures) = written(operation);
         parts(&self.answer, answers).1.iter().all(|&n| n == u64::MAX)
             && parts(&self.measures, measures).1.iter().all(|x| x.to_bits() == f64::NAN.to_bits())
+            && (operation == Operation::Page || self.is_filled(255))
     }
 
     /// Whether the lent sheet is as it came, which only an accepted clean-up may change.
@@ -193,6 +218,7 @@ impl Lent {
             _ if !self.is_kept() => None,
             (0, Operation::Quality) => self.measured(),
             (0, Operation::Corners) => self.divided(),
+            (0, Operation::Page) => self.shown(),
             (0, _) => self.sheet_in(&self.result),
             _ => self.is_bare(operation).then(|| Answer::refused(number as u8)),
         }

@@ -11,7 +11,7 @@ use oracle::random::Random;
 use oracle::{bands, drawn, rings, sheets};
 
 /// The operations of the lists.
-const OPERATIONS: [Operation; 8] = [
+const OPERATIONS: [Operation; 9] = [
     Operation::Regularize,
     Operation::ImproveLayout,
     Operation::Coarsen,
@@ -20,6 +20,7 @@ const OPERATIONS: [Operation; 8] = [
     Operation::Rows,
     Operation::Quality,
     Operation::Corners,
+    Operation::Page,
 ];
 
 /// Those of which demand 3 says something; `refine` can make coordinates infinite.

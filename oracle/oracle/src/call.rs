@@ -3,7 +3,7 @@ use crate::field::{BandNumbers, Field};
 use crate::implicit::ScalarField;
 use crate::operation::Operation;
 use crate::quads::{self, Band, QuadMesh, Quality};
-use crate::{MeshingError, Point, corners, inner, refusal, rings};
+use crate::{MeshingError, Point, corners, inner, page, refusal, rings};
 
 /// The result is a digest of the sheet.
 pub const DIGEST: u8 = 1;
@@ -52,15 +52,18 @@ pub fn lone(p: Point) -> QuadMesh {
     QuadMesh { points: vec![p], quads: vec![], labels: vec![] }
 }
 
+/// Bytes as words, eight to a word, the first of them lowest.
+fn byte_words(bytes: &[u8]) -> impl Iterator<Item = u64> {
+    bytes.chunks(8).map(|eight| eight.iter().rev().fold(0, |word, &byte| word << 8 | u64::from(byte)))
+}
+
 /// The words of a sheet: coordinates, corners two to a word, labels eight to a word.
 pub fn sheet_words(sheet: &QuadMesh, bits: fn(f64) -> u64) -> Vec<u64> {
     let mut words: Vec<u64> = sheet.points.iter().flatten().map(|&x| bits(x)).collect();
     for [a, b, c, d] in sheet.quads.iter().map(|quad| quad.map(|corner| corner as u64)) {
         words.extend([a | b << 32, c | d << 32]);
     }
-    for eight in sheet.labels.chunks(8) {
-        words.push(eight.iter().rev().fold(0, |word, &label| word << 8 | u64::from(label)));
-    }
+    words.extend(byte_words(&sheet.labels));
     words
 }
 
@@ -117,6 +120,11 @@ impl Answer {
         Answer { words: words.to_vec(), ..Answer::default() }
     }
 
+    /// Accepted, with text as the result.
+    pub fn text(text: &[u8]) -> Answer {
+        Answer { words: byte_words(text).collect(), ..Answer::default() }
+    }
+
     /// The answer of a result of the original.
     fn of<T>(result: Result<T, MeshingError>, accepted: impl FnOnce(T) -> Answer) -> Answer {
         result.map_or_else(|error| Answer::refused(refusal::number(&error)), accepted)
@@ -147,8 +155,8 @@ fn cleaned(call: &Call, operation: Clean) -> Answer {
     Answer::of(count, |count| Answer::sheet(count, &sheet))
 }
 
-/// What the original answers, and where it has no operation, its tests and a model; `project` only on a band that
-/// `validate` accepts, `normal` only on labels up to 7.
+/// What the original answers, and where it has no operation, its tests or its `quality` and a model; `project` only on
+/// a band that `validate` accepts, `normal` only on labels up to 7.
 pub fn original(call: &Call) -> Answer {
     let band = &call.band.band();
     let sheet = &call.sheet;
@@ -173,6 +181,7 @@ pub fn original(call: &Call) -> Answer {
         Operation::Constraints => Answer::of(inner::constraints(sheet, band), |()| Answer::accepted()),
         Operation::Validate => Answer::of(inner::validate(band), |()| Answer::accepted()),
         Operation::Corners => Answer::of(inner::constraints(sheet, band), |()| Answer::ratio(corners::dealt(sheet))),
+        Operation::Page => Answer::of(quads::quality(sheet, band), |q| Answer::text(page::text(&q).as_bytes())),
     }
 }
 
@@ -184,5 +193,12 @@ mod tests {
     fn the_words_of_a_sheet_are_little_endian() {
         let sheet = QuadMesh { points: vec![[1.0, 0.0, 0.0]], quads: vec![[1, 2, 3, 4]], labels: vec![5, 6] };
         assert_eq!(sheet_words(&sheet, f64::to_bits), [1f64.to_bits(), 0, 0, 1 | 2 << 32, 3 | 4 << 32, 5 | 6 << 8]);
+    }
+
+    #[test]
+    fn the_words_of_a_text_are_its_bytes() {
+        let Answer { words, .. } = Answer::text(b"quads   1234567\n");
+        let bytes: Vec<u8> = words.iter().flat_map(|word| word.to_le_bytes()).collect();
+        assert_eq!(bytes, b"quads   1234567\n");
     }
 }

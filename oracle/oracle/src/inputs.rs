@@ -92,6 +92,7 @@ mod tests {
         assert_eq!(numbers(Operation::Quality), BTreeSet::from([0, 1, 5, 6, 7, 11]));
         assert_eq!(numbers(Operation::Coarsen), BTreeSet::from([0, 1, 5, 6, 7]));
         assert_eq!(numbers(Operation::Corners), BTreeSet::from([0, 1, 5, 6, 7]));
+        assert_eq!(numbers(Operation::Page), BTreeSet::from([0, 1, 5, 6, 7, 11]));
     }
 
     #[test]

@@ -13,6 +13,7 @@ pub mod floats;
 pub mod inner;
 pub mod inputs;
 pub mod operation;
+pub mod page;
 pub mod patches;
 pub mod random;
 pub mod record;

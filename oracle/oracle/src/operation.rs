@@ -37,6 +37,8 @@ pub enum Operation {
     Validate = 15,
     /// Divides the corners of the quads by the points.
     Corners = 16,
+    /// Writes the counts of a sheet as text.
+    Page = 17,
 }
 
 impl Operation {
@@ -59,6 +61,7 @@ impl Operation {
             Operation::Constraints => "constraints",
             Operation::Validate => "validate",
             Operation::Corners => "corners_per_point",
+            Operation::Page => "page",
         }
     }
 
@@ -69,7 +72,7 @@ impl Operation {
 
     /// Whether it measures a sheet, which stays as it is.
     pub fn measures(self) -> bool {
-        matches!(self, Operation::Quality | Operation::Corners)
+        matches!(self, Operation::Quality | Operation::Corners | Operation::Page)
     }
 
     /// All of them in the order of their numbers.
@@ -100,6 +103,7 @@ impl TryFrom<u8> for Operation {
             14 => Ok(Operation::Constraints),
             15 => Ok(Operation::Validate),
             16 => Ok(Operation::Corners),
+            17 => Ok(Operation::Page),
             _ => Err(UnknownOperation(number)),
         }
     }
@@ -140,16 +144,17 @@ mod tests {
             "constraints",
             "validate",
             "corners_per_point",
+            "page",
         ];
         assert_eq!(Operation::all().map(Operation::name).collect::<Vec<_>>(), names);
-        assert!(Operation::all().map(Operation::number).eq(1..=16));
+        assert!(Operation::all().map(Operation::number).eq(1..=17));
     }
 
     #[test]
     fn another_number_is_none() {
-        for number in [0, 17, u8::MAX] {
+        for number in [0, 18, u8::MAX] {
             assert_eq!(Operation::try_from(number), Err(UnknownOperation(number)));
         }
-        assert_eq!(UnknownOperation(17).to_string(), "17 is the number of no operation");
+        assert_eq!(UnknownOperation(18).to_string(), "18 is the number of no operation");
     }
 }

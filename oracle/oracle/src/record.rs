@@ -201,6 +201,7 @@ mod tests {
         assert_eq!(Answer::sheet(0, &sheet_in(&finer).unwrap()), finer);
         assert!(sheet_in(&original(&on(Operation::Quality, sheets::cube()))).is_none());
         assert!(sheet_in(&original(&on(Operation::Corners, sheets::cube()))).is_none());
+        assert!(sheet_in(&original(&on(Operation::Page, sheets::cube()))).is_none());
         assert!(sheet_in(&original(&on(Operation::Subdivide, sheets::empty()))).is_none());
     }
 

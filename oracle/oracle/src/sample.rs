@@ -41,6 +41,9 @@ const DRAWINGS: [usize; 2] = [20, 50];
 /// How many random small sheets the sample holds for corners per point.
 const CORNERS: usize = 30;
 
+/// How many random small sheets the sample holds for the page.
+const PAGES: usize = 14;
+
 /// The numbers of passes.
 const PASSES: [u64; 5] = [0, 1, 2, 3, 1000];
 
@@ -282,6 +285,33 @@ fn corners(seed: u64) -> Vec<Record> {
     calls.into_iter().map(record).collect()
 }
 
+/// As many quads as points, no two of which share an edge: each point is a corner of four of them, and all edges have
+/// one quad.
+fn loose(n: usize) -> QuadMesh {
+    let at = |i: usize| i as f64 / n as f64;
+    QuadMesh {
+        points: (0..n).map(|i| [at(i), at(i) * at(i), 0.5]).collect(),
+        quads: (0..n).map(|i| [0, 1, 3, 7].map(|step| (i + step) % n)).collect(),
+        labels: vec![2; n],
+    }
+}
+
+/// Pages: of the changed cubes, of a pillow in the changed bands, of a field without a direction, of counts of two and
+/// three digits, of two pillows at one point, and of random small sheets.
+fn pages(seed: u64) -> Vec<Record> {
+    let mut r = Random::new(seed);
+    let operation = Operation::Page;
+    let on = |(band, sheet)| Call { operation, argument: 0, band, sheet };
+    let mut calls: Vec<Call> = changed_cubes().into_iter().map(|sheet| on((UNIT, sheet))).collect();
+    calls.extend(changed_bands().map(|band| on((band, sheets::pillow()))));
+    calls.push(on(flat()));
+    calls.extend(quads::refine(&sheets::cube()).ok().map(|sheet| on((UNIT, sheet))));
+    calls.extend([sheets::poles(12), loose(64), sheets::pillows()].map(|sheet| on((UNIT, sheet))));
+    let random = std::iter::repeat_with(|| inputs::call(&mut r, operation));
+    calls.extend(random.filter(|call| is_small(&call.sheet)).take(PAGES));
+    calls.into_iter().map(record).collect()
+}
+
 /// The sample of a seed. What is new stands behind, so that the records before it stay as they are.
 pub fn records(seed: u64) -> Vec<Record> {
     let mut records = leaves(seed);
@@ -290,6 +320,7 @@ pub fn records(seed: u64) -> Vec<Record> {
     records.extend(cleanings(seed));
     records.extend(drawings(seed));
     records.extend(corners(seed));
+    records.extend(pages(seed));
     records
 }
 
@@ -320,7 +351,8 @@ mod tests {
         let rows = [0, 1, 5, 6, 7, 8, 10].map(|number| (Rows, number));
         let drawn = [0, 1, 2, 3, 4, 5, 7].map(|number| (Extract, number));
         let corners = [0, 1, 5, 6, 7].map(|number| (Corners, number));
-        let measured = refine.into_iter().chain(subdivide).chain(quality).chain(corners);
+        let pages = [0, 1, 5, 6, 7, 11].map(|number| (Page, number));
+        let measured = refine.into_iter().chain(subdivide).chain(quality).chain(corners).chain(pages);
         let cleaned = regularize.into_iter().chain(improve).chain(coarsen).chain(rows).chain(drawn);
         let expected = leaf.into_iter().chain(tests).chain(sheet).chain(measured).chain(cleaned).collect();
         assert_eq!(seen(&records(SEED)), expected);
@@ -358,18 +390,37 @@ mod tests {
 
     #[test]
     fn the_replay_has_room_for_every_result() {
-        for record in operations(SEED).into_iter().chain(cleanings(SEED)).chain(drawings(SEED)).chain(corners(SEED)) {
+        for record in records(SEED) {
             let [points, quads, labels] = record.answer.counts;
             assert!(points <= 384 && quads <= 256 && labels <= 256);
+            assert!(8 * record::encode(&record).len() <= 8192);
         }
     }
 
     #[test]
-    fn corners_per_point_stand_last() {
-        let (records, corners) = (records(SEED), corners(SEED));
-        let (before, last) = records.split_at(records.len() - corners.len());
-        assert!(before.iter().all(|record| record.call.operation != Operation::Corners));
-        assert_eq!(record::file(last), record::file(&corners));
+    fn corners_per_point_and_then_pages_stand_last() {
+        let (records, corners, pages) = (records(SEED), corners(SEED), pages(SEED));
+        let (before, last) = records.split_at(records.len() - corners.len() - pages.len());
+        let is_new = |record: &Record| [Operation::Corners, Operation::Page].contains(&record.call.operation);
+        assert!(!before.iter().any(is_new));
+        assert_eq!(record::file(last), record::file(&[corners, pages].concat()));
+    }
+
+    /// The text of an answer.
+    fn text(answer: &Answer) -> String {
+        String::from_utf8(answer.words.iter().flat_map(|word| word.to_le_bytes()).collect()).unwrap()
+    }
+
+    #[test]
+    fn pages_have_their_text() {
+        let pages = pages(SEED);
+        assert_eq!(pages.len(), 26 + PAGES);
+        assert!(pages.iter().all(|record| record.answer.words.len() == if record.answer.number == 0 { 41 } else { 0 }));
+        let line = |place: usize, line: usize| text(&pages[place].answer).lines().nth(line).map(String::from);
+        let known = [(0, 0, "quads", 6), (22, 0, "quads", 24), (23, 1, "irregular", 14), (24, 2, "boundary", 256)];
+        for (place, at, name, count) in known {
+            assert_eq!(line(place, at), Some(format!("{name:<24}{count:>16}")));
+        }
     }
 
     #[test]
@@ -389,6 +440,6 @@ mod tests {
 
     #[test]
     fn the_sample_is_small() {
-        assert!(record::file(&records(SEED)).len() < 1_200_000);
+        assert!(record::file(&records(SEED)).len() < 1_250_000);
     }
 }

@@ -30,20 +30,16 @@ impl Report {
         }
     }
 
-    /// Its text for a sheet, or why what it asks of the sheet is refused.
-    pub fn text(self, work: &mut Workspace, sheet: &Sheet, band: &Band) -> Result<String, Refused> {
+    /// Its text for a sheet, as bytes, or why what it asks of the sheet is refused.
+    pub fn text(self, work: &mut Workspace, sheet: &Sheet, band: &Band) -> Result<Vec<u8>, Refused> {
         match self {
-            Report::Display => work.quality(sheet, band).map(|quality| two_lines(&quality)),
-            Report::Page => work.quality(sheet, band).map(|quality| page(&quality)),
-            Report::Quality => work.quality(sheet, band).map(|quality| record(&quality)),
-            Report::Corners => work.corners_per_point(sheet, band).map(corners),
+            Report::Display => work.quality(sheet, band).map(|quality| two_lines(&quality).into_bytes()),
+            Report::Page => work.page(sheet, band).map(Vec::from),
+            Report::Quality => record(work, sheet, band),
+            Report::Corners => work.corners_per_point(sheet, band).map(|ratio| corners(ratio).into_bytes()),
         }
     }
 }
-
-/// The names on the page, in the record's order.
-const NAMES: [&str; 8] =
-    ["quads", "irregular", "boundary", "nonmanifold", "orientation", "links", "duplicates", "invalid"];
 
 /// Prints a text.
 pub fn print(out: &mut dyn Write, text: &str) -> Result<(), Problem> {
@@ -62,22 +58,23 @@ fn two_lines(quality: &Quality) -> String {
     format!("{:<12}{:>8}\n{:<12}{:>8}\n", "quads", quality.quads, "bad points", quality.bad_vertex_links)
 }
 
-/// A line of the page: name left in 24 columns, value right in 16.
+/// A line that is laid out like those of the page: name left in 24 columns, value right in 16.
 fn line(name: &str, value: impl Display) -> String {
     format!("{name:<24}{value:>16}\n")
 }
 
-/// The page: the eight counts, one a line.
-fn page(quality: &Quality) -> String {
-    NAMES.iter().zip(quality.counts()).map(|(name, count)| line(name, count)).collect()
+/// The whole record: the page, and behind it the measures.
+fn record(work: &mut Workspace, sheet: &Sheet, band: &Band) -> Result<Vec<u8>, Refused> {
+    let page = work.page(sheet, band)?;
+    let measures = measures(&work.quality(sheet, band)?);
+    Ok([&page[..], measures.as_bytes()].concat())
 }
 
-/// The whole record, laid out like the page.
-fn record(quality: &Quality) -> String {
+/// The measures of the record, and whether it is tight and valid.
+fn measures(quality: &Quality) -> String {
     let measure = |name: &str, value: f64| line(name, format!("{value:.6}"));
     let answer = |name: &str, value: bool| line(name, if value { "yes" } else { "no" });
-    page(quality)
-        + &measure("minimum shape", quality.minimum_shape)
+    measure("minimum shape", quality.minimum_shape)
         + &measure("shape and size, 5%", quality.shape_size_p05)
         + &measure("shape and size, mean", quality.shape_size_mean)
         + &measure("minimum Jacobian", quality.minimum_sampled_jacobian)

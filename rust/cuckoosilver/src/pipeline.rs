@@ -121,7 +121,7 @@ impl<'a> Pipeline<'a> {
     fn print(&mut self, report: Report) -> Result<(), Problem> {
         let text = report.text(&mut self.workspace, &self.sheet, &self.parts.band()?)?;
         let out = if self.output_is_sheet { &mut *self.log } else { &mut *self.out };
-        display::print(out, &text)
+        display::send(out, &text)
     }
 
     /// Works on the sheet: what was done.

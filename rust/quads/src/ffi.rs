@@ -138,6 +138,12 @@ unsafe extern "C" {
         bounds: *const f64, bounds_len: usize, lower: f64, upper: f64, work: *mut u32, work_len: usize,
         floats: *mut f64, floats_len: usize, answer: *mut u64, answer_len: usize,
     ) -> u32;
+    fn quads_page(
+        points: *const f64, points_len: usize, quads: *const u32, quads_len: usize, labels: *const u8,
+        labels_len: usize, np: usize, nq: usize, nl: usize, kind: u32, numbers: *const f64, numbers_len: usize,
+        bounds: *const f64, bounds_len: usize, lower: f64, upper: f64, work: *mut u32, work_len: usize,
+        floats: *mut f64, floats_len: usize, page: *mut u8, page_len: usize,
+    ) -> u32;
 }
 
 /// Calls an export. Each group of arguments in turn adds its own to the list, a slice as its pointer and its length.
@@ -227,6 +233,11 @@ pub fn quality(sheet: SheetRef, band: BandRef, work: WorkMut, answer: &mut [u64]
 /// `quads_corners_per_point`.
 pub fn corners_per_point(sheet: SheetRef, band: BandRef, work: WorkMut, answer: &mut [u64]) -> u32 {
     call!(quads_corners_per_point() sheet sheet; band band; work work; writes answer;)
+}
+
+/// `quads_page`.
+pub fn page(sheet: SheetRef, band: BandRef, work: WorkMut, page: &mut [u8]) -> u32 {
+    call!(quads_page() sheet sheet; band band; work work; writes page;)
 }
 
 #[cfg(test)]

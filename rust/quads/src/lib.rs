@@ -21,6 +21,7 @@
 //! println!("{merges} merges, {swaps} swaps, {} quads, tight: {}", quality.quads, quality.tight);
 //! let corners = sheet.corners_per_point(&band)?;
 //! println!("{} corners per point, remainder {}", corners.quotient, corners.remainder);
+//! print!("{}", String::from_utf8_lossy(&sheet.page(&band)?));
 //! # Ok::<(), quads::Refused>(())
 //! ```
 //!
@@ -49,5 +50,5 @@ pub use ratio::Ratio;
 pub use refusal::{Refusal, UnknownRefusal};
 pub use refused::Refused;
 pub use sheet::{Counts, Sheet};
-pub use sizes::LIMIT;
+pub use sizes::{LIMIT, PAGE};
 pub use workspace::Workspace;

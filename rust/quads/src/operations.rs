@@ -8,7 +8,7 @@ use crate::ratio::Ratio;
 use crate::refusal::{self, Refusal};
 use crate::refused::Refused;
 use crate::sheet::{Counts, Sheet};
-use crate::sizes;
+use crate::sizes::{self, PAGE};
 use crate::workspace::Workspace;
 
 /// What a number of the library says: nothing for 0, else the refusal with what a look finds.
@@ -121,6 +121,16 @@ impl Sheet {
     pub fn corners_per_point(&self, band: &Band) -> Result<Ratio, Refused> {
         Workspace::new().corners_per_point(self, band)
     }
+
+    /// The page: the eight counts of [`quality`](Sheet::quality) in the record's order, one to a line. A line is ASCII
+    /// text of 41 bytes, its name left in 24 columns, its count right in 16, then a line feed.
+    ///
+    /// # Errors
+    ///
+    /// Those of [`quality`](Sheet::quality).
+    pub fn page(&self, band: &Band) -> Result<[u8; PAGE], Refused> {
+        Workspace::new().page(self, band)
+    }
 }
 
 /// The operations, with the work that is kept.
@@ -219,6 +229,19 @@ impl Workspace {
         let number = ffi::corners_per_point(lent, flat.as_band_ref(), work, &mut answer);
         accepted(number, |refusal| look::lent(refusal, sheet, band))?;
         Ok(Ratio::new(answer))
+    }
+
+    /// [`Sheet::page`].
+    ///
+    /// # Errors
+    ///
+    /// Those of [`Sheet::page`].
+    pub fn page(&mut self, sheet: &Sheet, band: &Band) -> Result<[u8; PAGE], Refused> {
+        let (flat, mut page) = (FlatBand::from(band), [0; PAGE]);
+        let (lent, work) = (sheet.as_sheet_ref(), self.work_for(sheet));
+        let number = ffi::page(lent, flat.as_band_ref(), work, &mut page);
+        accepted(number, |refusal| look::lent(refusal, sheet, band))?;
+        Ok(page)
     }
 
     /// The work of a call on a sheet.

@@ -1,10 +1,13 @@
-//! The sizes of what an operation is lent: its work, and room for the sheet that it makes. `include/quads.h` has
-//! those of the work as macros.
+//! The sizes of what an operation is lent: its work, and room for the sheet or the page that it makes.
+//! `include/quads.h` has those of the work and of the page as macros.
 use crate::sheet::Counts;
 use std::ops::RangeInclusive;
 
 /// The most points, quads or labels of a sheet.
 pub const LIMIT: usize = 1_048_576;
+
+/// The bytes of a page: eight lines of 41.
+pub const PAGE: usize = 328;
 
 /// The numbers of cells a side that a drawing may have.
 pub const CELLS: RangeInclusive<usize> = 4..=128;

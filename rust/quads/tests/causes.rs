@@ -3,7 +3,7 @@ mod common;
 #[path = "damaged/random.rs"]
 mod random;
 
-use common::{bowl, cube, edges, shell, unit_box};
+use common::{bowl, cube, edges, page_of, shell, unit_box};
 use quads::{Band, Cause, Field, Ratio, Refusal, Refused, Sheet, Workspace};
 use random::Random;
 use std::collections::BTreeMap;
@@ -48,7 +48,8 @@ fn refusals(workspace: &mut Workspace, sheet: &Sheet, band: &Band) -> Vec<Refuse
     let altered = workspace.coarsen(&mut sheet.clone(), band, 1).err();
     let measured = workspace.quality(sheet, band).err();
     let divided = workspace.corners_per_point(sheet, band).err();
-    made.into_iter().filter_map(Result::err).chain(altered).chain(measured).chain(divided).collect()
+    let shown = workspace.page(sheet, band).err();
+    made.into_iter().filter_map(Result::err).chain(altered).chain(measured).chain(divided).chain(shown).collect()
 }
 
 /// Whether what a cause says of a sheet is so, as far as that is seen in the sheet alone.
@@ -114,6 +115,26 @@ fn corners_per_point_are_refused_as_quality_apart_from_normal() {
         }
     }
     assert!(normals > 0);
+}
+
+#[test]
+fn a_page_is_refused_as_quality() {
+    let (mut random, mut workspace, mut seen) = (Random(4), Workspace::new(), BTreeMap::new());
+    let start = [(cube(), unit_box()), (Sheet::extract_candidate(&bowl(), 6).unwrap(), bowl())];
+    for _ in 0..1500 {
+        let (mut sheet, mut band) = start[random.below(2)].clone();
+        spoil_sheet(&mut sheet, &mut random);
+        spoil_band(&mut band, &mut random);
+        let page = workspace.page(&sheet, &band);
+        match workspace.quality(&sheet, &band) {
+            Ok(quality) => assert_eq!(page.unwrap(), page_of(&quality).as_bytes()),
+            Err(refused) => {
+                assert_eq!(page.unwrap_err().to_string(), refused.to_string());
+                *seen.entry(refused.refusal().number()).or_insert(0) += 1;
+            }
+        }
+    }
+    assert!(seen.into_keys().eq([1, 5, 6, 7, 11]));
 }
 
 #[test]

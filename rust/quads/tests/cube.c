@@ -1,4 +1,5 @@
-/* Refines the unit cube, measures it and two pillows at one point, and gives corners per point, by include/quads.h. */
+/* Refines the unit cube, measures it and two pillows at one point, gives corners per point, and prints the cube's page,
+   by include/quads.h. */
 #include <quads.h>
 #include <stdio.h>
 
@@ -63,11 +64,25 @@ static uint32_t corners(const double *p, size_t np, const uint32_t *q, const uin
     return number;
 }
 
+/* Prints the page of the cube in the box from 0 to `side`; a refusal leaves zeros in place of it. */
+static uint32_t page(double side)
+{
+    const double bounds[6] = {0, 0, 0, side, side, side};
+    uint8_t text[QUADS_PAGE];
+    uint32_t number = quads_page(points, COUNT(points), quads, COUNT(quads), labels, COUNT(labels), 8, 6, 6,
+        QUADS_PLANE, numbers, COUNT(numbers), bounds, COUNT(bounds), -1, 2,
+        work, COUNT(work), floats, COUNT(floats), text, COUNT(text));
+    printf("page %u:\n", number);
+    if (text[0] != 0) fwrite(text, 1, QUADS_PAGE, stdout);
+    return number;
+}
+
 int main(void)
 {
     return !(refine() == QUADS_ACCEPTED && quality(8, quads, labels, 6, 1) == QUADS_ACCEPTED
         && quality(8, quads, labels, 6, -1) == QUADS_BOX && quality(7, pillows, one_label, 4, 1) == QUADS_ACCEPTED
         && corners(points, 8, quads, labels, 6, 1) == QUADS_ACCEPTED
         && corners(finer_points, 26, finer_quads, finer_labels, 24, 1) == QUADS_ACCEPTED
-        && corners(points, 8, quads, labels, 6, -1) == QUADS_BOX);
+        && corners(points, 8, quads, labels, 6, -1) == QUADS_BOX && page(1) == QUADS_ACCEPTED
+        && page(-1) == QUADS_BOX);
 }

@@ -1,7 +1,7 @@
 //! The C header: it declares what the library exports and what the Rust crate calls, its numbers and sizes are those of
 //! the crate, and a small C program runs with it.
 use quads::sizes::{draw_work, sheet_work};
-use quads::{Counts, LIMIT, Refusal};
+use quads::{Counts, LIMIT, PAGE, Refusal};
 use std::collections::BTreeMap;
 use std::path::{Path, PathBuf};
 use std::process::Command;
@@ -55,7 +55,7 @@ fn from_rattle(text: &str) -> String {
 #[test]
 fn header_library_and_crate_declare_the_same() {
     let header = declared("include/quads.h", "uint32_t quads_", from_c);
-    assert_eq!(header.len(), 9);
+    assert_eq!(header.len(), 10);
     assert_eq!(header, declared("rust/quads/src/ffi.rs", "fn quads_", str::to_string));
     assert_eq!(header, declared("crates/quads/src/lib.rt", "extern \"C\" fn quads_", from_rattle));
 }
@@ -94,7 +94,7 @@ fn the_header_has_the_sizes_of_the_crate() {
     for (points, quads, cells) in [(0, 0, 4), (1, 0, 5), (0, 1, 6), (8, 6, 17), (LIMIT, LIMIT, 128)] {
         let printed = run(Command::new(&program).args([points, quads, cells].map(|n| n.to_string())));
         let (lent, drawing) = (sheet_work(Counts { points, quads, labels: quads }), draw_work(cells));
-        let sizes = [lent.wholes, lent.floats, drawing.wholes, drawing.floats, LIMIT].map(|n| n.to_string());
+        let sizes = [lent.wholes, lent.floats, drawing.wholes, drawing.floats, LIMIT, PAGE].map(|n| n.to_string());
         assert_eq!(printed.trim_end(), sizes.join(" "), "{points} points, {quads} quads, {cells} cells");
     }
 }
@@ -110,6 +110,16 @@ fn a_c_program_refines_and_measures() {
          quality 0: 4 quads, 1 bad links, tight 0, valid 0, least shape -1\n\
          corners 0: 3 per point, remainder 0\n\
          corners 0: 3 per point, remainder 18\n\
-         corners 1: 0 per point, remainder 0\n"
+         corners 1: 0 per point, remainder 0\n\
+         page 0:\n\
+         quads                                  6\n\
+         irregular                              8\n\
+         boundary                               0\n\
+         nonmanifold                            0\n\
+         orientation                            0\n\
+         links                                  0\n\
+         duplicates                             0\n\
+         invalid                                0\n\
+         page 1:\n"
     );
 }

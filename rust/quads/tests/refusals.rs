@@ -46,6 +46,7 @@ fn refused(sheet: &Sheet, band: &Band, refusal: Refusal, cause: &str) {
     told(sheet.boundary_rows(band), refusal, cause);
     told(sheet.quality(band), refusal, cause);
     told(sheet.corners_per_point(band), refusal, cause);
+    told(sheet.page(band), refusal, cause);
     told(left.regularize(band, 2), refusal, cause);
     told(left.improve_layout(band, 0), refusal, cause);
     told(left.coarsen(band, 1), refusal, cause);
@@ -72,7 +73,7 @@ fn box_1() {
 fn bottomless_2() {
     let band = Band { lower: f64::NEG_INFINITY, ..ball() };
     told(Sheet::extract_candidate(&band, 8), Refusal::Bottomless, "");
-    assert!(cube().quality(&band).is_ok() && cube().corners_per_point(&band).is_ok());
+    assert!(cube().quality(&band).is_ok() && cube().corners_per_point(&band).is_ok() && cube().page(&band).is_ok());
 }
 
 #[test]
@@ -233,11 +234,14 @@ fn row_10() {
 #[test]
 fn normal_11() {
     let measure = |field| labelled(5, 0).quality(&Band { field, ..unit_box() });
+    let show = |field| labelled(5, 0).page(&Band { field, ..unit_box() });
     let text = "at the centre of quad 5 the gradient is (0.0, 0.0, 0.0)";
+    told(show(flat().field), Refusal::Normal, text);
     let refused = told(measure(flat().field), Refusal::Normal, text);
     assert_eq!(refused.advice(), "move the levels away from where the field is flat");
     let text = "at the centre of quad 5 the gradient is (NaN, 0.0, 1e200)";
     let steep = Field::Plane { a: f64::NAN, b: 0.0, c: 1e200, d: 0.0 };
+    told(show(steep), Refusal::Normal, text);
     let refused = told(measure(steep), Refusal::Normal, text);
     assert_eq!(refused.advice(), "give finite and smaller numbers for the field");
     for field in [flat().field, steep] {

@@ -12,6 +12,7 @@ fn cleaned(workspace: &mut Workspace, sheet: &Sheet, band: &Band) -> Sheet {
     assert_eq!(kept, fresh);
     assert_eq!(workspace.quality(&kept, band), fresh.quality(band));
     assert_eq!(workspace.corners_per_point(&kept, band), fresh.corners_per_point(band));
+    assert_eq!(workspace.page(&kept, band), fresh.page(band));
     kept
 }
 
@@ -38,6 +39,8 @@ fn a_refusal_leaves_it_fit_for_the_next_call() {
         assert!(workspace.subdivide(&open, &unit_box()).is_err());
         assert!(workspace.corners_per_point(&Sheet::default(), &unit_box()).is_err());
         assert_eq!(workspace.corners_per_point(&open, &unit_box()), open.corners_per_point(&unit_box()));
+        assert!(workspace.page(&Sheet::default(), &unit_box()).is_err());
+        assert_eq!(workspace.page(&open, &unit_box()), open.page(&unit_box()));
         assert_eq!(workspace.extract_candidate(&shell(), 3), Sheet::extract_candidate(&shell(), 3));
         assert_eq!(workspace.subdivide(&cube(), &unit_box()), cube().subdivide(&unit_box()));
     }

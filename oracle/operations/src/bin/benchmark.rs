@@ -1,7 +1,8 @@
 //! benchmark [CELLS]: the library's operations and the original's on the same drawn sheets at 8, 16, .. cells, in one
 //! process; then the library's on hostile sheets, in which one point has almost all the quads. Each figure is the
 //! best of several runs, taken in turns; growth is the library's time over that at half as many cells or quads. The
-//! original has no corners per point: its figure there is that of its tests and of the oracle's model.
+//! original has no corners per point and no page: its figures there are those of its tests and of its `quality`, each
+//! with the oracle's model.
 use operations::library::{self, Lent};
 use oracle::bands::UNIT;
 use oracle::call::{Call, original};
@@ -14,7 +15,7 @@ use std::process::ExitCode;
 use std::time::Instant;
 
 /// The operations on a sheet that are timed, each with its number of passes.
-const OPERATIONS: [(Operation, u64); 8] = [
+const OPERATIONS: [(Operation, u64); 9] = [
     (Operation::Refine, 0),
     (Operation::Subdivide, 0),
     (Operation::Regularize, 1),
@@ -22,6 +23,7 @@ const OPERATIONS: [(Operation, u64); 8] = [
     (Operation::Coarsen, 5),
     (Operation::Rows, 0),
     (Operation::Quality, 0),
+    (Operation::Page, 0),
     (Operation::Corners, 0),
 ];
 

@@ -9,15 +9,16 @@ use oracle::operation::Operation;
 use std::process::ExitCode;
 
 /// The operations that are compared by single calls, each with its share of 100 calls.
-const SHARES: [(Operation, u64); 8] = [
+const SHARES: [(Operation, u64); 9] = [
     (Operation::Refine, 5),
-    (Operation::Subdivide, 18),
-    (Operation::Regularize, 12),
-    (Operation::ImproveLayout, 12),
+    (Operation::Subdivide, 16),
+    (Operation::Regularize, 11),
+    (Operation::ImproveLayout, 11),
     (Operation::Coarsen, 12),
     (Operation::Rows, 7),
-    (Operation::Quality, 14),
+    (Operation::Quality, 12),
     (Operation::Corners, 6),
+    (Operation::Page, 6),
 ];
 
 /// The shares of the calls in lists, and of the drawings with their rows.
@@ -89,6 +90,7 @@ mod tests {
     #[test]
     fn operations_are_found_by_their_names() {
         assert_eq!(named("corners_per_point"), Ok(Operation::Corners));
+        assert_eq!(named("page"), Ok(Operation::Page));
         assert_eq!(named("extract_candidate"), Ok(Operation::Extract));
         for wrong in ["corners", "sqrt", "8", ""] {
             assert_eq!(named(wrong), Err(format!("{wrong} is no operation")));

@@ -1,6 +1,6 @@
 //! The sheets and bands of the tests.
 #![allow(dead_code, reason = "no test uses all of them")]
-use quads::{Band, Counts, Field, Sheet};
+use quads::{Band, Counts, Field, Quality, Sheet};
 use std::collections::BTreeMap;
 
 /// The counts of a sheet with one label a quad.
@@ -54,6 +54,12 @@ pub fn shell() -> Band {
 /// The shell, cut through its middle: one skin, which the cut closes.
 pub fn bowl() -> Band {
     Band { high: [1.0, 1.0, 0.1], ..shell() }
+}
+
+/// The page of a record, by Rust's own formatting.
+pub fn page_of(quality: &Quality) -> String {
+    let names = ["quads", "irregular", "boundary", "nonmanifold", "orientation", "links", "duplicates", "invalid"];
+    names.iter().zip(quality.counts()).map(|(name, count)| format!("{name:<24}{count:>16}\n")).collect()
 }
 
 /// The quads at each edge.

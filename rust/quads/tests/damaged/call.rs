@@ -1,8 +1,8 @@
 //! One call of the face, between margins, and what it must leave.
 use crate::guarded::{Bits, Guarded, is_zero, same};
 use crate::inputs::Input;
-use quads::Counts;
 use quads::ffi::{self, Answer, BandRef, SheetMut, SheetOut, SheetRef, WorkMut};
+use quads::{Counts, PAGE};
 
 /// The operations.
 #[derive(Clone, Copy, Debug, PartialEq, Eq, PartialOrd, Ord)]
@@ -16,10 +16,11 @@ pub enum Operation {
     Coarsen,
     Quality,
     Corners,
+    Page,
 }
 
 /// All of them.
-pub const OPERATIONS: [Operation; 9] = [
+pub const OPERATIONS: [Operation; 10] = [
     Operation::Extract,
     Operation::Refine,
     Operation::Subdivide,
@@ -29,6 +30,7 @@ pub const OPERATIONS: [Operation; 9] = [
     Operation::Coarsen,
     Operation::Quality,
     Operation::Corners,
+    Operation::Page,
 ];
 
 impl Operation {
@@ -44,7 +46,7 @@ impl Operation {
 
     /// Whether it measures the lent sheet, and neither makes nor alters one.
     fn measures(self) -> bool {
-        matches!(self, Operation::Quality | Operation::Corners)
+        matches!(self, Operation::Quality | Operation::Corners | Operation::Page)
     }
 
     /// Whether it takes a band.
@@ -57,6 +59,7 @@ impl Operation {
         match self {
             Operation::Quality => 10,
             Operation::Corners => 2,
+            Operation::Page => 0,
             _ => 4,
         }
     }
@@ -77,6 +80,7 @@ pub struct Lent {
     floats: Guarded<f64>,
     pub answer: Guarded<u64>,
     pub measures: Guarded<f64>,
+    pub page: Guarded<u8>,
 }
 
 impl Lent {
@@ -95,6 +99,7 @@ impl Lent {
             floats: Guarded::new(&input.floats, margin),
             answer: Guarded::new(&input.answer, margin),
             measures: Guarded::new(&input.measures, margin),
+            page: Guarded::new(&input.page, margin),
         }
     }
 
@@ -115,6 +120,7 @@ impl Lent {
             Operation::Rows => ffi::boundary_rows(read, band, made, work, answer),
             Operation::Quality => ffi::quality(read, band, work, answer, self.measures.list_mut()),
             Operation::Corners => ffi::corners_per_point(read, band, work, answer),
+            Operation::Page => ffi::page(read, band, work, self.page.list_mut()),
             Operation::Regularize => {
                 ffi::regularize(SheetMut { points, quads, labels, counts }, band, argument, work, answer)
             }
@@ -137,6 +143,7 @@ impl Lent {
             && same(self.new_labels.list(), other.new_labels.list())
             && same(self.answer.list(), other.answer.list())
             && same(self.measures.list(), other.measures.list())
+            && same(self.page.list(), other.page.list())
     }
 
     /// What a call that ended with this number broke of its promise.
@@ -148,6 +155,7 @@ impl Lent {
             (self.reads_stay(before, operation, accepted), "something that is only read is changed"),
             (is_zero(self.work.list()) && is_zero(self.floats.list()), "the work slices are not zero"),
             (self.answers_fit(before, operation, accepted), "the answer is not as promised"),
+            (operation != Operation::Page || self.page_fits(accepted), "the page is not as promised"),
             (!accepted || operation.measures() || self.sheet_fits(operation), "the sheet has something behind it"),
             (accepted || !operation.makes() || self.made_is_zero(), "a refusal leaves something"),
             (self.short_is_told(operation, number), "a slice that is too short is not refused in its place"),
@@ -160,7 +168,7 @@ impl Lent {
         let floats = [&self.points, &self.numbers, &self.bounds, &self.new_points, &self.floats, &self.measures];
         floats.iter().all(|list| list.is_intact())
             && [&self.quads, &self.new_quads, &self.work].iter().all(|list| list.is_intact())
-            && [&self.labels, &self.new_labels].iter().all(|list| list.is_intact())
+            && [&self.labels, &self.new_labels, &self.page].iter().all(|list| list.is_intact())
             && self.answer.is_intact()
     }
 
@@ -180,15 +188,17 @@ impl Lent {
             && (operation.makes() || stays(&self.new_quads, &before.new_quads))
             && (operation.makes() || stays(&self.new_labels, &before.new_labels))
             && (operation == Operation::Quality || stays(&self.measures, &before.measures))
+            && (operation == Operation::Page || stays(&self.page, &before.page))
     }
 
-    /// Whether a short list is refused in its place: a band's with nothing before it but 12, an answer's also behind
-    /// 1, 2 and 3 where a sheet is drawn.
+    /// Whether a short list is refused in its place: a band's with nothing before it but 12, an answer's and a page so
+    /// too, but where a sheet is drawn also behind 1, 2 and 3.
     fn short_is_told(&self, operation: Operation, number: u32) -> bool {
         let draws = operation == Operation::Extract;
         let band = operation.takes_band() && (self.numbers.list().len() < 10 || self.bounds.list().len() < 6);
         let measures = operation == Operation::Quality && self.measures.list().len() < 4;
-        let mute = self.answer.list().len() < operation.answers() || measures;
+        let page = operation == Operation::Page && self.page.list().len() < PAGE;
+        let mute = self.answer.list().len() < operation.answers() || measures || page;
         match (band, mute) {
             (true, _) if draws => number == 13,
             (_, true) if draws => matches!(number, 1 | 2 | 3 | 13),
@@ -207,6 +217,18 @@ impl Lent {
         let measures = if operation == Operation::Quality { 4 } else { 0 };
         fits(self.answer.list(), before.answer.list(), operation.answers(), accepted)
             && fits(self.measures.list(), before.measures.list(), measures, accepted)
+    }
+
+    /// Whether the page is eight lines of text with zeros behind it, and after a refusal all zero, however short it is.
+    fn page_fits(&self, accepted: bool) -> bool {
+        fn is_line(line: &[u8]) -> bool {
+            line.strip_suffix(b"\n").is_some_and(|text| text.iter().all(|byte| (32..127).contains(byte)))
+        }
+        let page = self.page.list();
+        match page.split_at_checked(PAGE) {
+            Some((lines, behind)) if accepted => lines.chunks(PAGE / 8).all(is_line) && is_zero(behind),
+            _ => !accepted && is_zero(page),
+        }
     }
 
     /// Whether the sheet that was made or altered fits into its slices, with zeros behind it.

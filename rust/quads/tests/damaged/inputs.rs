@@ -1,7 +1,7 @@
 //! Calls that are right, and the damage done to them.
 use crate::common::{bowl, cube, shell, unit_box};
 use crate::random::Random;
-use quads::{Band, Counts, Field, LIMIT, Sheet, sizes};
+use quads::{Band, Counts, Field, LIMIT, PAGE, Sheet, sizes};
 
 /// Everything that a call may be lent.
 #[derive(Clone)]
@@ -24,6 +24,7 @@ pub struct Input {
     pub floats: Vec<f64>,
     pub answer: Vec<u64>,
     pub measures: Vec<f64>,
+    pub page: Vec<u8>,
 }
 
 /// Sheets with their bands, from which the calls start.
@@ -71,6 +72,7 @@ pub fn right(random: &mut Random, (sheet, band): &(Sheet, Band), draws: bool) ->
         floats: vec![f64::NAN; work.floats],
         answer: vec![u64::MAX; 10],
         measures: vec![f64::NAN; 4],
+        page: vec![255; PAGE],
     }
 }
 
@@ -105,7 +107,7 @@ fn poke<T: Copy>(random: &mut Random, list: &mut [T], value: T) {
 pub fn damage(random: &mut Random, input: &mut Input) {
     let (x, n) = (extreme(random), input.points.len() / 3);
     let corner = random.pick(&[0, 1, n as u32, n as u32 + 1, u32::MAX, 1 << 31]);
-    match random.below(22) {
+    match random.below(23) {
         0 => stretch(random, &mut input.points, 0.5),
         1 => stretch(random, &mut input.quads, 0),
         2 => stretch(random, &mut input.labels, 0),
@@ -118,7 +120,8 @@ pub fn damage(random: &mut Random, input: &mut Input) {
         9 => stretch(random, &mut input.floats, f64::NAN),
         10 => stretch(random, &mut input.answer, u64::MAX),
         11 => stretch(random, &mut input.measures, f64::NAN),
-        12..=14 => {
+        12 => stretch(random, &mut input.page, 255),
+        13..=15 => {
             let Counts { points, quads, labels } = &mut input.counts;
             let n = match random.below(3) {
                 0 => points,
@@ -127,12 +130,12 @@ pub fn damage(random: &mut Random, input: &mut Input) {
             };
             *n = count(random, *n);
         }
-        15 => input.kind = random.pick(&[0, 1, 2, 3, u32::MAX]),
-        16 => poke(random, &mut input.points, x),
-        17 => poke(random, &mut input.quads, corner),
-        18 => poke(random, &mut input.labels, (x.to_bits() >> 60) as u8),
-        19 => poke(random, &mut input.numbers, x),
-        20 => poke(random, &mut input.bounds, x),
+        16 => input.kind = random.pick(&[0, 1, 2, 3, u32::MAX]),
+        17 => poke(random, &mut input.points, x),
+        18 => poke(random, &mut input.quads, corner),
+        19 => poke(random, &mut input.labels, (x.to_bits() >> 60) as u8),
+        20 => poke(random, &mut input.numbers, x),
+        21 => poke(random, &mut input.bounds, x),
         _ => poke(random, &mut input.levels, x),
     }
 }

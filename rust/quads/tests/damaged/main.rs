@@ -7,6 +7,7 @@ mod common;
 mod guarded;
 mod inputs;
 mod order;
+mod page;
 mod random;
 
 use call::{Lent, OPERATIONS, Operation};

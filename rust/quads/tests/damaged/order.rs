@@ -6,7 +6,7 @@ use crate::random::Random;
 use quads::LIMIT;
 
 /// Makes a call wrong.
-type Fault = fn(&mut Input);
+pub type Fault = fn(&mut Input);
 
 /// The operations that take a band and a lent sheet.
 fn banded() -> impl Iterator<Item = Operation> {
@@ -43,11 +43,35 @@ const BOTTOMLESS: Fault = |input| input.levels[0] = f64::NEG_INFINITY;
 const THREE_CELLS: Fault = |input| input.argument = 3;
 const NO_SAMPLES: Fault = |input| input.numbers[3] = f64::NAN;
 
-/// An answer slice that is one element too short for an operation.
+/// Every quad on the upper level of a field without a direction.
+const FLAT: Fault = |input| {
+    input.numbers.fill(0.0);
+    input.labels.fill(0);
+};
+
+/// The labels of two opposite faces at one point.
+const OPPOSITE: Fault = |input| {
+    input.labels[2] = 4;
+    input.labels[4] = 5;
+};
+
+/// A fault for each number with which `quality` refuses, in the order in which it does.
+pub const IN_ORDER: [(Fault, u32); 7] = [
+    (LARGE, 12),
+    (FEW_NUMBERS, 13),
+    (NO_KIND, 1),
+    (NO_POINT, 5),
+    (|input| input.labels[0] = 8, 6),
+    (OPPOSITE, 7),
+    (FLAT, 11),
+];
+
+/// An answer slice, or a page, that is one element too short for an operation.
 fn few_answers(operation: Operation) -> Fault {
     match operation {
         Operation::Quality => |input| input.answer.truncate(9),
         Operation::Corners => |input| input.answer.truncate(1),
+        Operation::Page => |input| input.page.truncate(327),
         _ => |input| input.answer.truncate(3),
     }
 }
@@ -136,30 +160,31 @@ fn corners_per_point_answer_in_two_elements() {
     assert_eq!(corners(&[|input| input.answer.clear()]), (13, vec![]));
 }
 
-#[test]
-fn corners_per_point_are_refused_in_their_order() {
-    let faults: [(Fault, u32); 6] = [
-        (LARGE, 12),
-        (FEW_NUMBERS, 13),
-        (NO_KIND, 1),
-        (NO_POINT, 5),
-        (|input| input.labels[0] = 8, 6),
-        (|input| input.labels[2] = 3, 7),
-    ];
+/// Asserts that an operation is refused with each of these faults, and with two of them as with the earlier one.
+fn assert_in_order(operation: Operation, faults: &[(Fault, u32)]) {
     for (i, &(earlier, expected)) in faults.iter().enumerate() {
-        assert_eq!(number(Operation::Corners, &[earlier]), expected);
+        assert_eq!(number(operation, &[earlier]), expected, "{operation:?}");
         for &(later, _) in &faults[i..] {
-            assert_eq!(number(Operation::Corners, &[later, earlier]), expected);
+            assert_eq!(number(operation, &[later, earlier]), expected, "{operation:?}");
         }
     }
 }
 
 #[test]
+fn a_page_is_refused_in_the_order_of_quality() {
+    assert_in_order(Operation::Quality, &IN_ORDER);
+    assert_in_order(Operation::Page, &IN_ORDER);
+}
+
+#[test]
+fn corners_per_point_are_refused_in_their_order() {
+    assert_in_order(Operation::Corners, &IN_ORDER[..6]);
+}
+
+#[test]
 fn corners_per_point_read_no_direction() {
-    const FLAT: Fault = |input| input.numbers.fill(0.0);
-    const UPPER: Fault = |input| input.labels.fill(0);
-    assert_eq!(number(Operation::Quality, &[FLAT, UPPER]), 11);
-    let (number, answer) = corners(&[FLAT, UPPER]);
+    assert_eq!(number(Operation::Quality, &[FLAT]), 11);
+    let (number, answer) = corners(&[FLAT]);
     assert_eq!((number, &answer[..2]), (0, &[3, 0][..]));
 }
 

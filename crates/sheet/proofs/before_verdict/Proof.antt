@@ -1,9 +1,9 @@
--- `export_band::before_verdict` meets its contract. Assumes nothing.
+-- `sheet::before_verdict` meets its contract. Assumes nothing.
 use mathlib.Core.Path.{sym, _∙_}
 use borrow.Author.Needs.{needs}
-use Rattle.rule_exports.specs.Told.{beforeVerdict}
-use Rattle.export_band.proofs.before_verdict.Statement.{statement}
-use Rattle.export_band.proofs.before_verdict.Tie as tie
+use Rattle.rule_sheet.specs.Lent.{beforeVerdict}
+use Rattle.sheet.proofs.before_verdict.Statement.{statement}
+use Rattle.sheet.proofs.before_verdict.Tie as tie
 
 is-large-requires : tie.Need-is-large-requires
 is-large-requires c κs = search needs

@@ -1,8 +1,8 @@
--- `export_leaves::verdict_number` meets its contract. Assumes nothing.
+-- `export_band::verdict_number` meets its contract. Assumes nothing.
 use borrow.Author.Needs.{needs}
-use Rattle.export_leaves.specs.Answers.{verdictNumber}
-use Rattle.export_leaves.proofs.verdict_number.Statement.{statement}
-use Rattle.export_leaves.proofs.verdict_number.Tie as tie
+use Rattle.rule_exports.specs.Exports.{verdictNumber}
+use Rattle.export_band.proofs.verdict_number.Statement.{statement}
+use Rattle.export_band.proofs.verdict_number.Tie as tie
 
 enum-told : tie.Need-enum-told
 enum-told c = search needs

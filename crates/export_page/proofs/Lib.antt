@@ -1,0 +1,2 @@
+-- `Shown` has what an answer shows.
+pub mod Shown

@@ -1,0 +1,1 @@
+// The rule of `page`: definitions only, see specs/.
