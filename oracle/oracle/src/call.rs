@@ -155,6 +155,23 @@ fn cleaned(call: &Call, operation: Clean) -> Answer {
     Answer::of(count, |count| Answer::sheet(count, &sheet))
 }
 
+/// Runs the original's own operation on a sheet, which is the call's or a copy of it, and keeps nothing of the answer;
+/// where it has no such operation, what stands for it.
+pub fn run(call: &Call, sheet: &mut QuadMesh) {
+    let (band, number) = (&call.band.band(), call.argument as usize);
+    match call.operation {
+        Operation::Refine => drop(quads::refine(sheet)),
+        Operation::Subdivide => drop(quads::subdivide(sheet, band)),
+        Operation::Extract => drop(quads::extract_candidate(band, number)),
+        Operation::Rows => drop(quads::boundary_rows(sheet, band)),
+        Operation::Regularize => drop(quads::regularize(sheet, band, number)),
+        Operation::ImproveLayout => drop(quads::improve_layout(sheet, band, number)),
+        Operation::Coarsen => drop(quads::coarsen(sheet, band, number)),
+        Operation::Quality => drop(quads::quality(sheet, band)),
+        _ => drop(original(call)),
+    }
+}
+
 /// What the original answers, and where it has no operation, its tests or its `quality` and a model; `project` only on
 /// a band that `validate` accepts, `normal` only on labels up to 7.
 pub fn original(call: &Call) -> Answer {

@@ -1,11 +1,11 @@
 //! benchmark [CELLS]: the library's operations and the original's on the same drawn sheets at 8, 16, .. cells, in one
 //! process; then the library's on hostile sheets, in which one point has almost all the quads. Each figure is the
 //! best of several runs, taken in turns; growth is the library's time over that at half as many cells or quads. The
-//! original has no corners per point and no page: its figures there are those of its tests and of its `quality`, each
-//! with the oracle's model.
+//! original is timed by its own operation alone. It has no corners per point and no page: its figures there are those
+//! of its tests and of its `quality`, each with the oracle's model.
 use operations::library::{self, Lent};
 use oracle::bands::UNIT;
-use oracle::call::{Call, original};
+use oracle::call::{self, Call, original};
 use oracle::field::{BandNumbers, Field};
 use oracle::operation::Operation;
 use oracle::quads::{self, QuadMesh};
@@ -80,7 +80,8 @@ fn best(call: &Call, with_original: bool) -> (f64, Option<f64>) {
         let time = milliseconds(|| lent.run(call.operation));
         (ours, total) = (ours.min(time), total + time);
         if with_original {
-            let time = milliseconds(|| original(call));
+            let mut sheet = call.sheet.clone();
+            let time = milliseconds(|| call::run(call, &mut sheet));
             (theirs, total) = (Some(theirs.map_or(time, |last| last.min(time))), total + time);
         }
         turns += 1;
