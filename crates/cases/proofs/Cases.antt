@@ -3,7 +3,7 @@ use Prim.Native.Nat.{ℕ}
 use mathlib.Core.Path.{_≡_, refl, ap}
 use mathlib.Core.List.{[], _∷_, zipWith}
 use lib.ListN.{getD}
-use lib.Ieee.{ofBits, add, sub, mul, div, neg, lt, le, ne, ofInt}
+use lib.Ieee.{ofBits, toBits, add, sub, mul, div, neg, lt, le, ne, ofInt}
 use Rattle.lists.specs.Every.{every, some, countTo}
 use Rattle.lists.specs.Sort.{tabulate, bucket}
 use Rattle.numeric.specs.Num.{float, minOf, maxOf, halfwayOf}
@@ -20,7 +20,7 @@ use Rattle.rule_sheet.specs.Flat.{quadsOf, flatQuads}
 use Rattle.rule_sheet.specs.Places.{centreOf}
 use Rattle.rule_sheet.specs.Tests.{inRange, distinct, goodCorners, goodMask, goodMasks}
 use Rattle.rule_sheet.specs.Sheet.{pointsOf, flatPoints, isBare, quadsVerdict, sheetVerdict}
-use Rattle.rule_sheet.specs.Lent.{isLarge, isShort, isShortWork, lentVerdict}
+use Rattle.rule_sheet.specs.Lent.{isLarge, isShort, isShortWork, lentVerdict, beforeVerdict}
 use Rattle.rule_sheet.specs.Results.{padded}
 use Rattle.rule_sheet.specs.Squared.{squared}
 use Rattle.rule_admission.specs.Admission.{domainVerdict, admitsAfter}
@@ -40,7 +40,10 @@ use Rattle.rule_quality.specs.declared.report.Quality.{Quality}
 use Rattle.rule_quality.specs.Quality.{qualityOf, eightCounts, qualityRule}
 use Rattle.rule_corners.specs.Corners.{ratioOf, cornersRule}
 use Rattle.rule_page.specs.Page.{columnOf, lineOf, line, joined, pageOf}
-use Rattle.cases.specs.Cases.{cube, turnedCube, pillow, twoPillows, swapPatch, mergePatch, AllHold, cases}
+use Rattle.encoding.specs.Encoding.{little, number, littles, numbers}
+use Rattle.rule_job.specs.Files.{fileOf, goodStarts, countsBy, trailerOf, jobIn}
+use Rattle.rule_job.specs.Jobs.{isShortJob, saveRule, openWith}
+use Rattle.cases.specs.Cases.{cube, nothing, turnedCube, pillow, twoPillows, swapPatch, mergePatch, AllHold, cases}
 
 -- the lines of a record, by its counts
 page-lines : (q : Quality) {a b c d e f g h : ℕ} → eightCounts q ≡ a ∷ b ∷ c ∷ d ∷ e ∷ f ∷ g ∷ h ∷ []
@@ -49,7 +52,7 @@ unfolding pageOf
 page-lines q k = let at : (i : ℕ) → _ = λ i. ap (λ l. getD l i 0) k in rw (at 0, at 1, at 2, at 3, at 4, at 5, at 6, at 7)
 
 pub cases-hold : AllHold cases
-unfolding cube turnedCube pillow twoPillows swapPatch mergePatch cases ofBits add sub mul div neg lt le ne ofInt every some countTo tabulate bucket
+unfolding cube nothing turnedCube pillow twoPillows swapPatch mergePatch cases ofBits toBits add sub mul div neg lt le ne ofInt every some countTo tabulate bucket
     float minOf maxOf halfwayOf sqrtOf addP subP mulP timesP dotP crossP normP halfwayP centreP finiteP pointAt
     lengthOf faceNormalOf sideOf normalWith normalOf axisValidOf levelsValidOf validOf axisBits onFaceOf onFacesOf withinOf
     insideOf closeOf projectWith projectOf cornerOf shapeOf reciprocalOf sumOf quadCentre maskOf packTo edgesOf joinTo joinOf
@@ -60,7 +63,8 @@ unfolding cube turnedCube pillow twoPillows swapPatch mergePatch cases ofBits ad
     refined refineRule those edgeQuads pointQuads paired labelCount centreAt isCopied copies numberOf labelCentres
     inward tryFrom copyOf copiedQuads sidesOf edgeSides rowSides stripAt rowsSheet rowsMade rowed rowsRule isClosed
     reached connected goodLink badLinks tight cornersOf cellsOf goodNormal measureRule qualityOf qualityRule zipWith ratioOf
-    cornersRule padded columnOf lineOf
+    cornersRule padded columnOf lineOf little number littles numbers fileOf goodStarts countsBy trailerOf jobIn isShortJob
+    saveRule openWith beforeVerdict
 cases-hold = (
   (refl, refl, refl, refl, refl, refl),
   (
@@ -79,7 +83,7 @@ cases-hold = (
                 (refl, refl, refl),
                 (
                   (refl, refl, refl),
-                  (refl, (refl, ((refl, (refl, refl)), ((refl, (refl, refl)), ((refl, (refl, refl)), ((refl, (refl, refl)), ((refl, refl), ((refl, refl), ((λ q e. page-lines q e), ((λ q e. page-lines q e), tt)))))))))),
+                  (refl, (refl, ((refl, (refl, refl)), ((refl, (refl, refl)), ((refl, (refl, refl)), ((refl, (refl, refl)), ((refl, refl), ((refl, refl), ((λ q e. page-lines q e), ((λ q e. page-lines q e), ((refl, refl, refl), ((refl, refl, refl), tt)))))))))))),
                 ),
               ),
             ),

@@ -1,6 +1,6 @@
 -- The cases that document 01 marks with *, "proved of the definitions together, by a table and one theorem about it",
--- and those of tight, of the corners per point and of the page. A row says what is asked of the rules and what they
--- must answer.
+-- and those of tight, of the corners per point, of the page and of job files. A row says what is asked of the rules and
+-- what they must answer.
 use Prim.Native.Nat.{ℕ, _+_, _-_, _*_}
 use Prim.Native.String.{String}
 use mathlib.Core.Path.{_≡_}
@@ -8,7 +8,7 @@ use mathlib.Core.Bool.{Bool, true, false}
 use mathlib.Core.List.{List, [], _∷_, _++_, map}
 use lib.IntN.{ℤ, pos, negsuc, _+ℤ_, _-ℤ_}
 use lib.ListN.{length, drop, replicate}
-use lib.Ieee.{Float, fin}
+use lib.Ieee.{Float, fin, toBits, binary64}
 use Rattle.numeric.specs.Num.{zeroF, half}
 use Rattle.numeric.specs.Root.{sqrtOf}
 use Rattle.points.specs.declared.Point.{Point}
@@ -35,6 +35,8 @@ use Rattle.rule_quality.specs.declared.report.Quality.{Quality}
 use Rattle.rule_quality.specs.Quality.{eightCounts, qualityRule}
 use Rattle.rule_corners.specs.Corners.{cornersRule}
 use Rattle.rule_page.specs.Page.{bytesOf, lineEnd, pageOf}
+use Rattle.rule_job.specs.Files.{Job, jobOf, fileOf}
+use Rattle.rule_job.specs.Jobs.{roomIn, saveRule, openRule}
 
 -- ---- what the rules are asked with
 
@@ -64,6 +66,13 @@ workFor s = let n = length (s .points) + length (s .quads) in workWith (64 * n) 
 abbrev pub roomFor : ℕ → ℕ → Room
 roomFor p q = roomWith (3 * p) (4 * q) q
 
+-- a sheet as a job in slices that just hold it: the bits of the unit box, of the levels 0 and 1 and of its coordinates
+abbrev pub jobFor : Sheet → Job
+jobFor s =
+    jobOf (countsOf s)
+    (map (toBits binary64) (zeroF ∷ zeroF ∷ zeroF ∷ one ∷ one ∷ one ∷ zeroF ∷ one ∷ []))
+    (map (toBits binary64) (flatPoints (s .points))) (flatQuads (s .quads)) (s .labels)
+
 -- a rule accepts, and what it makes has the property P
 abbrev pub Gives : {A : Type 0} → Outcome A → (A → Type 0) → Type 0
 Gives (refuses n) P = ⊥
@@ -80,6 +89,10 @@ cube = record {
   quads = quad 0 4 6 2 ∷ quad 1 3 7 5 ∷ quad 0 1 5 4 ∷ quad 2 6 7 3 ∷ quad 0 2 3 1 ∷ quad 4 5 7 6 ∷ [];
   labels = 2 ∷ 3 ∷ 4 ∷ 5 ∷ 6 ∷ 7 ∷ [];
 }
+
+-- the sheet of nothing
+unfoldable pub nothing : Sheet
+nothing = record { points = []; quads = []; labels = [] }
 
 -- the cube with its first quad turned over
 unfoldable pub turnedCube : Sheet
@@ -154,6 +167,8 @@ pub data Case : Type 0 where
   finerCornersCase : (s : Sheet) (points quads quotient remainder : ℕ) → Case
   -- the page of a record with these eight counts: its lines, without their ends
   pageCase : (counts : List ℕ) (lines : List String) → Case
+  -- the job of a sheet: how many bytes its file has, and its trailer; the file opens to the job
+  jobCase : (s : Sheet) (size : ℕ) (trailer : List ℕ) → Case
   -- a square root
   rootCase : (of is : Float) → Case
 
@@ -192,6 +207,10 @@ Holds (finerCornersCase s points quads quotient remainder) =
     Gives (refineRule (lentSheet s) (workFor s) (roomFor points quads)) (λ t. HasCorners t quotient remainder)
 Holds (pageCase counts lines) =
     (q : Quality) → eightCounts q ≡ counts → pageOf q ≡ joinOf (λ l. bytesOf l ++ (lineEnd ∷ [])) lines
+Holds (jobCase s size trailer) =
+    Gives (saveRule (jobFor s) size)
+    (λ j. (length (fileOf j) ≡ size) × (drop (size - 20) (fileOf j) ≡ trailer)
+    × Gives (openRule (fileOf j) (roomIn (jobFor s))) (λ k. k ≡ jobFor s))
 Holds (rootCase of is) = sqrtOf of ≡ is
 
 -- the same of every row
@@ -254,4 +273,10 @@ cases =
     ∷ "duplicates                            99"
     ∷ "invalid                              100"
     ∷ []) ∷
+    -- Document 02, Point 1: "starts of points, quads, labels and trailer, then the trailer's length 20, each a u32",
+    -- all little-endian
+    jobCase cube 378
+    (64 ∷ 0 ∷ 0 ∷ 0 ∷ 0 ∷ 1 ∷ 0 ∷ 0 ∷ 96 ∷ 1 ∷ 0 ∷ 0 ∷ 102 ∷ 1 ∷ 0 ∷ 0 ∷ 20 ∷ 0 ∷ 0 ∷ 0 ∷ []) ∷
+    jobCase nothing 84
+    (64 ∷ 0 ∷ 0 ∷ 0 ∷ 64 ∷ 0 ∷ 0 ∷ 0 ∷ 64 ∷ 0 ∷ 0 ∷ 0 ∷ 64 ∷ 0 ∷ 0 ∷ 0 ∷ 20 ∷ 0 ∷ 0 ∷ 0 ∷ []) ∷
     []

@@ -1,6 +1,6 @@
 // The public face: every operation under its name, as a function that C and Rust can link. A slice passes as its
-// pointer and its length. An export is told its band as a kind, numbers, bounds and levels; the answer slice takes the
-// count of swaps or merges and the counts of the sheet.
+// pointer and its length. An export that takes a band is told it as a kind, numbers, bounds and levels; the answer
+// slice takes the count of swaps or merges, or of the bytes of a saved file, and the counts of the sheet.
 
 use rule_sheet::Counts;
 ghost use mathlib.Core.Bool.{false, _||_};
@@ -16,11 +16,14 @@ ghost use Rattle.rule_quality.specs.Quality.{qualityRule, assessedOf};
 ghost use Rattle.rule_corners.specs.Corners.{cornersRule, dividedOf};
 ghost use Rattle.rule_page.specs.Page.{pageRule};
 ghost use Rattle.rule_extract.specs.Drawing.{extractRule};
+ghost use Rattle.rule_job.specs.Files.{jobOf};
+ghost use Rattle.rule_job.specs.Jobs.{jobRoomOf, saveRule};
 ghost use Rattle.rule_exports.specs.Told.{toldOf, byTold, drawnByTold};
 ghost use Rattle.rule_exports.specs.Exports.{isShortAnswer, withAnswer, ExportMakes, ExportAlters, ExportAltersQuads};
 ghost use Rattle.rule_exports.specs.Measured.{isShortCounts, isShortMeasures, ShowsMeasures};
 ghost use Rattle.rule_exports.specs.Divided.{isShortRatio, ShowsRatio};
 ghost use Rattle.rule_exports.specs.Paged.{ShowsPage};
+ghost use Rattle.rule_exports.specs.Jobs.{ExportSaves, openBy, ExportOpens};
 
 // `extract_candidate`: the counts of the drawn sheet go to answer[1..4], answer[0] is 0.
 #[no_mangle]
@@ -497,4 +500,57 @@ pub extern "C" fn quads_page(
     let b = export_band::band_of(kind, numbers, bounds, lower, upper);
     let r = export_page::page_after(v, b, c, points, quads, labels, work, floats, page);
     export_band::verdict_number(r)
+}
+
+// `save`: answer[0] is how many bytes the file has, answer[1..4] are the counts. Header and points are f64 elsewhere;
+// here they pass as their 64 bits.
+#[no_mangle]
+pub extern "C" fn quads_save_job(
+    header: &[u64],
+    points: &[u64],
+    quads: &[u32],
+    labels: &[u8],
+    np: usize,
+    nq: usize,
+    nl: usize,
+    file: &mut [u8],
+    answer: &mut [u64],
+) -> u32
+    ensures { λ r. ⌜ (
+        let x = jobOf (record { points = np; quads = nq; labels = nl }) (now (header .entry)) (now (points .entry))
+        (now (quads .entry)) (now (labels .entry)) in
+        let m = length (now (file .entry)) in
+        let l = now (answer .entry) in
+        ExportSaves (withAnswer (x .counts) l (saveRule x m)) m l r (now (file .exit)) (now (answer .exit))) ⌝ }
+{
+    let c = Counts {
+        points: np,
+        quads: nq,
+        labels: nl,
+    };
+    let before = export_band::answer_verdict(c, answer.len());
+    let r = export_job::save_after(before, header, points, quads, labels, c, file);
+    export_band::put_answer(answer, r)
+}
+
+// `open`: the counts go to answer[1..4], answer[0] is 0. Header and points as in `quads_save_job`.
+#[no_mangle]
+pub extern "C" fn quads_open_job(
+    file: &[u8],
+    header: &mut [u64],
+    new_points: &mut [u64],
+    new_quads: &mut [u32],
+    new_labels: &mut [u8],
+    answer: &mut [u64],
+) -> u32
+    ensures { λ r. ⌜ (
+        let room = jobRoomOf (now (header .entry)) (now («new_points» .entry)) (now («new_quads» .entry))
+        (now («new_labels» .entry)) in
+        let l = now (answer .entry) in
+        ExportOpens (openBy (now (file .entry)) room l) room l r (now (header .exit)) (now («new_points» .exit))
+        (now («new_quads» .exit)) (now («new_labels» .exit)) (now (answer .exit))) ⌝ }
+{
+    let few = answer.len() < export_band::ANSWERS;
+    let r = export_job::open_after(few, file, header, new_points, new_quads, new_labels);
+    export_band::put_answer(answer, r)
 }

@@ -23,9 +23,9 @@ fn read(bytes: &mut [u8]) -> bool {
     read_part(bytes, 208, size)
 }
 
-// Whether an operation takes a sheet and shows what it makes or measures of it.
+// Whether an operation takes a sheet and shows what it makes, measures or saves of it.
 fn takes_sheet(operation: u64) -> bool {
-    operation <= 8 || operation == 16 || operation == 17
+    operation <= 8 || (16 <= operation && operation <= 18)
 }
 
 // Whether the proved function of an operation answers as the record says; a larger sheet is not taken.
@@ -40,6 +40,7 @@ fn agrees(bytes: &[u8], operation: u64, number: u64) -> bool {
         1 | 2 | 7 => replay_made::agrees(bytes, operation, &k, number),
         3 => replay_made::agrees_drawn(bytes, &k, number),
         4 | 5 | 6 => replay_altered::agrees(bytes, operation, &k, number),
+        18 | 19 => replay_job::agrees(bytes, operation, number),
         _ => replay_measured::agrees(bytes, operation, &k, number),
     }
 }

@@ -27,6 +27,8 @@ fn print_name(operation: usize) -> bool {
         8 => io::write_all(1, b"quality "),
         16 => io::write_all(1, b"corners_per_point "),
         17 => io::write_all(1, b"page "),
+        18 => io::write_all(1, b"save "),
+        19 => io::write_all(1, b"open "),
         _ => print_function(operation),
     }
 }

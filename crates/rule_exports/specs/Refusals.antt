@@ -1,5 +1,6 @@
--- The table of document 01, "Numbers a setter may read": every number that an operation refuses with. Not a rule: each
--- stands with the rule that gives it. The law that they differ is in rule_exports/proofs/Refusals.
+-- The table of document 01, "Numbers a setter may read", with the number of document 02, Point 1: every number that an
+-- operation refuses with. Not a rule: each stands with the rule that gives it. The law that they differ is in
+-- rule_exports/proofs/Refusals.
 use Prim.Native.Nat.{ℕ}
 use mathlib.Core.List.{List, [], _∷_}
 pub use Rattle.rule_sheet.specs.Numbers.{box, bare, cornerNumber, clash, edgeNumber, large, short}
@@ -7,9 +8,10 @@ pub use Rattle.rule_extract.specs.Drawing.{bottomless, cellsNumber, samplesNumb
 pub use Rattle.rule_finer.specs.Subdivide.{astray}
 pub use Rattle.rule_rows.specs.Rows.{row}
 pub use Rattle.rule_quality.specs.Measure.{normalNumber}
+pub use Rattle.rule_job.specs.Jobs.{trailerNumber}
 
 -- 1 box, 2 bottomless, 3 cells, 4 samples, 5 bare, 6 corner, 7 clash, 8 edge, 9 astray, 10 row, 11 normal, 12 large,
--- 13 short
+-- 13 short, 14 trailer
 abbrev pub refusals : List ℕ
 refusals =
     box
@@ -25,4 +27,5 @@ refusals =
     ∷ normalNumber
     ∷ large
     ∷ short
+    ∷ trailerNumber
     ∷ []

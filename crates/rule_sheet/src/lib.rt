@@ -14,7 +14,8 @@ pub enum Verdict {
     Refused(u32),
 }
 
-// What an operation did: the swaps or merges that it made, 0 of one that makes a sheet, and the counts of its sheet.
+// What an operation did: the swaps or merges that it made, the bytes of a file that it saved, 0 of one that makes a
+// sheet; and the counts of its sheet.
 pub struct Tally {
     pub count: usize,
     pub sheet: Counts,

@@ -1,9 +1,9 @@
 -- A slice that was cleared behind the sheet is the padded sheet. Assumes nothing.
-use Prim.Native.Nat.{ℕ, _-_, _*_, _≤_}
+use Prim.Native.Nat.{ℕ, zero, suc, _-_, _*_, _≤_}
 use mathlib.Core.Path.{_≡_, refl, sym, ap, _∙_}
-use mathlib.Core.List.{List, [], _∷_}
+use mathlib.Core.List.{List, [], _∷_, _++_}
 use native.Mathlib.Omega.{arith}
-use lib.ListN.{length, take, replicate, take-append-drop}
+use lib.ListN.{length, take, drop, replicate, take-append-drop}
 use lib.Seq.{length-take-le}
 use lib.Ieee.{Float}
 use borrow.Rule.Slice.PartMut.{midOf, putMid}
@@ -86,3 +86,20 @@ refused-fills n P Q labels = record {
   quads = record { fits = omega arith; is = refl };
   labelled = record { fits = omega arith; is = refl };
 }
+
+-- ---- a slice of zeros
+
+drop-same : {A : Type 0} (m n : ℕ) (x : A) → drop m (replicate n x) ≡ replicate (n - m) x
+drop-same zero n x = let e : n - 0 ≡ n = omega arith in rw e
+drop-same (suc m) zero x = let e : 0 - suc m ≡ 0 = omega arith in rw e
+drop-same (suc m) (suc n) x = let e : suc n - suc m ≡ n - m = omega arith in rw e (drop-same m n x)
+
+-- the elements of l are written to its front
+pub pad-over : {A : Type 0} (x : A) (m n : ℕ) (l : List A) {s r : List A} → s ≡ replicate n x → length l ≡ m → r ≡ l ++ drop m s → r ≡ padded x n l
+unfolding padded
+pad-over x m n l e k h = h ∙ rw (e, drop-same m n x, k)
+
+-- nothing is
+pub pad-none : {A : Type 0} (x : A) (n : ℕ) {s : List A} → s ≡ replicate n x → s ≡ padded x n []
+unfolding padded
+pad-none x n e = let z : n - 0 ≡ n = omega arith in rw z e

@@ -51,13 +51,13 @@ enum Fault {
 }
 
 /// Puts a value into a place; that is a fault.
-fn set<T>(place: &mut T, value: T) -> bool {
+pub fn set<T>(place: &mut T, value: T) -> bool {
     *place = value;
     true
 }
 
 /// Leaves one element less than is needed; whether that is a fault, which it is not where none is needed.
-fn cut<T>(list: &mut Vec<T>, needed: usize) -> bool {
+pub fn cut<T>(list: &mut Vec<T>, needed: usize) -> bool {
     list.truncate(needed.saturating_sub(1));
     list.len() < needed
 }

@@ -4,5 +4,7 @@ pub mod closed;
 pub mod draws;
 pub mod faults;
 pub mod flat;
+pub mod job_faults;
+pub mod jobs;
 pub mod library;
 pub mod lists;

@@ -1,5 +1,6 @@
 //! A call of the library: everything it is lent, and what it answers.
 use crate::flat::{Flat, FlatBand, Work};
+use crate::jobs;
 use oracle::call::{Answer, Call, original};
 use oracle::operation::Operation;
 use oracle::quads::Quality;
@@ -90,7 +91,8 @@ impl Lent {
         self
     }
 
-    /// Calls the operation: 0, or the number of its refusal. None where it is not one of the library's.
+    /// Calls the operation: 0, or the number of its refusal. None where it is not one of the library's, or saves or
+    /// opens a job, which is lent other things.
     pub fn run(&mut self, operation: Operation) -> Option<u32> {
         let (band, number, answer) = (self.band.as_band_ref(), self.argument, &mut self.answer);
         let (sheet, made, work) = (&mut self.sheet, self.result.as_sheet_out(), self.work.as_work_mut());
@@ -107,6 +109,7 @@ impl Lent {
             Operation::Page => Some(ffi::page(sheet.as_sheet_ref(), band, work, &mut self.page)),
             Operation::Project | Operation::Value | Operation::Gradient | Operation::Normal => None,
             Operation::Sqrt | Operation::Constraints | Operation::Validate => None,
+            Operation::Save | Operation::Open => None,
         }
     }
 
@@ -246,6 +249,9 @@ pub fn expected(call: &Call) -> Answer {
 
 /// What the library answers, or none where the operation is not one of its own or left something behind.
 pub fn answer(call: &Call) -> Option<Answer> {
+    if call.operation.is_of_a_job() {
+        return jobs::answer(call);
+    }
     let mut lent = Lent::of(call);
     let number = lent.run(call.operation)?;
     lent.answer(call.operation, number)

@@ -1,6 +1,7 @@
 //! A call of an operation, and what the original answers.
 use crate::field::{BandNumbers, Field};
 use crate::implicit::ScalarField;
+use crate::job::{self, Job, Room};
 use crate::operation::Operation;
 use crate::quads::{self, Band, QuadMesh, Quality};
 use crate::{MeshingError, Point, corners, inner, page, refusal, rings};
@@ -19,11 +20,12 @@ pub const SCORED: u8 = 8;
 pub struct Call {
     /// Which one.
     pub operation: Operation,
-    /// Passes, cells, mask or label.
+    /// Passes, cells, mask or label; of `save` the bytes lent for the file, of `open` the points, quads and labels for
+    /// which there is room, where 0 stands for 64.
     pub argument: u64,
-    /// The band.
+    /// The band; `save` takes its box and its levels.
     pub band: BandNumbers,
-    /// The lent sheet; operations 9 to 13 take its only point.
+    /// The lent sheet; operations 9 to 13 take its only point, and `open` its labels as the bytes of the file.
     pub sheet: QuadMesh,
 }
 
@@ -34,9 +36,9 @@ pub struct Answer {
     pub number: u8,
     /// What is said by `DIGEST`, `VALID`, `TIGHT` and `SCORED`.
     pub flags: u8,
-    /// How many swaps or merges were made.
+    /// How many swaps or merges were made, or how many bytes were saved.
     pub count: u64,
-    /// Points, quads and labels of the result.
+    /// Points, quads and labels of the result, or of the sheet that was saved.
     pub counts: [u32; 3],
     /// The result.
     pub words: Vec<u64>,
@@ -125,6 +127,18 @@ impl Answer {
         Answer { words: byte_words(text).collect(), ..Answer::default() }
     }
 
+    /// Accepted, with a file of a sheet of these counts as the result.
+    pub fn file(file: &[u8], counts: [usize; 3]) -> Answer {
+        let words = byte_words(file).collect();
+        Answer { count: file.len() as u64, counts: counts.map(|n| n as u32), words, ..Answer::default() }
+    }
+
+    /// Accepted, with a job as the result: its header and its sheet, every bit as it is.
+    pub fn job(Job { header, sheet }: &Job) -> Answer {
+        let words = header.iter().map(|x| x.to_bits()).chain(sheet_words(sheet, f64::to_bits)).collect();
+        Answer { counts: job::counts(sheet).map(|n| n as u32), words, ..Answer::default() }
+    }
+
     /// The answer of a result of the original.
     fn of<T>(result: Result<T, MeshingError>, accepted: impl FnOnce(T) -> Answer) -> Answer {
         result.map_or_else(|error| Answer::refused(refusal::number(&error)), accepted)
@@ -156,7 +170,7 @@ fn cleaned(call: &Call, operation: Clean) -> Answer {
 }
 
 /// Runs the original's own operation on a sheet, which is the call's or a copy of it, and keeps nothing of the answer;
-/// where it has no such operation, what stands for it.
+/// where it has no such operation, what stands for it; of `save` and `open`, the oracle's writer and reader alone.
 pub fn run(call: &Call, sheet: &mut QuadMesh) {
     let (band, number) = (&call.band.band(), call.argument as usize);
     match call.operation {
@@ -168,6 +182,8 @@ pub fn run(call: &Call, sheet: &mut QuadMesh) {
         Operation::ImproveLayout => drop(quads::improve_layout(sheet, band, number)),
         Operation::Coarsen => drop(quads::coarsen(sheet, band, number)),
         Operation::Quality => drop(quads::quality(sheet, band)),
+        Operation::Save => drop(job::file_of(&job::header(&call.band), sheet)),
+        Operation::Open => drop(job::read(&sheet.labels)),
         _ => drop(original(call)),
     }
 }
@@ -199,6 +215,8 @@ pub fn original(call: &Call) -> Answer {
         Operation::Validate => Answer::of(inner::validate(band), |()| Answer::accepted()),
         Operation::Corners => Answer::of(inner::constraints(sheet, band), |()| Answer::ratio(corners::dealt(sheet))),
         Operation::Page => Answer::of(quads::quality(sheet, band), |q| Answer::text(page::text(&q).as_bytes())),
+        Operation::Save => job::saved(call),
+        Operation::Open => job::opened(&sheet.labels, Room::of(call.argument)),
     }
 }
 
@@ -217,5 +235,20 @@ mod tests {
         let Answer { words, .. } = Answer::text(b"quads   1234567\n");
         let bytes: Vec<u8> = words.iter().flat_map(|word| word.to_le_bytes()).collect();
         assert_eq!(bytes, b"quads   1234567\n");
+    }
+
+    #[test]
+    fn the_words_of_a_file_are_its_bytes_and_zeros() {
+        let Answer { words, count, counts, .. } = Answer::file(&[1, 2, 3, 4, 5, 6, 7, 8, 9], [3, 2, 1]);
+        assert_eq!((words, count, counts), (vec![0x0807_0605_0403_0201, 9], 9, [3, 2, 1]));
+    }
+
+    #[test]
+    fn the_words_of_a_job_keep_every_nan() {
+        let signals = f64::from_bits(0x7ff0_0000_0000_0001);
+        let sheet = QuadMesh { points: vec![[signals; 3]], quads: vec![], labels: vec![7] };
+        let Answer { words, counts, .. } = Answer::job(&Job { header: [-signals; 8], sheet });
+        assert_eq!((counts, words.len()), ([1, 0, 1], 12));
+        assert_eq!((words[7], words[8], words[11]), (0xfff0_0000_0000_0001, 0x7ff0_0000_0000_0001, 7));
     }
 }

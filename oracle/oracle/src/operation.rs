@@ -39,6 +39,10 @@ pub enum Operation {
     Corners = 16,
     /// Writes the counts of a sheet as text.
     Page = 17,
+    /// Saves a job.
+    Save = 18,
+    /// Opens a job.
+    Open = 19,
 }
 
 impl Operation {
@@ -62,6 +66,8 @@ impl Operation {
             Operation::Validate => "validate",
             Operation::Corners => "corners_per_point",
             Operation::Page => "page",
+            Operation::Save => "save",
+            Operation::Open => "open",
         }
     }
 
@@ -73,6 +79,11 @@ impl Operation {
     /// Whether it measures a sheet, which stays as it is.
     pub fn measures(self) -> bool {
         matches!(self, Operation::Quality | Operation::Corners | Operation::Page)
+    }
+
+    /// Whether it saves or opens a job.
+    pub fn is_of_a_job(self) -> bool {
+        matches!(self, Operation::Save | Operation::Open)
     }
 
     /// All of them in the order of their numbers.
@@ -104,6 +115,8 @@ impl TryFrom<u8> for Operation {
             15 => Ok(Operation::Validate),
             16 => Ok(Operation::Corners),
             17 => Ok(Operation::Page),
+            18 => Ok(Operation::Save),
+            19 => Ok(Operation::Open),
             _ => Err(UnknownOperation(number)),
         }
     }
@@ -145,16 +158,18 @@ mod tests {
             "validate",
             "corners_per_point",
             "page",
+            "save",
+            "open",
         ];
         assert_eq!(Operation::all().map(Operation::name).collect::<Vec<_>>(), names);
-        assert!(Operation::all().map(Operation::number).eq(1..=17));
+        assert!(Operation::all().map(Operation::number).eq(1..=19));
     }
 
     #[test]
     fn another_number_is_none() {
-        for number in [0, 18, u8::MAX] {
+        for number in [0, 20, u8::MAX] {
             assert_eq!(Operation::try_from(number), Err(UnknownOperation(number)));
         }
-        assert_eq!(UnknownOperation(18).to_string(), "18 is the number of no operation");
+        assert_eq!(UnknownOperation(20).to_string(), "20 is the number of no operation");
     }
 }

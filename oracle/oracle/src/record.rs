@@ -195,13 +195,16 @@ mod tests {
 
     #[test]
     fn an_answer_gives_its_sheet_back() {
-        use crate::{bands, sheets};
+        use crate::{bands, job, sheets};
         let on = |operation, sheet| Call { operation, argument: 1, band: bands::UNIT, sheet };
         let finer = original(&on(Operation::Refine, sheets::cube()));
         assert_eq!(Answer::sheet(0, &sheet_in(&finer).unwrap()), finer);
         assert!(sheet_in(&original(&on(Operation::Quality, sheets::cube()))).is_none());
         assert!(sheet_in(&original(&on(Operation::Corners, sheets::cube()))).is_none());
         assert!(sheet_in(&original(&on(Operation::Page, sheets::cube()))).is_none());
+        let save = Call { argument: 378, ..on(Operation::Save, sheets::cube()) };
+        let file = job::write(&job::of(&save));
+        assert!(sheet_in(&original(&save)).is_none() && sheet_in(&original(&job::open(file, 8))).is_none());
         assert!(sheet_in(&original(&on(Operation::Subdivide, sheets::empty()))).is_none());
     }
 

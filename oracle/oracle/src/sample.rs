@@ -2,11 +2,12 @@
 use crate::bands::UNIT;
 use crate::call::{Call, lone, original};
 use crate::field::{BandNumbers, Field};
+use crate::job::{self, Job};
 use crate::operation::Operation;
 use crate::quads::{self, QuadMesh};
 use crate::random::Random;
 use crate::record::{Record, shortened};
-use crate::{Point, drawn, inputs, patches, sheets};
+use crate::{Point, drawn, files, inputs, patches, sheets};
 
 /// The seed of the sample that the repository holds.
 pub const SEED: u64 = 2026;
@@ -43,6 +44,12 @@ const CORNERS: usize = 30;
 
 /// How many random small sheets the sample holds for the page.
 const PAGES: usize = 14;
+
+/// How many random small jobs the sample holds for saving, and for opening.
+const JOBS: usize = 5;
+
+/// The most bytes of a file in the sample.
+const MOST_BYTES: u64 = 2800;
 
 /// The numbers of passes.
 const PASSES: [u64; 5] = [0, 1, 2, 3, 1000];
@@ -312,6 +319,93 @@ fn pages(seed: u64) -> Vec<Record> {
     calls.into_iter().map(record).collect()
 }
 
+/// Floats of every kind: NaNs that signal and that do not, with payloads, infinities, zeros, a subnormal one.
+const HARD: [u64; 8] = [
+    0x7ff0_0000_0000_0001,
+    0xfff7_ffff_ffff_ffff,
+    0x7ff8_0000_0000_0000,
+    0xffff_ffff_ffff_ffff,
+    0x7ff0_0000_0000_0000,
+    0xfff0_0000_0000_0000,
+    0x8000_0000_0000_0000,
+    0x0000_0000_0000_0001,
+];
+
+/// A sheet in the unit box, between two levels.
+fn job(sheet: QuadMesh) -> Job {
+    Job { header: [0.0, 0.0, 0.0, 1.0, 1.0, 1.0, 0.04, 0.16], sheet }
+}
+
+/// The jobs that are saved and opened: the cube, nothing, hard floats, labels more and fewer than quads and above 7,
+/// corners out of range, and as much as the replay has room for.
+fn fixed_jobs() -> [Job; 7] {
+    let hard = HARD.map(f64::from_bits);
+    let points = (0..8).map(|i| [hard[i], hard[(i + 3) % 8], hard[(i + 5) % 8]]).collect();
+    let most = QuadMesh { points: vec![[0.1, 0.2, 0.3]; 64], quads: vec![[0, 1, 2, 63]; 64], labels: vec![7; 64] };
+    [
+        job(sheets::cube()),
+        job(sheets::empty()),
+        Job { header: hard, sheet: QuadMesh { points, ..sheets::cube() } },
+        job(changed(|s| s.labels.extend([8, 9, 255, 0, 1]))),
+        job(changed(|s| s.labels.truncate(1))),
+        job(changed(|s| s.quads[5] = [8, 9, u32::MAX as usize, 8])),
+        job(most),
+    ]
+}
+
+/// The cube's file with a number of its trailer changed.
+fn with_number(which: usize, number: u32) -> Vec<u8> {
+    let mut file = job::write(&job(sheets::cube()));
+    files::put(&mut file, which, number);
+    file
+}
+
+/// Files of which all but the first two are refused with 14: the cube's with a number changed, cut, and with bytes
+/// behind it.
+fn changed_files() -> Vec<Vec<u8>> {
+    let file = with_number(4, 20);
+    let numbers = [(2, 336), (0, 63), (0, 0), (1, 257), (1, 40), (2, 353), (2, 240), (3, 359), (3, 351), (4, 28)];
+    let mut all = vec![file.clone()];
+    all.extend(numbers.map(|(which, number)| with_number(which, number)));
+    all.extend([0, 20, 83, 84, 358, 377].map(|bytes| file[..bytes].to_vec()));
+    all.extend([1, 20].map(|bytes| [&file[..], &vec![0; bytes]].concat()));
+    all
+}
+
+/// Files that say more than the replay has room for: a point, a quad and a label more.
+fn large_files() -> [Vec<u8>; 3] {
+    let sheets: [fn(&mut QuadMesh); 3] =
+        [|s| s.points.resize(65, [0.5; 3]), |s| s.quads.resize(65, [0, 1, 2, 3]), |s| s.labels.resize(65, 1)];
+    sheets.map(|change| job::write(&job(changed(change))))
+}
+
+/// Whether the replay has room for a call that saves or opens: its file is short, and a sheet that it saves is small.
+fn is_small_job(call: &Call) -> bool {
+    match call.operation {
+        Operation::Save => is_small(&call.sheet) && call.argument <= MOST_BYTES,
+        _ => call.sheet.labels.len() as u64 <= MOST_BYTES,
+    }
+}
+
+/// Jobs that are saved, into as many bytes as the file needs, into more, and into one less; then jobs that are opened;
+/// of each kind random ones too.
+fn jobs(seed: u64) -> Vec<Record> {
+    let mut r = Random::new(seed);
+    let needed = |job: &Job| job::write(job).len();
+    let save = |more: usize, less: usize, job: Job| job::save(job.clone(), needed(&job) + more - less);
+    let mut calls: Vec<Call> = fixed_jobs().map(|job| save(0, 0, job)).to_vec();
+    calls.extend([(9, 0), (0, 1)].map(|(more, less)| save(more, less, job(sheets::cube()))));
+    calls.extend([save(0, 84, job(sheets::empty())), save(0, 1, job(sheets::empty()))]);
+    let saves = std::iter::repeat_with(|| files::saving(&mut r)).filter(is_small_job);
+    calls.extend(saves.take(JOBS));
+    let open = |file| job::open(file, 0);
+    calls.extend(fixed_jobs().map(|job| open(job::write(&job))));
+    calls.extend(changed_files().into_iter().chain(large_files()).map(open));
+    let opens = std::iter::repeat_with(|| open(files::opening(&mut r).sheet.labels)).filter(is_small_job);
+    calls.extend(opens.take(JOBS));
+    calls.into_iter().map(record).collect()
+}
+
 /// The sample of a seed. What is new stands behind, so that the records before it stay as they are.
 pub fn records(seed: u64) -> Vec<Record> {
     let mut records = leaves(seed);
@@ -321,6 +415,7 @@ pub fn records(seed: u64) -> Vec<Record> {
     records.extend(drawings(seed));
     records.extend(corners(seed));
     records.extend(pages(seed));
+    records.extend(jobs(seed));
     records
 }
 
@@ -352,9 +447,10 @@ mod tests {
         let drawn = [0, 1, 2, 3, 4, 5, 7].map(|number| (Extract, number));
         let corners = [0, 1, 5, 6, 7].map(|number| (Corners, number));
         let pages = [0, 1, 5, 6, 7, 11].map(|number| (Page, number));
+        let jobs = [(Save, 0), (Save, 13), (Open, 0), (Open, 13), (Open, 14)];
         let measured = refine.into_iter().chain(subdivide).chain(quality).chain(corners).chain(pages);
         let cleaned = regularize.into_iter().chain(improve).chain(coarsen).chain(rows).chain(drawn);
-        let expected = leaf.into_iter().chain(tests).chain(sheet).chain(measured).chain(cleaned).collect();
+        let expected = leaf.into_iter().chain(tests).chain(sheet).chain(measured).chain(cleaned).chain(jobs).collect();
         assert_eq!(seen(&records(SEED)), expected);
     }
 
@@ -398,12 +494,43 @@ mod tests {
     }
 
     #[test]
-    fn corners_per_point_and_then_pages_stand_last() {
-        let (records, corners, pages) = (records(SEED), corners(SEED), pages(SEED));
-        let (before, last) = records.split_at(records.len() - corners.len() - pages.len());
-        let is_new = |record: &Record| [Operation::Corners, Operation::Page].contains(&record.call.operation);
-        assert!(!before.iter().any(is_new));
-        assert_eq!(record::file(last), record::file(&[corners, pages].concat()));
+    fn corners_per_point_then_pages_and_then_jobs_stand_last() {
+        let (records, new) = (records(SEED), [corners(SEED), pages(SEED), jobs(SEED)].concat());
+        let (before, last) = records.split_at(records.len() - new.len());
+        let operations = [Operation::Corners, Operation::Page, Operation::Save, Operation::Open];
+        assert!(!before.iter().any(|record| operations.contains(&record.call.operation)));
+        assert_eq!(record::file(last), record::file(&new));
+    }
+
+    #[test]
+    fn jobs_have_their_numbers() {
+        let jobs = jobs(SEED);
+        let saves = jobs.iter().filter(|record| record.call.operation == Operation::Save).count();
+        let numbers: Vec<u8> = jobs.iter().map(|record| record.answer.number).collect();
+        assert_eq!((saves, jobs.len()), (11 + JOBS, 11 + 29 + 2 * JOBS));
+        assert_eq!(numbers[..11], [0, 0, 0, 0, 0, 0, 0, 0, 13, 13, 13]);
+        let opens = &numbers[saves..];
+        assert_eq!((&opens[..9], &opens[9..26], &opens[26..29]), (&[0; 9][..], &[14; 17][..], &[13; 3][..]));
+    }
+
+    #[test]
+    fn jobs_are_small_and_stored_whole() {
+        for Record { call, answer } in jobs(SEED) {
+            let bytes = if call.operation == Operation::Save { answer.count } else { call.sheet.labels.len() as u64 };
+            assert!(bytes <= MOST_BYTES && (call.operation == Operation::Open || call.argument <= MOST_BYTES));
+            assert!(answer.counts.iter().all(|&n| n <= 64) && answer.flags == 0);
+            assert!(call.operation == Operation::Save || call.argument == 0);
+        }
+    }
+
+    #[test]
+    fn what_is_stored_as_saved_opens() {
+        let saved = jobs(SEED).into_iter().filter(|record| record.call.operation == Operation::Save);
+        for Record { call, answer } in saved.filter(|record| record.answer.number == 0) {
+            let mut file: Vec<u8> = answer.words.iter().flat_map(|word| word.to_le_bytes()).collect();
+            file.truncate(answer.count as usize);
+            assert_eq!(original(&job::open(file, 0)), Answer::job(&job::of(&call)));
+        }
     }
 
     /// The text of an answer.
@@ -440,6 +567,6 @@ mod tests {
 
     #[test]
     fn the_sample_is_small() {
-        assert!(record::file(&records(SEED)).len() < 1_250_000);
+        assert!(record::file(&records(SEED)).len() < 1_350_000);
     }
 }

@@ -1,7 +1,7 @@
 //! The band as options give it, part by part.
 use crate::problem::Problem;
 use crate::words::Words;
-use quads::{Band, Field};
+use quads::{Band, Field, Job, Sheet};
 
 /// A part of a band.
 #[derive(Clone, Copy, Debug, PartialEq)]
@@ -47,6 +47,21 @@ impl Parts {
         }
     }
 
+    /// The parts that a job has: all but the field.
+    pub fn of(job: &Job) -> Parts {
+        let ([x, y, z], [high_x, high_y, high_z]) = (job.low, job.high);
+        Parts { field: None, bounds: Some([x, y, z, high_x, high_y, high_z]), levels: Some([job.lower, job.upper]) }
+    }
+
+    /// The options of the box and the levels that are given and are not those of another.
+    pub fn against(&self, other: Parts) -> Vec<&'static str> {
+        let parts = [
+            (self.bounds.is_some() && self.bounds != other.bounds, "--box"),
+            (self.levels.is_some() && self.levels != other.levels, "--levels"),
+        ];
+        chosen(&parts)
+    }
+
     /// The parts with those of another where there are none.
     pub fn or(self, other: Parts) -> Parts {
         Parts {
@@ -59,20 +74,27 @@ impl Parts {
     /// The band, if it is whole; else an error that tells all the parts that are missing.
     pub fn band(&self) -> Result<Band, Problem> {
         let (Some(field), Some(bounds), Some([lower, upper])) = (self.field, self.bounds, self.levels) else {
-            return Err(Problem::Usage(format!("the band is not whole: give {}", self.missing().join(", and "))));
+            let field = (self.field.is_none(), "--plane, --ball or --quadric");
+            let missing = [chosen(&[field]), self.missing()].concat().join(", and ");
+            return Err(Problem::Usage(format!("the band is not whole: give {missing}")));
         };
-        let [x, y, z, high_x, high_y, high_z] = bounds;
-        Ok(Band { field, low: [x, y, z], high: [high_x, high_y, high_z], lower, upper })
+        let (low, high) = corners(bounds);
+        Ok(Band { field, low, high, lower, upper })
     }
 
-    /// The options of the parts that are missing.
+    /// The job of a sheet in the box, between the levels, if both are there; else an error that tells what is missing.
+    pub fn job(&self, sheet: Sheet) -> Result<Job, Problem> {
+        let (Some(bounds), Some([lower, upper])) = (self.bounds, self.levels) else {
+            let missing = self.missing().join(", and ");
+            return Err(Problem::Usage(format!("a job file has a box and two levels: give {missing}")));
+        };
+        let (low, high) = corners(bounds);
+        Ok(Job { low, high, lower, upper, sheet })
+    }
+
+    /// The options of the box and the levels, where these are missing.
     fn missing(&self) -> Vec<&'static str> {
-        let parts = [
-            (self.field.is_none(), "--plane, --ball or --quadric"),
-            (self.bounds.is_none(), "--box"),
-            (self.levels.is_none(), "--levels"),
-        ];
-        parts.into_iter().filter(|(missing, _)| *missing).map(|(_, options)| options).collect()
+        chosen(&[(self.bounds.is_none(), "--box"), (self.levels.is_none(), "--levels")])
     }
 
     /// The options that give these parts.
@@ -108,6 +130,16 @@ impl Parts {
     }
 }
 
+/// The options of which something is so.
+fn chosen(options: &[(bool, &'static str)]) -> Vec<&'static str> {
+    options.iter().filter(|(is_so, _)| *is_so).map(|&(_, option)| option).collect()
+}
+
+/// The low and the high corner of a box.
+fn corners([x, y, z, high_x, high_y, high_z]: [f64; 6]) -> ([f64; 3], [f64; 3]) {
+    ([x, y, z], [high_x, high_y, high_z])
+}
+
 #[cfg(test)]
 mod tests {
     use super::*;
@@ -131,6 +163,26 @@ mod tests {
         let parts = parse("--plane 0 0 1 0 --levels 0 1").unwrap();
         assert_eq!(parts.band(), Err(Problem::Usage("the band is not whole: give --box".into())));
         assert!(parts.or(parse("--box 0 0 0 1 1 1 --levels 5 6").unwrap()).band().is_ok_and(|band| band.upper == 1.0));
+    }
+
+    #[test]
+    fn a_job_needs_no_field() {
+        let job = |text: &str| parse(text).unwrap().job(Sheet::default());
+        let whole = job("--levels 7 nan --box 1 2 3 4 5 6").unwrap();
+        assert_eq!((whole.low, whole.high, whole.lower), ([1.0, 2.0, 3.0], [4.0, 5.0, 6.0], 7.0));
+        let usage = |options: &str| Err(Problem::Usage(format!("a job file has a box and two levels: give {options}")));
+        assert_eq!(job("--ball 0 0 0 0"), usage("--box, and --levels"));
+        assert_eq!(job("--ball 0 0 0 0 --box 1 2 3 4 5 6"), usage("--levels"));
+    }
+
+    #[test]
+    fn a_job_has_all_but_the_field() {
+        let parts = parse("--levels 7 8 --box 1 2 3 4 5 6").unwrap();
+        assert_eq!(Parts::of(&parts.job(Sheet::default()).unwrap()), parts);
+        let against = |text: &str| parse(text).unwrap().against(parts);
+        assert_eq!(against("--plane 0 0 1 0 --levels 7 8"), [""; 0]);
+        assert_eq!(against("--levels 7 9 --box 1 2 3 4 5 6"), ["--levels"]);
+        assert_eq!(against("--levels 6 8 --box 1 2 3 4 5 7"), ["--box", "--levels"]);
     }
 
     #[test]

@@ -12,7 +12,8 @@ const STEPS: &str = "--ball 0 0 0 0 --box -1 -1 -1 1 1 0.2 --levels 0.36 0.81 \
     draw 12 coarsen 6 regularize 6 improve 2 subdivide quality display";
 
 /// The files that the example leaves in a folder.
-const FILES: [(&str, &str); 3] = [("write", "core.ply"), ("picture", "core.svg"), ("picture", "core.png")];
+const FILES: [(&str, &str); 4] =
+    [("write", "core.ply"), ("save", "core.job"), ("picture", "core.svg"), ("picture", "core.png")];
 
 /// Runs the example. Its files go to the folder, if one is named.
 pub fn run(folder: Option<&Path>, out: &mut dyn Write, log: &mut dyn Write) -> Result<(), Problem> {
@@ -23,7 +24,7 @@ pub fn run(folder: Option<&Path>, out: &mut dyn Write, log: &mut dyn Write) -> R
         for (step, file) in FILES {
             words.extend([step.to_string(), folder.join(file).display().to_string()]);
         }
-        format!("\ncore.ply, core.svg and core.png are in {}\n", folder.display())
+        format!("\ncore.ply, core.job, core.svg and core.png are in {}\n", folder.display())
     } else {
         "\n`cuckoosilver example FOLDER` leaves this sheet and its pictures in a folder.\n".into()
     };

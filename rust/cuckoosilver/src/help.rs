@@ -15,6 +15,8 @@ warnings to standard error.
 steps that bring or change the sheet
   draw CELLS              draw the sheet around the band, with 4 to 128 cells
   read FILE.ply           read a sheet; - is standard input
+  open FILE.job           open a job file: a sheet with its box and its levels;
+                          - is standard input
   refine                  make each quad four
   subdivide               refine, smooth and put back onto the band
   rows                    add a row of quads along each border between labels
@@ -34,6 +36,8 @@ steps that show the sheet
                           each point one ring, no quad twice or turned over
   write FILE.ply          write the sheet, its labels as colours too; - is
                           standard output: all else goes to standard error then
+  save FILE.job           save the sheet, the box and the levels as a job file,
+                          bit for bit; - is standard output, as for write
   picture FILE.svg|.png   draw a picture of the sheet
 
 options
@@ -53,21 +57,26 @@ options
   --help, --version
 
 A file that was written has its band in a comment, so a sheet that is read
-needs no options. A file that is there already is replaced once the new one is
-whole. After each step that brings or changes the sheet, a warning tells of bad
-points and of quads turned over or collapsed that were not there before.
+needs no options. A job file has the box and the levels but no field: after open
+a step that asks for the band needs --plane, --ball or --quadric. What a file
+says of the band holds where no option gave it: with --box or --levels the
+option holds, also where the file says otherwise, and save saves the option's.
+A file that is there already is replaced once the new one is whole. After each
+step that brings or changes the sheet, a warning tells of bad points and of
+quads turned over or collapsed that were not there before.
 
 examples
   cuckoosilver --ball 0 0 0 0 --box -1 -1 -1 1 1 1 --levels 0.25 0.64 \\
       draw 32 coarsen 4 regularize 8 quality write shell.ply
   cuckoosilver read shell.ply subdivide check display picture shell.png
   cuckoosilver --plane 0 0 1 0 --box 0 0 0 4 4 4 --levels 1 2 \\
-      draw 8 rows page
+      draw 8 rows page save wall.job
+  cuckoosilver --plane 0 0 1 0 open wall.job quality
 
 exit codes
   0 all steps are done; 1 a step is refused, a sheet that is checked is not
   valid, or a file cannot be read or written; 2 the command line is wrong;
   141 nobody reads what is written. A refusal has a number and a word:
    1 box     2 bottomless  3 cells   4 samples  5 bare    6 corner  7 clash
-   8 edge    9 astray     10 row    11 normal  12 large  13 short
+   8 edge    9 astray     10 row    11 normal  12 large  13 short  14 trailer
 ";

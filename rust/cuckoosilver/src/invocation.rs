@@ -49,19 +49,22 @@ impl Invocation {
 /// The steps of a command line, of which the first brings a sheet.
 pub fn steps(words: &[String]) -> Result<Vec<Step>, Problem> {
     let steps = step::parse(words)?;
-    at_most_once(&steps, "read -", "standard input holds one sheet")?;
-    at_most_once(&steps, "write -", "standard output takes one sheet")?;
+    at_most_once(&steps, Step::takes_input, "standard input holds one sheet")?;
+    at_most_once(&steps, Step::fills_output, "standard output takes one sheet")?;
     let first = steps.iter().map(|step| &step.action).find(|action| !matches!(action, Action::Set(_)));
     match first {
         Some(Action::Run(operation)) if operation.brings_sheet() => Ok(steps),
-        _ => Err(Problem::Usage("there is no sheet: begin with draw CELLS or read FILE".into())),
+        _ => Err(Problem::Usage("there is no sheet: begin with draw CELLS, read FILE or open FILE".into())),
     }
 }
 
-/// An error, with its reason, where a step is there twice.
-fn at_most_once(steps: &[Step], text: &str, why: &str) -> Result<(), Problem> {
-    let times = steps.iter().filter(|step| step.text == text).count();
-    if times < 2 { Ok(()) } else { Err(Problem::Usage(format!("{text} is there {times} times; {why}"))) }
+/// An error, with its reason, where there are two such steps.
+fn at_most_once(steps: &[Step], is_such: fn(&Step) -> bool, why: &str) -> Result<(), Problem> {
+    let texts: Vec<&str> = steps.iter().filter(|step| is_such(step)).map(|step| step.text.as_str()).collect();
+    if texts.len() < 2 {
+        return Ok(());
+    }
+    Err(Problem::Usage(format!("{} do not go together; {why}", texts.join(" and "))))
 }
 
 #[cfg(test)]
@@ -94,15 +97,16 @@ mod tests {
     #[test]
     fn standard_input_and_output_hold_one_sheet_each() {
         assert!(parse("read - write - read a.ply write a.ply").is_ok());
-        for wrong in ["read - read -", "draw 8 write - write -"] {
+        assert!(parse("open - save - open a.job save a.job").is_ok());
+        for wrong in ["read - read -", "draw 8 write - write -", "read - open -", "draw 8 write - save -"] {
             assert!(matches!(parse(wrong), Err(Problem::Usage(_))), "{wrong}");
         }
     }
 
     #[test]
     fn a_sheet_comes_first() {
-        assert!(parse("draw 8 refine").is_ok());
-        for wrong in ["refine", "quality draw 8", "corners draw 8", "--levels 1 2", "page read a.ply"] {
+        assert!(parse("draw 8 refine").is_ok() && parse("open a.job refine").is_ok());
+        for wrong in ["refine", "quality draw 8", "corners draw 8", "--levels 1 2", "page read a.ply", "save a.job"] {
             assert!(matches!(parse(wrong), Err(Problem::Usage(_))), "{wrong}");
         }
     }

@@ -11,6 +11,8 @@ pub enum Operation {
     Draw(usize),
     /// Reads a sheet.
     Read(Place),
+    /// Opens a job.
+    Open(Place),
     /// Makes each quad four.
     Refine,
     /// Refines, smooths and projects.
@@ -27,6 +29,8 @@ pub enum Operation {
     Check,
     /// Writes the sheet.
     Write(Place),
+    /// Saves the job.
+    Save(Place),
     /// Draws a picture of the sheet.
     Picture(PathBuf),
 }
@@ -37,6 +41,7 @@ impl Operation {
         let operation = match word {
             "draw" => Operation::Draw(words.count(word, "CELLS")?),
             "read" => Operation::Read(Place::to_read(words)?),
+            "open" => Operation::Open(Place::to_open(words)?),
             "refine" => Operation::Refine,
             "subdivide" => Operation::Subdivide,
             "rows" => Operation::Rows,
@@ -45,6 +50,7 @@ impl Operation {
             "coarsen" => Operation::Coarsen(words.count_or(word, 1)?),
             "check" => Operation::Check,
             "write" => Operation::Write(Place::to_write(words)?),
+            "save" => Operation::Save(Place::to_save(words)?),
             "picture" => Operation::Picture(picture(words)?),
             _ => return Ok(None),
         };
@@ -53,12 +59,22 @@ impl Operation {
 
     /// Whether it brings a sheet, where none is needed before it.
     pub fn brings_sheet(&self) -> bool {
-        matches!(self, Operation::Draw(_) | Operation::Read(_))
+        matches!(self, Operation::Draw(_) | Operation::Read(_) | Operation::Open(_))
     }
 
     /// Whether it leaves the sheet as it was.
     pub fn keeps_sheet(&self) -> bool {
-        matches!(self, Operation::Check | Operation::Write(_) | Operation::Picture(_))
+        matches!(self, Operation::Check | Operation::Write(_) | Operation::Save(_) | Operation::Picture(_))
+    }
+
+    /// Whether it takes standard input.
+    pub fn takes_input(&self) -> bool {
+        matches!(self, Operation::Read(Place::Standard) | Operation::Open(Place::Standard))
+    }
+
+    /// Whether it writes to standard output.
+    pub fn fills_output(&self) -> bool {
+        matches!(self, Operation::Write(Place::Standard) | Operation::Save(Place::Standard))
     }
 }
 

@@ -10,7 +10,8 @@ use crate::problem::Problem;
 use crate::replace;
 use crate::setting::Setting;
 use crate::step::{Action, Step};
-use quads::{Counts, Sheet, Workspace};
+use quads::sizes::LARGEST_JOB;
+use quads::{Counts, Job, Sheet, Workspace};
 use std::fmt::Arguments;
 use std::io::Write;
 use std::path::Path;
@@ -23,7 +24,8 @@ pub struct Pipeline<'a> {
     sheet: Sheet,
     workspace: Workspace,
     defects: Defects,
-    parts: Parts,
+    given: Parts,
+    found: Parts,
     label: Option<u8>,
     view: View,
     ascii: bool,
@@ -40,7 +42,8 @@ impl<'a> Pipeline<'a> {
             sheet: Sheet::default(),
             workspace: Workspace::new(),
             defects: Defects::default(),
-            parts: Parts::default(),
+            given: Parts::default(),
+            found: Parts::default(),
             label: None,
             view: View::default(),
             ascii: false,
@@ -91,7 +94,7 @@ impl<'a> Pipeline<'a> {
             return;
         }
         let before = if operation.brings_sheet() { Defects::default() } else { self.defects };
-        let quality = self.parts.band().and_then(|band| Ok(self.workspace.quality(&self.sheet, &band)?));
+        let quality = self.parts().band().and_then(|band| Ok(self.workspace.quality(&self.sheet, &band)?));
         self.defects = quality.map(|quality| Defects::of(&quality)).unwrap_or_default();
         if let Some(more) = self.defects.since(before) {
             self.tell(format_args!("warning: after {text} the sheet has {more}\n"));
@@ -105,10 +108,15 @@ impl<'a> Pipeline<'a> {
         }
     }
 
+    /// The parts of the band: those that options gave, and for the others those that stand in files.
+    fn parts(&self) -> Parts {
+        self.given.or(self.found)
+    }
+
     /// An option takes hold.
     fn set(&mut self, setting: &Setting) {
         match *setting {
-            Setting::Band(part) => self.parts.take(part),
+            Setting::Band(part) => self.given.take(part),
             Setting::Label(label) => self.label = Some(label),
             Setting::Ascii(ascii) => self.ascii = ascii,
             Setting::View(from) => self.view.from = from,
@@ -119,14 +127,15 @@ impl<'a> Pipeline<'a> {
 
     /// Prints what is asked of the sheet; to the log, where the output is the sheet.
     fn print(&mut self, report: Report) -> Result<(), Problem> {
-        let text = report.text(&mut self.workspace, &self.sheet, &self.parts.band()?)?;
+        let band = self.parts().band()?;
+        let text = report.text(&mut self.workspace, &self.sheet, &band)?;
         let out = if self.output_is_sheet { &mut *self.log } else { &mut *self.out };
         display::send(out, &text)
     }
 
     /// Works on the sheet: what was done.
     fn operate(&mut self, operation: &Operation) -> Result<String, Problem> {
-        let (sheet, parts, work) = (&mut self.sheet, self.parts, &mut self.workspace);
+        let (parts, sheet, work) = (self.parts(), &mut self.sheet, &mut self.workspace);
         let mut counted = String::new();
         match operation {
             Operation::Draw(cells) => *sheet = work.extract_candidate(&parts.band()?, *cells)?,
@@ -139,15 +148,16 @@ impl<'a> Pipeline<'a> {
             }
             Operation::Coarsen(passes) => counted = count(work.coarsen(sheet, &parts.band()?, *passes)?, "merges"),
             Operation::Read(place) => self.read(place)?,
+            Operation::Open(place) => counted = self.open(place)?,
             Operation::Check => return self.check(),
             Operation::Write(place) => return self.write(place),
+            Operation::Save(place) => return self.save(place),
             Operation::Picture(file) => return self.picture(file),
         }
-        let Counts { points, quads, .. } = self.sheet.counts();
-        Ok(format!("{counted}{points} points, {quads} quads"))
+        Ok(counted + &size_of(&self.sheet))
     }
 
-    /// Reads a sheet. A band that stands in the file fills the parts that no option has given.
+    /// Reads a sheet. A band that stands in the file takes the place of that of another file.
     fn read(&mut self, place: &Place) -> Result<(), Problem> {
         let wrong = |what: String| Problem::file(place.path(), what);
         let (sheet, comments) = ply::read(&mut *place.open()?, self.label).map_err(wrong)?;
@@ -155,31 +165,66 @@ impl<'a> Pipeline<'a> {
         if let Some(band) = band {
             let words: Vec<String> = band.split_whitespace().map(String::from).collect();
             let parts = Parts::parse(&words).map_err(|_| wrong(format!("its band is wrong:{band}")))?;
-            self.parts = self.parts.or(parts);
+            self.found = parts;
         }
         self.sheet = sheet;
         Ok(())
     }
 
+    /// Opens a job. Its box and its levels take the place of another file's band; options that say otherwise are told.
+    fn open(&mut self, place: &Place) -> Result<String, Problem> {
+        let job = Job::open(&place.bytes(LARGEST_JOB)?)?;
+        let parts = Parts::of(&job);
+        self.found = parts;
+        self.sheet = job.sheet;
+        let other = self.given.against(parts).join(" and ");
+        Ok(if other.is_empty() { other } else { format!("{other} in place of the file's, ") })
+    }
+
     /// Whether the sheet is valid; that it is not is a problem.
     fn check(&mut self) -> Result<String, Problem> {
-        let faults = defects::faults(&self.workspace.quality(&self.sheet, &self.parts.band()?)?);
+        let band = self.parts().band()?;
+        let faults = defects::faults(&self.workspace.quality(&self.sheet, &band)?);
         faults.map_or(Ok("valid".into()), |faults| Err(Problem::Invalid(faults)))
     }
 
     /// Writes the sheet, with its band in a comment.
     fn write(&mut self, place: &Place) -> Result<String, Problem> {
-        let comment = [&[MARK.to_string()], &self.parts.options()[..]].concat().join(" ");
-        let bytes = ply::write(&self.sheet, self.ascii, &comment);
-        match place {
-            Place::Standard => display::send(self.out, &bytes)?,
-            Place::File(file) => put(file, &bytes)?,
+        self.labelled(place.target())?;
+        let comment = [&[MARK.to_string()], &self.parts().options()[..]].concat().join(" ");
+        self.put_to(place, &ply::write(&self.sheet, self.ascii, &comment))
+    }
+
+    /// That the sheet has one label a quad, without which this file cannot hold it; else a problem.
+    fn labelled(&self, file: &Path) -> Result<(), Problem> {
+        let Counts { quads, labels, .. } = self.sheet.counts();
+        if quads == labels {
+            return Ok(());
         }
-        Ok(size(&bytes))
+        let what = format!("it takes one label a quad; the sheet has {quads} quads and {labels} labels");
+        Err(Problem::file(file, what))
+    }
+
+    /// Saves the sheet with the box and the levels.
+    fn save(&mut self, place: &Place) -> Result<String, Problem> {
+        let job = self.parts().job(std::mem::take(&mut self.sheet))?;
+        let file = job.save()?;
+        self.sheet = job.sheet;
+        self.put_to(place, &file)
+    }
+
+    /// Writes bytes to a place, to a file whole or not at all: how many.
+    fn put_to(&mut self, place: &Place, bytes: &[u8]) -> Result<String, Problem> {
+        match place {
+            Place::Standard => display::send(self.out, bytes)?,
+            Place::File(file) => put(file, bytes)?,
+        }
+        Ok(size(bytes))
     }
 
     /// Draws a picture, of the kind that the file's ending says.
     fn picture(&self, file: &Path) -> Result<String, Problem> {
+        self.labelled(file)?;
         let drawn = if file.extension().is_some_and(|ending| ending == "svg") {
             picture::svg(&self.sheet, &self.view).into_bytes()
         } else {
@@ -196,6 +241,13 @@ const MARK: &str = "cuckoosilver";
 /// A count and its name.
 fn count(n: usize, name: &str) -> String {
     format!("{n} {name}, ")
+}
+
+/// How many points and quads a sheet has, and how many labels where these are not as many as the quads.
+fn size_of(sheet: &Sheet) -> String {
+    let Counts { points, quads, labels } = sheet.counts();
+    let labels = if labels == quads { String::new() } else { format!(", {labels} labels") };
+    format!("{points} points, {quads} quads{labels}")
 }
 
 /// How long a file is.

@@ -1,9 +1,10 @@
 //! The word that may have been meant by one that is not known.
 
 /// The steps and options.
-const KNOWN: [&str; 29] = [
+const KNOWN: [&str; 31] = [
     "draw",
     "read",
+    "open",
     "refine",
     "subdivide",
     "rows",
@@ -16,6 +17,7 @@ const KNOWN: [&str; 29] = [
     "corners",
     "check",
     "write",
+    "save",
     "picture",
     "example",
     "--plane",
@@ -88,6 +90,8 @@ mod tests {
             ("--level", Some("--levels")),
             ("-quiet", Some("--quiet")),
             ("help", Some("--help")),
+            ("safe", Some("save")),
+            ("opne", Some("open")),
             ("example", None),
             ("paint", None),
             ("8", None),

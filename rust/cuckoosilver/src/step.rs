@@ -1,7 +1,6 @@
 //! The steps and options of a command line.
 use crate::display::Report;
 use crate::operation::Operation;
-use crate::place::Place;
 use crate::problem::Problem;
 use crate::setting::Setting;
 use crate::spelling;
@@ -17,9 +16,14 @@ pub struct Step {
 }
 
 impl Step {
+    /// Whether it takes the sheet from standard input.
+    pub fn takes_input(&self) -> bool {
+        matches!(&self.action, Action::Run(operation) if operation.takes_input())
+    }
+
     /// Whether it writes the sheet to standard output.
     pub fn fills_output(&self) -> bool {
-        self.action == Action::Run(Operation::Write(Place::Standard))
+        matches!(&self.action, Action::Run(operation) if operation.fills_output())
     }
 }
 
@@ -109,5 +113,13 @@ mod tests {
         for wrong in ["paint", "draw", "draw x", "--plane 1 2 3", "--size 9", "picture a.gif", "picture", "write"] {
             assert!(matches!(actions(wrong), Err(Problem::Usage(_))), "{wrong}");
         }
+    }
+
+    #[test]
+    fn a_dash_is_standard_input_or_output() {
+        let words = ["read", "-", "open", "-", "open", "a.job", "write", "-", "save", "-", "save", "a.job"];
+        let steps = parse(&words.map(String::from)).unwrap();
+        assert_eq!(steps.iter().map(Step::takes_input).collect::<Vec<_>>(), [true, true, false, false, false, false]);
+        assert_eq!(steps.iter().map(Step::fills_output).collect::<Vec<_>>(), [false, false, false, true, true, false]);
     }
 }

@@ -10,7 +10,7 @@ fn a_closed_pipe_ends_it_quietly() {
     let here = folder("closed");
     does(&here, &format!("{SHELL} draw 8 write a.ply"));
     let sheet = fs::read(here.join("a.ply")).unwrap();
-    for steps in ["--quiet read - display", "--quiet read - write -"] {
+    for steps in ["--quiet read - display", "--quiet read - write -", "--quiet read - save -"] {
         let mut child = piped(&here, steps);
         drop(child.stdout.take());
         child.stdin.take().unwrap().write_all(&sheet).unwrap();

@@ -31,10 +31,15 @@ fn reports_do_not_mix_with_a_sheet() {
 
 #[test]
 fn standard_input_and_output_hold_one_sheet_each() {
-    for wrong in ["read - read - display", &format!("{SHELL} draw 8 write - write -")] {
-        let run = run(wrong);
+    for (wrong, told) in [
+        ("read - read - display", "read - and read - do not go together; standard input holds one sheet"),
+        ("open - read - display", "open - and read - do not go together; standard input holds one sheet"),
+        ("draw 8 write - write -", "write - and write - do not go together; standard output takes one sheet"),
+        ("draw 8 save - write -", "save - and write - do not go together; standard output takes one sheet"),
+    ] {
+        let run = run(&format!("{SHELL} {wrong}"));
         assert_eq!((run.code, run.out.as_str()), (Some(2), ""), "{wrong}");
-        assert!(run.log.contains("- is there 2 times; standard "), "{}", run.log);
+        assert!(run.log.contains(told), "{}", run.log);
     }
 }
 

@@ -89,10 +89,11 @@ fn the_example_leaves_its_files_in_a_folder() {
     let here = folder("example");
     let run = run_in(&here, "example there/core");
     assert_eq!(run.code, Some(0), "{}", run.log);
-    assert!(run.out.ends_with("core.ply, core.svg and core.png are in there/core\n"));
-    for file in ["core.ply", "core.svg", "core.png"] {
-        assert!(here.join("there/core").join(file).is_file(), "{file}");
-    }
+    assert!(run.out.ends_with("core.ply, core.job, core.svg and core.png are in there/core\n"));
+    assert_eq!(names(&here.join("there/core")), ["core.job", "core.ply", "core.png", "core.svg"]);
+    let quality = |step: &str| prints(&format!("--ball 0 0 0 0 {step} quality"));
+    let file = |name: &str| here.join("there/core").join(name).display().to_string();
+    assert_eq!(quality(&format!("open {}", file("core.job"))), quality(&format!("read {}", file("core.ply"))));
     let picture = |file: &Path| std::fs::read_to_string(file).unwrap();
     let shown = Path::new(env!("CARGO_MANIFEST_DIR")).join("../../docs/core.svg");
     assert!(picture(&here.join("there/core/core.svg")) == picture(&shown), "docs/core.svg is not the example's");
@@ -106,6 +107,15 @@ fn help_is_no_folder_of_the_example() {
     }
     assert_eq!(run_in(&here, "example --quiet").code, Some(2));
     assert_eq!(names(&here), [""; 0]);
+}
+
+#[test]
+fn help_tells_all_refusals() {
+    let help = prints("--help");
+    let words: Vec<&str> = help.split("has a number and a word:").nth(1).unwrap().split_whitespace().collect();
+    let refusals: Vec<String> =
+        quads::Refusal::all().flat_map(|refusal| [refusal.number().to_string(), refusal.word().to_string()]).collect();
+    assert_eq!(words, refusals);
 }
 
 #[test]

@@ -13,10 +13,11 @@ fn limited(here: &Path, steps: &str) -> Run {
 #[test]
 fn a_write_that_fails_leaves_the_file_as_it_was() {
     let here = folder("fails");
-    does(&here, &format!("{SHELL} draw 8 write core.ply --size 16 picture core.png picture core.svg"));
+    does(&here, &format!("{SHELL} draw 8 write core.ply save core.job --size 16 picture core.png picture core.svg"));
     let files = names(&here);
     let bytes = |file: &str| fs::read(here.join(file)).unwrap();
-    for (step, file) in [("write", "core.ply"), ("picture", "core.png"), ("picture", "core.svg")] {
+    let steps = [("write", "core.ply"), ("save", "core.job"), ("picture", "core.png"), ("picture", "core.svg")];
+    for (step, file) in steps {
         let before = bytes(file);
         let run = limited(&here, &format!("read core.ply subdivide {step} {file}"));
         assert_eq!((run.code, run.out.as_str()), (Some(1), ""), "{}", run.log);
@@ -29,9 +30,11 @@ fn a_write_that_fails_leaves_the_file_as_it_was() {
 #[test]
 fn a_new_file_that_cannot_be_written_is_not_there() {
     let here = folder("stray");
-    let run = limited(&here, &format!("{SHELL} draw 16 write core.ply"));
-    assert_eq!(run.code, Some(1), "{}", run.log);
-    assert_eq!(names(&here), [""; 0]);
+    for step in ["write core.ply", "save core.job"] {
+        let run = limited(&here, &format!("{SHELL} draw 16 {step}"));
+        assert_eq!(run.code, Some(1), "{}", run.log);
+        assert_eq!(names(&here), [""; 0]);
+    }
 }
 
 #[test]

@@ -1,7 +1,8 @@
 //! The exports of the library, with slices in place of pointers and lengths. `include/quads.h` says what each one does.
 //!
 //! Every function here may be called with any slices, counts and numbers: the library is proved to test them, to read
-//! and write only what it is lent, and to end. Each returns 0, or the number of a refusal.
+//! and write only what it is lent, and to end. Each returns 0, or the number of a refusal. To save and to open a job,
+//! floats pass as their 64 bits.
 use crate::sheet::Counts;
 
 /// A sheet that is read: three lists and its counts.
@@ -62,12 +63,12 @@ pub struct WorkMut<'a> {
     pub floats: &'a mut [f64],
 }
 
-/// What an operation that makes or alters a sheet answers.
+/// What an operation that makes, alters or saves a sheet answers.
 #[derive(Clone, Copy, Debug, PartialEq, Eq)]
 pub struct Answer {
-    /// The swaps or merges; 0 where the operation counts none.
+    /// The swaps or merges, or the bytes of a saved file; 0 where the operation counts none.
     pub count: usize,
-    /// The sheet that was made or altered.
+    /// The sheet that was made, altered or saved.
     pub sheet: Counts,
 }
 
@@ -143,6 +144,16 @@ unsafe extern "C" {
         labels_len: usize, np: usize, nq: usize, nl: usize, kind: u32, numbers: *const f64, numbers_len: usize,
         bounds: *const f64, bounds_len: usize, lower: f64, upper: f64, work: *mut u32, work_len: usize,
         floats: *mut f64, floats_len: usize, page: *mut u8, page_len: usize,
+    ) -> u32;
+    fn quads_save_job(
+        header: *const f64, header_len: usize, points: *const f64, points_len: usize, quads: *const u32,
+        quads_len: usize, labels: *const u8, labels_len: usize, np: usize, nq: usize, nl: usize, file: *mut u8,
+        file_len: usize, answer: *mut u64, answer_len: usize,
+    ) -> u32;
+    fn quads_open_job(
+        file: *const u8, file_len: usize, header: *mut f64, header_len: usize, new_points: *mut f64,
+        new_points_len: usize, new_quads: *mut u32, new_quads_len: usize, new_labels: *mut u8, new_labels_len: usize,
+        answer: *mut u64, answer_len: usize,
     ) -> u32;
 }
 
@@ -238,6 +249,16 @@ pub fn corners_per_point(sheet: SheetRef, band: BandRef, work: WorkMut, answer: 
 /// `quads_page`.
 pub fn page(sheet: SheetRef, band: BandRef, work: WorkMut, page: &mut [u8]) -> u32 {
     call!(quads_page() sheet sheet; band band; work work; writes page;)
+}
+
+/// `quads_save_job`: the header is low x, y, z, high x, y, z, lower and upper level.
+pub fn save_job(header: &[f64], sheet: SheetRef, file: &mut [u8], answer: &mut [u64]) -> u32 {
+    call!(quads_save_job() reads header; sheet sheet; writes file; writes answer;)
+}
+
+/// `quads_open_job`: all of the file slice is the file.
+pub fn open_job(file: &[u8], header: &mut [f64], made: SheetOut, answer: &mut [u64]) -> u32 {
+    call!(quads_open_job() reads file; writes header; made made; writes answer;)
 }
 
 #[cfg(test)]

@@ -1,11 +1,11 @@
-//! Labelled quad sheets around a band of a scalar field: drawn, refined, cleaned up and measured.
+//! Labelled quad sheets around a band of a scalar field: drawn, refined, cleaned up, measured and saved.
 //!
 //! This is safe Rust over the static library `quads`, whose functions are proved to meet their contracts. The names
 //! are those of the library's operations. An operation that refuses returns [`Refused`], which says by its [`Refusal`]
 //! why and by its [`Cause`] where; a sheet that it was to alter is then as it came.
 //!
 //! ```
-//! use quads::{Band, Field, Sheet};
+//! use quads::{Band, Field, Job, Sheet};
 //!
 //! let band = Band {
 //!     field: Field::Ball { cx: 0.0, cy: 0.0, cz: 0.0, r: 0.0 },
@@ -22,15 +22,19 @@
 //! let corners = sheet.corners_per_point(&band)?;
 //! println!("{} corners per point, remainder {}", corners.quotient, corners.remainder);
 //! print!("{}", String::from_utf8_lossy(&sheet.page(&band)?));
+//! let file = Job::new(&band, sheet).save()?;
+//! println!("{} quads in {} bytes", Job::open(&file)?.sheet.quads.len(), file.len());
 //! # Ok::<(), quads::Refused>(())
 //! ```
 //!
-//! Who calls many operations keeps their work in a [`Workspace`], which has the same operations.
+//! Who calls many operations keeps their work in a [`Workspace`], which has the same operations. To save and to open a
+//! [`Job`] takes no work.
 #![warn(clippy::missing_errors_doc)]
 
 mod band;
 mod cause;
 pub mod ffi;
+mod job;
 mod label;
 mod look;
 mod operations;
@@ -43,7 +47,8 @@ pub mod sizes;
 mod workspace;
 
 pub use band::{Band, Field};
-pub use cause::{Cause, Miss, Origin};
+pub use cause::{Cause, Miss, Origin, Section, TrailerFault};
+pub use job::Job;
 pub use label::{Label, UnknownLabel};
 pub use quality::Quality;
 pub use ratio::Ratio;

@@ -12,12 +12,12 @@ use crate::sizes::{self, PAGE};
 use crate::workspace::Workspace;
 
 /// What a number of the library says: nothing for 0, else the refusal with what a look finds.
-fn accepted(number: u32, look: impl FnOnce(Refusal) -> Option<Cause>) -> Result<(), Refused> {
+pub(crate) fn accepted(number: u32, look: impl FnOnce(Refusal) -> Option<Cause>) -> Result<(), Refused> {
     refusal::accepted(number).map_err(|refusal| Refused::new(refusal, look(refusal)))
 }
 
 /// The sheet of an answer, out of the room in which it was made.
-fn made(mut sheet: Sheet, answer: [u64; 4]) -> Sheet {
+pub(crate) fn made(mut sheet: Sheet, answer: [u64; 4]) -> Sheet {
     sheet.truncate(Answer::from(answer).sheet);
     sheet
 }

@@ -33,7 +33,27 @@ pub enum Refusal {
     Large = 12,
     /// A slice that holds too little, or a result above the limit.
     Short = 13,
+    /// A job file that is too short, or whose trailer is not that of its parts.
+    Trailer = 14,
 }
+
+/// All refusals in the order of their numbers, which need not follow on one another.
+const ALL: [Refusal; 14] = [
+    Refusal::Box,
+    Refusal::Bottomless,
+    Refusal::Cells,
+    Refusal::Samples,
+    Refusal::Bare,
+    Refusal::Corner,
+    Refusal::Clash,
+    Refusal::Edge,
+    Refusal::Astray,
+    Refusal::Row,
+    Refusal::Normal,
+    Refusal::Large,
+    Refusal::Short,
+    Refusal::Trailer,
+];
 
 impl Refusal {
     /// Its number.
@@ -57,6 +77,7 @@ impl Refusal {
             Refusal::Normal => "normal",
             Refusal::Large => "large",
             Refusal::Short => "short",
+            Refusal::Trailer => "trailer",
         }
     }
 
@@ -78,6 +99,7 @@ impl Refusal {
             Refusal::Short => {
                 "the result would have more than 1,048,576 points or quads, or a lent slice is too short for it"
             }
+            Refusal::Trailer => "the file is too short for a job file, or its trailer does not fit it",
         }
     }
 
@@ -97,13 +119,15 @@ impl Refusal {
             Refusal::Astray => "draw with more cells, or clean the sheet up first",
             Refusal::Row => "draw with more cells, or refine first",
             Refusal::Normal => "move the levels away from where the field is flat",
-            Refusal::Large | Refusal::Short => "draw with fewer cells, or refine less often",
+            Refusal::Large => "use a smaller sheet: draw with fewer cells, or refine less often",
+            Refusal::Short => "draw with fewer cells, or refine less often",
+            Refusal::Trailer => "give a job file as it was saved, whole and unaltered",
         }
     }
 
     /// All refusals in the order of their numbers.
     pub fn all() -> impl Iterator<Item = Refusal> {
-        (1..).map_while(|number| Refusal::try_from(number).ok())
+        ALL.into_iter()
     }
 }
 
@@ -116,22 +140,7 @@ impl TryFrom<u32> for Refusal {
     ///
     /// A number that no refusal has.
     fn try_from(number: u32) -> Result<Refusal, UnknownRefusal> {
-        match number {
-            1 => Ok(Refusal::Box),
-            2 => Ok(Refusal::Bottomless),
-            3 => Ok(Refusal::Cells),
-            4 => Ok(Refusal::Samples),
-            5 => Ok(Refusal::Bare),
-            6 => Ok(Refusal::Corner),
-            7 => Ok(Refusal::Clash),
-            8 => Ok(Refusal::Edge),
-            9 => Ok(Refusal::Astray),
-            10 => Ok(Refusal::Row),
-            11 => Ok(Refusal::Normal),
-            12 => Ok(Refusal::Large),
-            13 => Ok(Refusal::Short),
-            _ => Err(UnknownRefusal(number)),
-        }
+        ALL.into_iter().find(|refusal| refusal.number() == number).ok_or(UnknownRefusal(number))
     }
 }
 
@@ -184,24 +193,28 @@ mod tests {
             "normal",
             "large",
             "short",
+            "trailer",
         ];
         assert_eq!(Refusal::all().map(Refusal::word).collect::<Vec<_>>(), words);
-        assert!(Refusal::all().map(Refusal::number).eq(1..=13));
+        assert!(Refusal::all().map(Refusal::number).eq(1..=14));
     }
 
     #[test]
     fn a_number_is_its_refusal() {
         assert_eq!(accepted(0), Ok(()));
         assert_eq!(accepted(7), Err(Refusal::Clash));
-        assert_eq!(accepted(13), Err(Refusal::Short));
+        assert_eq!(accepted(14), Err(Refusal::Trailer));
+        for refusal in Refusal::all() {
+            assert_eq!(Refusal::try_from(refusal.number()), Ok(refusal));
+        }
     }
 
     #[test]
     fn another_number_is_none() {
-        for number in [0, 14, u32::MAX] {
+        for number in [0, 15, u32::MAX] {
             assert_eq!(Refusal::try_from(number), Err(UnknownRefusal(number)));
         }
-        assert_eq!(UnknownRefusal(14).to_string(), "14 is the number of no refusal");
+        assert_eq!(UnknownRefusal(15).to_string(), "15 is the number of no refusal");
     }
 
     #[test]

@@ -1,5 +1,5 @@
-//! The sizes of what an operation is lent: its work, and room for the sheet or the page that it makes.
-//! `include/quads.h` has those of the work and of the page as macros.
+//! The sizes of what an operation is lent: its work, and room for the sheet, the page or the file that it makes.
+//! `include/quads.h` has those of the work, of the page and of a job file as macros.
 use crate::sheet::Counts;
 use std::ops::RangeInclusive;
 
@@ -8,6 +8,9 @@ pub const LIMIT: usize = 1_048_576;
 
 /// The bytes of a page: eight lines of 41.
 pub const PAGE: usize = 328;
+
+/// The most bytes of a job file, those of a sheet at the limit.
+pub const LARGEST_JOB: usize = 84 + (24 + 16 + 1) * LIMIT;
 
 /// The numbers of cells a side that a drawing may have.
 pub const CELLS: RangeInclusive<usize> = 4..=128;
@@ -65,6 +68,20 @@ pub fn drawn(cells: usize) -> Counts {
     at_most(4 * n, 3 * n)
 }
 
+/// The bytes of the job file of a sheet. One above the limit needs none: it is refused before anything is written.
+pub fn job_bytes(sheet: Counts) -> usize {
+    if sheet.largest() > LIMIT {
+        return 0;
+    }
+    84 + 24 * sheet.points + 16 * sheet.quads + sheet.labels
+}
+
+/// The most that the sheet of a job file of so many bytes has: a point takes 24 of them, a quad 16 and a label one.
+pub fn opened(bytes: usize) -> Counts {
+    let [points, quads, labels] = [24, 16, 1].map(|size| (bytes / size).min(LIMIT));
+    Counts { points, quads, labels }
+}
+
 #[cfg(test)]
 mod tests {
     use super::*;
@@ -87,7 +104,7 @@ mod tests {
             Counts { quads: usize::MAX, ..CUBE },
             Counts { labels: LIMIT + 1, ..CUBE },
         ] {
-            assert_eq!(sheet_work(large), WorkSize::default());
+            assert_eq!((sheet_work(large), job_bytes(large)), (WorkSize::default(), 0));
         }
         for cells in [0, 3, 129, usize::MAX] {
             assert_eq!((draw_work(cells), drawn(cells)), (WorkSize::default(), Counts::default()));
@@ -101,6 +118,15 @@ mod tests {
         assert_eq!(drawn(4), Counts { points: 864, quads: 648, labels: 648 });
         let largest = Counts { points: usize::MAX, quads: usize::MAX, labels: usize::MAX };
         let limits = Counts { points: LIMIT, quads: LIMIT, labels: LIMIT };
-        assert_eq!([finer(largest), with_rows(largest), drawn(128)], [limits; 3]);
+        assert_eq!([finer(largest), with_rows(largest), drawn(128), opened(usize::MAX)], [limits; 4]);
+    }
+
+    #[test]
+    fn a_job_file_has_its_bytes_and_room_for_its_sheet() {
+        assert_eq!((job_bytes(Counts::default()), job_bytes(CUBE)), (84, 378));
+        let most = Counts { points: LIMIT, quads: LIMIT, labels: LIMIT };
+        assert_eq!((job_bytes(most), opened(LARGEST_JOB)), (LARGEST_JOB, most));
+        assert_eq!(LARGEST_JOB, 42_991_700);
+        assert_eq!(opened(378), Counts { points: 15, quads: 23, labels: 378 });
     }
 }

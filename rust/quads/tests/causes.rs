@@ -3,10 +3,10 @@ mod common;
 #[path = "damaged/random.rs"]
 mod random;
 
-use common::{bowl, cube, edges, page_of, shell, unit_box};
-use quads::{Band, Cause, Field, Ratio, Refusal, Refused, Sheet, Workspace};
+use common::{bowl, cube, edges, file_of, page_of, shell, unit_box, with_number};
+use quads::{Band, Cause, Field, Job, Ratio, Refusal, Refused, Section, Sheet, TrailerFault, Workspace};
 use random::Random;
-use std::collections::BTreeMap;
+use std::collections::{BTreeMap, HashSet};
 
 /// Numbers that spoil a float.
 const FLOATS: [f64; 8] = [0.0, 0.5, -3.0, 1e-200, 1e200, 1.5e308, f64::NAN, f64::INFINITY];
@@ -135,6 +135,69 @@ fn a_page_is_refused_as_quality() {
         }
     }
     assert!(seen.into_keys().eq([1, 5, 6, 7, 11]));
+}
+
+/// Spoils the end of a job file: one or two numbers of its trailer, or its length.
+fn spoil_file(file: &mut Vec<u8>, random: &mut Random) {
+    match random.below(4) {
+        0 => file.truncate(random.below(file.len())),
+        1 => file.extend(vec![random.below(256) as u8; 1 + random.below(30)]),
+        _ => {
+            let place = random.below(5);
+            let steps = [0, 1, -1, 16, -16, 24, -24, 48, -48];
+            let near = steps.map(|step| number_of(file, place).wrapping_add_signed(step));
+            let far = [0, 20, 64, u32::MAX - 23, number_of(file, random.below(5))];
+            let number = if random.below(2) == 0 { random.pick(&near) } else { random.pick(&far) };
+            *file = with_number(file, place, number);
+        }
+    }
+}
+
+/// A number of the trailer of a file.
+fn number_of(file: &[u8], place: usize) -> u32 {
+    file[file.len() - 20 + 4 * place..].first_chunk().map(|bytes| u32::from_le_bytes(*bytes)).unwrap()
+}
+
+/// Whether what a cause says of a job file is so.
+fn is_so_of(fault: TrailerFault, file: &[u8]) -> bool {
+    let says = |place: usize, number: u32| number_of(file, place) == number;
+    let starts = |section: Section| section as usize;
+    match fault {
+        TrailerFault::Short(bytes) => bytes == file.len() && bytes < 84,
+        TrailerFault::Behind { end, bytes } => end + bytes == file.len() && Job::open(&file[..end]).is_ok(),
+        TrailerFault::Length(length) => says(4, length) && length != 20,
+        TrailerFault::Start(start) => says(0, start) && start != 64,
+        TrailerFault::Order { section, from, to } => {
+            to < from && says(starts(section), from) && says(starts(section) + 1, to)
+        }
+        TrailerFault::Part { section, bytes } => {
+            bytes % section.element() != 0 && says(starts(section) + 1, number_of(file, starts(section)) + bytes)
+        }
+        TrailerFault::End { start, bytes } => says(3, start) && bytes == file.len() && start as usize + 20 != bytes,
+        _ => false,
+    }
+}
+
+#[test]
+fn each_refusal_of_a_job_file_has_its_cause() {
+    let (mut random, mut opened, mut seen) = (Random(5), 0, HashSet::new());
+    let sheets = [Sheet::default(), cube(), Sheet::extract_candidate(&bowl(), 6).unwrap()];
+    for _ in 0..4000 {
+        let mut file = file_of(&Job::new(&bowl(), sheets[random.below(3)].clone()));
+        spoil_file(&mut file, &mut random);
+        match Job::open(&file).map_err(|refused| refused.cause()) {
+            Ok(job) => {
+                assert_eq!(file_of(&job), file);
+                opened += 1;
+            }
+            Err(Some(Cause::Trailer(fault))) => {
+                assert!(is_so_of(fault, &file), "{fault:?}: {file:?}");
+                seen.insert(std::mem::discriminant(&fault));
+            }
+            Err(other) => panic!("{other:?}: {file:?}"),
+        }
+    }
+    assert!(opened > 100 && seen.len() == 7, "{opened} opened, {} kinds of faults", seen.len());
 }
 
 #[test]

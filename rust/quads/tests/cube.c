@@ -1,7 +1,8 @@
-/* Refines the unit cube, measures it and two pillows at one point, gives corners per point, and prints the cube's page,
-   by include/quads.h. */
+/* Refines the unit cube, measures it and two pillows at one point, gives corners per point, prints the cube's page, and
+   saves and opens it, by include/quads.h. */
 #include <quads.h>
 #include <stdio.h>
+#include <string.h>
 
 #define COUNT(a) (sizeof(a) / sizeof *(a))
 
@@ -77,6 +78,39 @@ static uint32_t page(double side)
     return number;
 }
 
+/* The box from 0 to 1 and two levels, of which the upper is no number. */
+static const double header[8] = {0, 0, 0, 1, 1, 1, -1, 0.0 / 0.0};
+
+/* The cube's job file in front of some bytes more. */
+static uint8_t file[QUADS_JOB_BYTES(8, 6, 6) + 9];
+
+/* Saves the cube in the first bytes of the file slice: the bytes of its file. */
+static uint64_t save_job(size_t length)
+{
+    uint64_t answer[4];
+    uint32_t number = quads_save_job(header, COUNT(header), points, COUNT(points), quads, COUNT(quads),
+        labels, COUNT(labels), 8, 6, 6, file, length, answer, COUNT(answer));
+    printf("save %u: %llu bytes, %llu points, %llu quads, %llu labels\n", number, (unsigned long long)answer[0],
+        (unsigned long long)answer[1], (unsigned long long)answer[2], (unsigned long long)answer[3]);
+    return answer[0];
+}
+
+/* Opens the first bytes of the file slice: whether the cube and its header are there again, byte for byte. */
+static int open_job(size_t length)
+{
+    double opened[8], new_points[24];
+    uint32_t new_quads[24];
+    uint8_t new_labels[6];
+    uint64_t answer[4];
+    uint32_t number = quads_open_job(file, length, opened, COUNT(opened), new_points, COUNT(new_points),
+        new_quads, COUNT(new_quads), new_labels, COUNT(new_labels), answer, COUNT(answer));
+    int same = memcmp(opened, header, sizeof header) == 0 && memcmp(new_points, points, sizeof points) == 0
+        && memcmp(new_quads, quads, sizeof quads) == 0 && memcmp(new_labels, labels, sizeof labels) == 0;
+    printf("open %u: %llu points, %llu quads, %llu labels, %s\n", number, (unsigned long long)answer[1],
+        (unsigned long long)answer[2], (unsigned long long)answer[3], same ? "the same bytes" : "other bytes");
+    return same;
+}
+
 int main(void)
 {
     return !(refine() == QUADS_ACCEPTED && quality(8, quads, labels, 6, 1) == QUADS_ACCEPTED
@@ -84,5 +118,7 @@ int main(void)
         && corners(points, 8, quads, labels, 6, 1) == QUADS_ACCEPTED
         && corners(finer_points, 26, finer_quads, finer_labels, 24, 1) == QUADS_ACCEPTED
         && corners(points, 8, quads, labels, 6, -1) == QUADS_BOX && page(1) == QUADS_ACCEPTED
-        && page(-1) == QUADS_BOX);
+        && page(-1) == QUADS_BOX && save_job(QUADS_JOB_BYTES(8, 6, 6) - 1) == 0
+        && save_job(COUNT(file)) == QUADS_JOB_BYTES(8, 6, 6) && open_job(QUADS_JOB_BYTES(8, 6, 6))
+        && !open_job(COUNT(file)));
 }

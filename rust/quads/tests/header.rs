@@ -1,6 +1,6 @@
 //! The C header: it declares what the library exports and what the Rust crate calls, its numbers and sizes are those of
 //! the crate, and a small C program runs with it.
-use quads::sizes::{draw_work, sheet_work};
+use quads::sizes::{draw_work, job_bytes, sheet_work};
 use quads::{Counts, LIMIT, PAGE, Refusal};
 use std::collections::BTreeMap;
 use std::path::{Path, PathBuf};
@@ -42,12 +42,17 @@ fn from_c(text: &str) -> String {
     }
 }
 
-/// A parameter of the library's source in Rust: a slice passes as its pointer and its length.
+/// A parameter of the library's source in Rust: a slice passes as its pointer and its length. Floats that the library
+/// takes as their bits, to save and to open a job, are floats here.
 fn from_rattle(text: &str) -> String {
     let (name, kind) = text.split_once(": ").unwrap();
+    let element = |kind: &str| match (name, kind.trim_end_matches(']')) {
+        ("header" | "points" | "new_points", "u64") => "f64".to_string(),
+        (_, kind) => kind.to_string(),
+    };
     match (kind.strip_prefix("&["), kind.strip_prefix("&mut [")) {
-        (Some(kind), _) => format!("{name}: *const {}, {name}_len: usize", kind.trim_end_matches(']')),
-        (_, Some(kind)) => format!("{name}: *mut {}, {name}_len: usize", kind.trim_end_matches(']')),
+        (Some(kind), _) => format!("{name}: *const {}, {name}_len: usize", element(kind)),
+        (_, Some(kind)) => format!("{name}: *mut {}, {name}_len: usize", element(kind)),
         _ => text.to_string(),
     }
 }
@@ -55,7 +60,7 @@ fn from_rattle(text: &str) -> String {
 #[test]
 fn header_library_and_crate_declare_the_same() {
     let header = declared("include/quads.h", "uint32_t quads_", from_c);
-    assert_eq!(header.len(), 10);
+    assert_eq!(header.len(), 12);
     assert_eq!(header, declared("rust/quads/src/ffi.rs", "fn quads_", str::to_string));
     assert_eq!(header, declared("crates/quads/src/lib.rt", "extern \"C\" fn quads_", from_rattle));
 }
@@ -91,16 +96,19 @@ fn the_header_has_the_numbers_of_the_refusals() {
 #[test]
 fn the_header_has_the_sizes_of_the_crate() {
     let program = compiled("sizes");
-    for (points, quads, cells) in [(0, 0, 4), (1, 0, 5), (0, 1, 6), (8, 6, 17), (LIMIT, LIMIT, 128)] {
-        let printed = run(Command::new(&program).args([points, quads, cells].map(|n| n.to_string())));
-        let (lent, drawing) = (sheet_work(Counts { points, quads, labels: quads }), draw_work(cells));
-        let sizes = [lent.wholes, lent.floats, drawing.wholes, drawing.floats, LIMIT, PAGE].map(|n| n.to_string());
-        assert_eq!(printed.trim_end(), sizes.join(" "), "{points} points, {quads} quads, {cells} cells");
+    let counts = |points, quads, labels| Counts { points, quads, labels };
+    let sheets = [counts(0, 0, 0), counts(1, 0, 2), counts(0, 1, 0), counts(8, 6, 5), counts(LIMIT, LIMIT, LIMIT)];
+    for (sheet, cells) in sheets.into_iter().zip([4, 5, 6, 17, 128]) {
+        let words = [sheet.points, sheet.quads, sheet.labels, cells].map(|n| n.to_string());
+        let (lent, drawing, job) = (sheet_work(sheet), draw_work(cells), job_bytes(sheet));
+        let sizes = [lent.wholes, lent.floats, drawing.wholes, drawing.floats, job, LIMIT, PAGE];
+        let printed = run(Command::new(&program).args(&words));
+        assert_eq!(printed.trim_end(), sizes.map(|n| n.to_string()).join(" "), "{sheet:?}, {cells} cells");
     }
 }
 
 #[test]
-fn a_c_program_refines_and_measures() {
+fn a_c_program_refines_measures_and_saves() {
     let program = compiled("cube");
     assert_eq!(
         run(&mut Command::new(&program)),
@@ -120,6 +128,10 @@ fn a_c_program_refines_and_measures() {
          links                                  0\n\
          duplicates                             0\n\
          invalid                                0\n\
-         page 1:\n"
+         page 1:\n\
+         save 13: 0 bytes, 0 points, 0 quads, 0 labels\n\
+         save 0: 378 bytes, 8 points, 6 quads, 6 labels\n\
+         open 0: 8 points, 6 quads, 6 labels, the same bytes\n\
+         open 14: 0 points, 0 quads, 0 labels, other bytes\n"
     );
 }

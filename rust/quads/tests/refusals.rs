@@ -1,7 +1,7 @@
 //! Each refusal by the smallest sheet that shows it, with the text of its cause. A refusal leaves the sheet as it came.
 mod common;
-use common::{counts, cube, shell, unit_box};
-use quads::{Band, Cause, Field, LIMIT, Ratio, Refusal, Refused, Sheet};
+use common::{counts, cube, file_of, shell, unit_box, with_number};
+use quads::{Band, Cause, Field, Job, LIMIT, Ratio, Refusal, Refused, Sheet};
 
 /// A band of a ball around the middle of the unit box.
 fn ball() -> Band {
@@ -256,6 +256,9 @@ fn large_12() {
     let text = "it has 1048577 points, 1 quad and 0 labels";
     refused(&sheet, &unit_box(), Refusal::Large, text);
     told(sheet.refine(), Refusal::Large, text);
+    let job = Job::new(&unit_box(), sheet);
+    told(job.save(), Refusal::Large, text);
+    told(Job::open(&file_of(&job)), Refusal::Large, text);
 }
 
 #[test]
@@ -263,6 +266,31 @@ fn short_13_where_the_result_is_above_the_limit() {
     let n = LIMIT / 4 + 1;
     let sheet = Sheet { points: vec![[0.0; 3]; 4], quads: vec![[0, 1, 2, 3]; n], labels: vec![0; n] };
     told(sheet.refine(), Refusal::Short, "");
+}
+
+#[test]
+fn trailer_14() {
+    let file = Job::new(&unit_box(), cube()).save().unwrap();
+    let opened = |file: &[u8], cause: &str| told(Job::open(file), Refusal::Trailer, cause);
+    opened(&[], "the file has 0 bytes, and a job file has 84 or more");
+    opened(&file[..1], "the file has 1 byte, and a job file has 84 or more");
+    let refused = opened(&file[..83], "the file has 83 bytes, and a job file has 84 or more");
+    assert_eq!(refused.advice(), "give a job file as it was saved, whole and unaltered");
+    let behind = opened(&[&file[..], &[0; 2]].concat(), "a job file ends at byte 378, and 2 bytes are behind it");
+    assert_eq!(behind.advice(), "take away the bytes behind the trailer");
+    opened(&[&file[..], &[0]].concat(), "a job file ends at byte 378, and 1 byte is behind it");
+    for (place, number, cause) in [
+        (4, 28, "its last number, the length of the trailer, is 28 and not 20"),
+        (0, 0, "its points start at byte 0 and not at byte 64"),
+        (1, 40, "its quads start at byte 40, before the points at byte 64"),
+        (1, 257, "its points take 193 bytes, which is no multiple of 24"),
+        (2, 255, "its labels start at byte 255, before the quads at byte 256"),
+        (2, 257, "its quads take 1 byte, which is no multiple of 16"),
+        (3, 351, "its trailer starts at byte 351, before the labels at byte 352"),
+        (3, 360, "its trailer is said to start at byte 360, and the last 20 bytes start at byte 358"),
+    ] {
+        opened(&with_number(&file, place, number), cause);
+    }
 }
 
 #[test]

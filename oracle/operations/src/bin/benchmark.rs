@@ -2,11 +2,14 @@
 //! process; then the library's on hostile sheets, in which one point has almost all the quads. Each figure is the
 //! best of several runs, taken in turns; growth is the library's time over that at half as many cells or quads. The
 //! original is timed by its own operation alone. It has no corners per point and no page: its figures there are those
-//! of its tests and of its `quality`, each with the oracle's model.
+//! of its tests and of its `quality`, each with the oracle's model. It saves and opens no jobs: its figures there are
+//! those of the oracle's writer and reader.
+use operations::jobs::JobLent;
 use operations::library::{self, Lent};
 use oracle::bands::UNIT;
 use oracle::call::{self, Call, original};
 use oracle::field::{BandNumbers, Field};
+use oracle::job;
 use oracle::operation::Operation;
 use oracle::quads::{self, QuadMesh};
 use oracle::{arguments, sheets};
@@ -15,7 +18,7 @@ use std::process::ExitCode;
 use std::time::Instant;
 
 /// The operations on a sheet that are timed, each with its number of passes.
-const OPERATIONS: [(Operation, u64); 9] = [
+const OPERATIONS: [(Operation, u64); 11] = [
     (Operation::Refine, 0),
     (Operation::Subdivide, 0),
     (Operation::Regularize, 1),
@@ -25,7 +28,33 @@ const OPERATIONS: [(Operation, u64); 9] = [
     (Operation::Quality, 0),
     (Operation::Page, 0),
     (Operation::Corners, 0),
+    (Operation::Save, 0),
+    (Operation::Open, 0),
 ];
+
+/// The call of an operation on a sheet; of one that saves or opens, with room for all.
+fn call_on((operation, argument): (Operation, u64), band: &BandNumbers, sheet: &QuadMesh) -> Call {
+    let counts = job::counts(sheet);
+    let lent = |argument| Call { operation, argument, band: *band, sheet: sheet.clone() };
+    match operation {
+        Operation::Save => lent(job::bytes(counts) as u64),
+        Operation::Open => {
+            job::open(job::file_of(&job::header(band), sheet), counts.into_iter().fold(1, usize::max) as u64)
+        }
+        _ => lent(argument),
+    }
+}
+
+/// The time of a call of the library in milliseconds, and its number.
+fn timed(call: &Call) -> (f64, Option<u32>) {
+    let mut number = None;
+    if call.operation.is_of_a_job() {
+        let mut lent = JobLent::of(call);
+        return (milliseconds(|| number = Some(lent.run(call.operation))), number);
+    }
+    let mut lent = Lent::of(call);
+    (milliseconds(|| number = lent.run(call.operation)), number)
+}
 
 /// A shell, and a shell that the box cuts.
 const BANDS: [(&str, BandNumbers); 2] = [
@@ -76,8 +105,7 @@ fn best(call: &Call, with_original: bool) -> (f64, Option<f64>) {
     let (mut ours, mut theirs, mut total) = (f64::INFINITY, None::<f64>, 0.0);
     let mut turns = 0;
     while turns == 0 || (turns < 40 && total < 2000.0) {
-        let mut lent = Lent::of(call);
-        let time = milliseconds(|| lent.run(call.operation));
+        let (time, _) = timed(call);
         (ours, total) = (ours.min(time), total + time);
         if with_original {
             let mut sheet = call.sheet.clone();
@@ -101,9 +129,8 @@ fn growth(time: f64, before: Option<&f64>) -> String {
 
 /// The calls on a drawn sheet, and the drawing itself.
 fn calls(cells: usize, band: &BandNumbers, sheet: &QuadMesh) -> Vec<Call> {
-    let on = |(operation, argument)| Call { operation, argument, band: *band, sheet: sheet.clone() };
     let drawing = Call { operation: Operation::Extract, argument: cells as u64, band: *band, sheet: sheets::empty() };
-    std::iter::once(drawing).chain(OPERATIONS.map(on)).collect()
+    std::iter::once(drawing).chain(OPERATIONS.map(|operation| call_on(operation, band, sheet))).collect()
 }
 
 /// A line for each operation on a drawn sheet, with a word if the answers differ; the library's times for the next
@@ -142,16 +169,16 @@ fn table(cells: usize) {
 /// A line for each operation on a hostile sheet, with the number of its answer; the library's times for the next
 /// doubling.
 fn hostile_lines(name: &str, sheet: &QuadMesh, before: &[f64]) -> Vec<f64> {
-    let time = |(i, &(operation, argument)): (usize, &(Operation, u64))| {
-        let call = Call { operation, argument, band: UNIT, sheet: sheet.clone() };
-        let number = Lent::of(&call).run(operation).map_or(String::new(), |number| number.to_string());
+    let time = |(i, &operation): (usize, &(Operation, u64))| {
+        let call = call_on(operation, &UNIT, sheet);
+        let number = timed(&call).1.map_or(String::new(), |number| number.to_string());
         let (ours, _) = best(&call, false);
         let growth = growth(ours, before.get(i));
         println!(
             "| {name} | {} | {} | {} | {number} | {ours:.2} | {growth} |",
             sheet.points.len(),
             sheet.quads.len(),
-            operation.name()
+            call.operation.name()
         );
         ours
     };

@@ -1,7 +1,9 @@
 //! operations [CALLS] [SEED] [OPERATION]: the library's operations and the original on the same random sheets, every
 //! bit compared: single calls, lists of calls on one sheet, and drawings; with the name of an operation, single calls
-//! of it alone. The library's result and work slices are filled before, and must hold the result and zeros after.
+//! of it alone. The library's result and work slices are filled before, and must hold the result and zeros after. Saved
+//! and opened jobs are compared with a second writer and a second reader.
 use operations::faults::Faults;
+use operations::job_faults::{self, JobFaults};
 use operations::{draws, lists};
 use oracle::arguments;
 use oracle::driver::{self, Shares, Total};
@@ -9,17 +11,22 @@ use oracle::operation::Operation;
 use std::process::ExitCode;
 
 /// The operations that are compared by single calls, each with its share of 100 calls.
-const SHARES: [(Operation, u64); 9] = [
+const SHARES: [(Operation, u64); 11] = [
     (Operation::Refine, 5),
-    (Operation::Subdivide, 16),
-    (Operation::Regularize, 11),
-    (Operation::ImproveLayout, 11),
-    (Operation::Coarsen, 12),
-    (Operation::Rows, 7),
-    (Operation::Quality, 12),
-    (Operation::Corners, 6),
-    (Operation::Page, 6),
+    (Operation::Subdivide, 14),
+    (Operation::Regularize, 10),
+    (Operation::ImproveLayout, 10),
+    (Operation::Coarsen, 11),
+    (Operation::Rows, 6),
+    (Operation::Quality, 10),
+    (Operation::Corners, 5),
+    (Operation::Page, 5),
+    (Operation::Save, 5),
+    (Operation::Open, 5),
 ];
+
+/// How many calls a run has at least in which jobs at the limit are saved and opened too.
+const LONG: u64 = 1000;
 
 /// The shares of the calls in lists, and of the drawings with their rows.
 const IN_LISTS: u64 = 12;
@@ -61,9 +68,16 @@ fn named(name: &str) -> Result<Operation, String> {
 
 /// Compares single calls, some of them with faults of lending; prints a line for each operation and one for the faults.
 fn single_calls(shares: &Shares, calls: u64, seed: u64) -> Total {
-    let mut faults = Faults::new(seed);
-    let total = driver::single_calls(shares, calls, seed, |call| faults.ask(call));
+    let (mut faults, mut job_faults) = (Faults::new(seed), JobFaults::new(seed));
+    let mut total = driver::single_calls(shares, calls, seed, |call| match call.operation.is_of_a_job() {
+        true => job_faults.ask(call),
+        false => faults.ask(call),
+    });
     faults.print();
+    job_faults.print();
+    if calls >= LONG && shares.iter().any(|share| share.0.is_of_a_job()) {
+        total += job_faults::at_the_limit();
+    }
     total
 }
 
@@ -91,6 +105,7 @@ mod tests {
     fn operations_are_found_by_their_names() {
         assert_eq!(named("corners_per_point"), Ok(Operation::Corners));
         assert_eq!(named("page"), Ok(Operation::Page));
+        assert_eq!([named("save"), named("open")], [Ok(Operation::Save), Ok(Operation::Open)]);
         assert_eq!(named("extract_candidate"), Ok(Operation::Extract));
         for wrong in ["corners", "sqrt", "8", ""] {
             assert_eq!(named(wrong), Err(format!("{wrong} is no operation")));

@@ -160,6 +160,8 @@ pub enum Cause {
     },
     /// 12: what the sheet has.
     Large(Counts),
+    /// 14: what is wrong with a job file.
+    Trailer(TrailerFault),
 }
 
 /// A point of the finer sheet, by what it comes from.
@@ -184,6 +186,70 @@ pub enum Miss {
     Box,
 }
 
+/// What is wrong with a job file: its length, or what its trailer says. Bytes are numbered from 0.
+#[derive(Clone, Copy, Debug, PartialEq, Eq)]
+#[non_exhaustive]
+pub enum TrailerFault {
+    /// The file has so many bytes, too few for the 64 in front of the points and a trailer.
+    Short(usize),
+    /// A good trailer does not end the file.
+    Behind {
+        /// Where the trailer ends.
+        end: usize,
+        /// How many bytes are behind it.
+        bytes: usize,
+    },
+    /// The last number, the length of the trailer, is this one and not 20.
+    Length(u32),
+    /// The points start here and not at 64.
+    Start(u32),
+    /// What stands behind a section starts before it.
+    Order {
+        /// Which section.
+        section: Section,
+        /// Where it starts.
+        from: u32,
+        /// Where what stands behind it starts.
+        to: u32,
+    },
+    /// A section that ends within an element.
+    Part {
+        /// Which section.
+        section: Section,
+        /// How many bytes it has.
+        bytes: u32,
+    },
+    /// The trailer is not where it is said to start, 20 bytes before the end.
+    End {
+        /// Where it is said to start.
+        start: u32,
+        /// How many bytes the file has.
+        bytes: usize,
+    },
+}
+
+/// A section of a job file.
+#[derive(Clone, Copy, Debug, PartialEq, Eq)]
+pub enum Section {
+    /// The points.
+    Points,
+    /// The quads.
+    Quads,
+    /// The labels.
+    Labels,
+}
+
+impl Section {
+    /// The bytes of one element.
+    pub fn element(self) -> u32 {
+        match self {
+            Section::Points => 24,
+            Section::Quads => 16,
+            Section::Labels => 1,
+        }
+    }
+}
+
 impl Cause {
     /// The refusal that it is a cause of.
     pub fn refusal(&self) -> Refusal {
@@ -201,6 +267,7 @@ impl Cause {
             Cause::Row { .. } => Refusal::Row,
             Cause::Normal { .. } => Refusal::Normal,
             Cause::Large(_) => Refusal::Large,
+            Cause::Trailer(_) => Refusal::Trailer,
         }
     }
 
@@ -228,6 +295,7 @@ impl Cause {
                 Some("move the levels away from where the field is flat, or give finite numbers for the field")
             }
             Cause::Astray { .. } => Some("give the band around which the sheet was drawn, or draw with more cells"),
+            Cause::Trailer(TrailerFault::Behind { .. }) => Some("take away the bytes behind the trailer"),
             _ => None,
         }
     }

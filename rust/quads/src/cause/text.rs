@@ -1,5 +1,5 @@
 //! The texts of the causes.
-use super::{Cause, Miss, Origin};
+use super::{Cause, Miss, Origin, Section, TrailerFault};
 use crate::label::Label;
 use crate::sheet::Counts;
 use std::fmt;
@@ -45,7 +45,57 @@ impl fmt::Display for Cause {
                 write!(f, "at the centre of quad {quad} the gradient is {}", At(gradient))
             }
             Cause::Large(counts) => f.write_str(&large(counts)),
+            Cause::Trailer(fault) => fault.fmt(f),
         }
+    }
+}
+
+/// What the file or its trailer has, and what a job file has.
+impl fmt::Display for TrailerFault {
+    fn fmt(&self, f: &mut fmt::Formatter<'_>) -> fmt::Result {
+        match *self {
+            TrailerFault::Short(bytes) => {
+                write!(f, "the file has {}, and a job file has 84 or more", Of(bytes, "byte"))
+            }
+            TrailerFault::Behind { end, bytes } => {
+                write!(f, "a job file ends at byte {end}, and {} behind it", Are(bytes, "byte"))
+            }
+            TrailerFault::Length(length) => {
+                write!(f, "its last number, the length of the trailer, is {length} and not 20")
+            }
+            TrailerFault::Start(start) => write!(f, "its points start at byte {start} and not at byte 64"),
+            TrailerFault::Order { section, from, to } => {
+                write!(f, "{} at byte {to}, before the {section} at byte {from}", behind(section))
+            }
+            TrailerFault::Part { section, bytes } => {
+                let size = section.element();
+                write!(f, "its {section} take {}, which is no multiple of {size}", Of(bytes as usize, "byte"))
+            }
+            TrailerFault::End { start, bytes } => {
+                let end = bytes.saturating_sub(20);
+                write!(f, "its trailer is said to start at byte {start}, and the last 20 bytes start at byte {end}")
+            }
+        }
+    }
+}
+
+/// Its name.
+impl fmt::Display for Section {
+    fn fmt(&self, f: &mut fmt::Formatter<'_>) -> fmt::Result {
+        f.write_str(match self {
+            Section::Points => "points",
+            Section::Quads => "quads",
+            Section::Labels => "labels",
+        })
+    }
+}
+
+/// What stands behind a section, and that it starts.
+fn behind(section: Section) -> &'static str {
+    match section {
+        Section::Points => "its quads start",
+        Section::Quads => "its labels start",
+        Section::Labels => "its trailer starts",
     }
 }
 
@@ -73,6 +123,15 @@ struct Of(usize, &'static str);
 impl fmt::Display for Of {
     fn fmt(&self, f: &mut fmt::Formatter<'_>) -> fmt::Result {
         write!(f, "{} {}{}", self.0, self.1, if self.0 == 1 { "" } else { "s" })
+    }
+}
+
+/// That so many things are somewhere.
+struct Are(usize, &'static str);
+
+impl fmt::Display for Are {
+    fn fmt(&self, f: &mut fmt::Formatter<'_>) -> fmt::Result {
+        write!(f, "{} {}", Of(self.0, self.1), if self.0 == 1 { "is" } else { "are" })
     }
 }
 

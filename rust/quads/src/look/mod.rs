@@ -5,6 +5,7 @@ mod band;
 mod cells;
 mod finer;
 mod grid;
+mod job;
 mod normals;
 mod rows;
 mod sheet;
@@ -31,6 +32,20 @@ pub(crate) fn refining(refusal: Refusal, sheet: &Sheet) -> Option<Cause> {
         Refusal::Large => Some(Cause::Large(sheet.counts())),
         Refusal::Bare => sheet::labels(sheet),
         Refusal::Corner => sheet::range(sheet),
+        _ => None,
+    }
+}
+
+/// Why saving refused a sheet.
+pub(crate) fn saving(refusal: Refusal, sheet: &Sheet) -> Option<Cause> {
+    (refusal == Refusal::Large).then(|| Cause::Large(sheet.counts()))
+}
+
+/// Why opening refused a file.
+pub(crate) fn opening(refusal: Refusal, file: &[u8]) -> Option<Cause> {
+    match refusal {
+        Refusal::Trailer => job::trailer(file),
+        Refusal::Large => job::large(file),
         _ => None,
     }
 }

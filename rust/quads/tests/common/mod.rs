@@ -1,6 +1,6 @@
 //! The sheets and bands of the tests.
 #![allow(dead_code, reason = "no test uses all of them")]
-use quads::{Band, Counts, Field, Quality, Sheet};
+use quads::{Band, Counts, Field, Job, Quality, Sheet};
 use std::collections::BTreeMap;
 
 /// The counts of a sheet with one label a quad.
@@ -60,6 +60,29 @@ pub fn bowl() -> Band {
 pub fn page_of(quality: &Quality) -> String {
     let names = ["quads", "irregular", "boundary", "nonmanifold", "orientation", "links", "duplicates", "invalid"];
     names.iter().zip(quality.counts()).map(|(name, count)| format!("{name:<24}{count:>16}\n")).collect()
+}
+
+/// The file of a job, by Rust's own bytes of numbers.
+pub fn file_of(job: &Job) -> Vec<u8> {
+    let Job { low, high, lower, upper, sheet } = job;
+    let header = [&low[..], &high[..], &[*lower, *upper]].concat();
+    let mut file: Vec<u8> = header.iter().flat_map(|x| x.to_le_bytes()).collect();
+    let mut trailer = vec![file.len()];
+    file.extend(sheet.points.as_flattened().iter().flat_map(|x| x.to_le_bytes()));
+    trailer.push(file.len());
+    file.extend(sheet.quads.as_flattened().iter().flat_map(|corner| corner.to_le_bytes()));
+    trailer.push(file.len());
+    file.extend(&sheet.labels);
+    trailer.extend([file.len(), 20]);
+    file.extend(trailer.into_iter().flat_map(|n| u32::try_from(n).unwrap().to_le_bytes()));
+    file
+}
+
+/// A file with another number in its trailer, of which the first is number 0.
+pub fn with_number(file: &[u8], place: usize, number: u32) -> Vec<u8> {
+    let (mut file, at) = (file.to_vec(), file.len() - 20 + 4 * place);
+    file[at..at + 4].copy_from_slice(&number.to_le_bytes());
+    file
 }
 
 /// The quads at each edge.

@@ -1,8 +1,9 @@
 //! One call of the face, between margins, and what it must leave.
 use crate::guarded::{Bits, Guarded, is_zero, same};
 use crate::inputs::Input;
+use crate::lent_job::{JobLent, job_file};
 use quads::ffi::{self, Answer, BandRef, SheetMut, SheetOut, SheetRef, WorkMut};
-use quads::{Counts, PAGE};
+use quads::{Counts, PAGE, Refusal};
 
 /// The operations.
 #[derive(Clone, Copy, Debug, PartialEq, Eq, PartialOrd, Ord)]
@@ -17,10 +18,12 @@ pub enum Operation {
     Quality,
     Corners,
     Page,
+    Save,
+    Open,
 }
 
 /// All of them.
-pub const OPERATIONS: [Operation; 10] = [
+pub const OPERATIONS: [Operation; 12] = [
     Operation::Extract,
     Operation::Refine,
     Operation::Subdivide,
@@ -31,12 +34,15 @@ pub const OPERATIONS: [Operation; 10] = [
     Operation::Quality,
     Operation::Corners,
     Operation::Page,
+    Operation::Save,
+    Operation::Open,
 ];
 
 impl Operation {
     /// Whether it makes a new sheet.
     pub fn makes(self) -> bool {
-        matches!(self, Operation::Extract | Operation::Refine | Operation::Subdivide | Operation::Rows)
+        let makes_of_a_sheet = matches!(self, Operation::Refine | Operation::Subdivide | Operation::Rows);
+        makes_of_a_sheet || matches!(self, Operation::Extract | Operation::Open)
     }
 
     /// Whether it alters the lent quads.
@@ -44,14 +50,19 @@ impl Operation {
         matches!(self, Operation::Regularize | Operation::ImproveLayout | Operation::Coarsen)
     }
 
-    /// Whether it measures the lent sheet, and neither makes nor alters one.
-    fn measures(self) -> bool {
-        matches!(self, Operation::Quality | Operation::Corners | Operation::Page)
+    /// Whether it measures or saves the lent sheet, and neither makes nor alters one.
+    fn only_reads(self) -> bool {
+        matches!(self, Operation::Quality | Operation::Corners | Operation::Page | Operation::Save)
+    }
+
+    /// Whether it saves or opens a job, and takes neither a band nor work.
+    pub fn is_of_a_job(self) -> bool {
+        matches!(self, Operation::Save | Operation::Open)
     }
 
     /// Whether it takes a band.
-    fn takes_band(self) -> bool {
-        self != Operation::Refine
+    pub fn takes_band(self) -> bool {
+        self != Operation::Refine && !self.is_of_a_job()
     }
 
     /// How many elements of the answer it writes.
@@ -81,6 +92,7 @@ pub struct Lent {
     pub answer: Guarded<u64>,
     pub measures: Guarded<f64>,
     pub page: Guarded<u8>,
+    pub job: JobLent,
 }
 
 impl Lent {
@@ -100,6 +112,7 @@ impl Lent {
             answer: Guarded::new(&input.answer, margin),
             measures: Guarded::new(&input.measures, margin),
             page: Guarded::new(&input.page, margin),
+            job: JobLent::of(input, margin),
         }
     }
 
@@ -121,6 +134,8 @@ impl Lent {
             Operation::Quality => ffi::quality(read, band, work, answer, self.measures.list_mut()),
             Operation::Corners => ffi::corners_per_point(read, band, work, answer),
             Operation::Page => ffi::page(read, band, work, self.page.list_mut()),
+            Operation::Save => ffi::save_job(self.job.header.list(), read, self.job.file.list_mut(), answer),
+            Operation::Open => ffi::open_job(self.job.saved.list(), self.job.new_header.list_mut(), made, answer),
             Operation::Regularize => {
                 ffi::regularize(SheetMut { points, quads, labels, counts }, band, argument, work, answer)
             }
@@ -144,19 +159,22 @@ impl Lent {
             && same(self.answer.list(), other.answer.list())
             && same(self.measures.list(), other.measures.list())
             && same(self.page.list(), other.page.list())
+            && self.job.same(&other.job)
     }
 
     /// What a call that ended with this number broke of its promise.
     pub fn broken(&self, before: &Lent, operation: Operation, number: u32) -> Vec<&'static str> {
         let accepted = number == 0;
         let checks = [
-            (number <= 13, "the number is none of the table"),
+            (accepted || Refusal::try_from(number).is_ok(), "the number is none of the table"),
             (self.is_intact(), "something is written outside of the slices"),
             (self.reads_stay(before, operation, accepted), "something that is only read is changed"),
-            (is_zero(self.work.list()) && is_zero(self.floats.list()), "the work slices are not zero"),
+            (self.work_fits(before, operation), "the work slices are not zero, or not as they came"),
             (self.answers_fit(before, operation, accepted), "the answer is not as promised"),
             (operation != Operation::Page || self.page_fits(accepted), "the page is not as promised"),
-            (!accepted || operation.measures() || self.sheet_fits(operation), "the sheet has something behind it"),
+            (operation != Operation::Save || self.save_fits(accepted), "the file is not as promised"),
+            (operation != Operation::Open || self.open_fits(accepted), "the job is not as promised"),
+            (!accepted || operation.only_reads() || self.sheet_fits(operation), "the sheet has something behind it"),
             (accepted || !operation.makes() || self.made_is_zero(), "a refusal leaves something"),
             (self.short_is_told(operation, number), "a slice that is too short is not refused in its place"),
         ];
@@ -170,6 +188,15 @@ impl Lent {
             && [&self.quads, &self.new_quads, &self.work].iter().all(|list| list.is_intact())
             && [&self.labels, &self.new_labels, &self.page].iter().all(|list| list.is_intact())
             && self.answer.is_intact()
+            && self.job.is_intact()
+    }
+
+    /// Whether the work slices are zero; those of an operation that takes none are as they came.
+    fn work_fits(&self, before: &Lent, operation: Operation) -> bool {
+        if operation.is_of_a_job() {
+            return same(self.work.list(), before.work.list()) && same(self.floats.list(), before.floats.list());
+        }
+        is_zero(self.work.list()) && is_zero(self.floats.list())
     }
 
     /// Whether everything that the operation does not write, or was refused to, is as it was.
@@ -189,19 +216,22 @@ impl Lent {
             && (operation.makes() || stays(&self.new_labels, &before.new_labels))
             && (operation == Operation::Quality || stays(&self.measures, &before.measures))
             && (operation == Operation::Page || stays(&self.page, &before.page))
+            && self.job.reads_stay(&before.job, operation)
     }
 
-    /// Whether a short list is refused in its place: a band's with nothing before it but 12, an answer's and a page so
-    /// too, but where a sheet is drawn also behind 1, 2 and 3.
+    /// Whether a short list is refused in its place: a band's with nothing before it but 12, an answer's, a page, a
+    /// header and a file so too, but where a sheet is drawn also behind 1, 2 and 3, where a job is opened behind 14.
     fn short_is_told(&self, operation: Operation, number: u32) -> bool {
         let draws = operation == Operation::Extract;
         let band = operation.takes_band() && (self.numbers.list().len() < 10 || self.bounds.list().len() < 6);
         let measures = operation == Operation::Quality && self.measures.list().len() < 4;
         let page = operation == Operation::Page && self.page.list().len() < PAGE;
-        let mute = self.answer.list().len() < operation.answers() || measures || page;
+        let job = self.job.is_short(operation);
+        let mute = self.answer.list().len() < operation.answers() || measures || page || job;
         match (band, mute) {
             (true, _) if draws => number == 13,
             (_, true) if draws => matches!(number, 1 | 2 | 3 | 13),
+            (_, true) if operation == Operation::Open => matches!(number, 12..=14),
             (true, _) | (_, true) => matches!(number, 12 | 13),
             (false, false) => true,
         }
@@ -231,13 +261,40 @@ impl Lent {
         }
     }
 
+    /// Whether the file of the lent job is in front of its slice with zeros behind it, and the answer tells it; after a
+    /// refusal, whether all of the slice is zero.
+    fn save_fits(&self, accepted: bool) -> bool {
+        if !accepted {
+            return is_zero(self.job.file.list());
+        }
+        let counts = self.job.counts;
+        let file = job_file(&self.job.header, (&self.points, &self.quads, &self.labels), counts).unwrap_or_default();
+        let Some((saved, behind)) = self.job.file.list().split_at_checked(file.len()) else { return false };
+        saved == file && is_zero(behind) && self.told() == Some(Answer { count: file.len(), sheet: counts })
+    }
+
+    /// Whether what was opened is, laid out again, the file that was lent, with zeros behind the header; after a
+    /// refusal, whether all of the header is zero.
+    fn open_fits(&self, accepted: bool) -> bool {
+        let header = &self.job.new_header;
+        let Some(Answer { count: 0, sheet }) = self.told().filter(|_| accepted) else {
+            return !accepted && is_zero(header.list());
+        };
+        let file = job_file(header, (&self.new_points, &self.new_quads, &self.new_labels), sheet);
+        file.as_deref() == Some(self.job.saved.list()) && is_zero(&header.list()[8..])
+    }
+
+    /// What the answer slice tells; none of one that is too short.
+    fn told(&self) -> Option<Answer> {
+        self.answer.list().first_chunk().map(|&answer: &[u64; 4]| answer.into())
+    }
+
     /// Whether the sheet that was made or altered fits into its slices, with zeros behind it.
     fn sheet_fits(&self, operation: Operation) -> bool {
         fn ends<T: Bits>(list: &[T], length: usize) -> bool {
             list.get(length..).is_some_and(is_zero)
         }
-        let Some(&answer) = self.answer.list().first_chunk() else { return false };
-        let Counts { points, quads, labels } = Answer::from(answer).sheet;
+        let Some(Answer { sheet: Counts { points, quads, labels }, .. }) = self.told() else { return false };
         let fits = |in_points: &[f64], in_quads: &[u32], in_labels: &[u8]| {
             ends(in_points, 3 * points) && ends(in_quads, 4 * quads) && ends(in_labels, labels)
         };

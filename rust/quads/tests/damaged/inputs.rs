@@ -1,7 +1,7 @@
 //! Calls that are right, and the damage done to them.
-use crate::common::{bowl, cube, shell, unit_box};
+use crate::common::{bowl, cube, file_of, shell, unit_box, with_number};
 use crate::random::Random;
-use quads::{Band, Counts, Field, LIMIT, PAGE, Sheet, sizes};
+use quads::{Band, Counts, Field, Job, LIMIT, PAGE, Sheet, sizes};
 
 /// Everything that a call may be lent.
 #[derive(Clone)]
@@ -25,6 +25,12 @@ pub struct Input {
     pub answer: Vec<u64>,
     pub measures: Vec<f64>,
     pub page: Vec<u8>,
+    /// The header of a job that is saved, and where its file goes.
+    pub header: Vec<f64>,
+    pub file: Vec<u8>,
+    /// A job file that is opened, and where its header goes.
+    pub saved: Vec<u8>,
+    pub new_header: Vec<f64>,
 }
 
 /// Sheets with their bands, from which the calls start.
@@ -73,6 +79,10 @@ pub fn right(random: &mut Random, (sheet, band): &(Sheet, Band), draws: bool) ->
         answer: vec![u64::MAX; 10],
         measures: vec![f64::NAN; 4],
         page: vec![255; PAGE],
+        header: [&band.low[..], &band.high, &[band.lower, band.upper]].concat(),
+        file: vec![255; sizes::job_bytes(counts)],
+        saved: file_of(&Job::new(band, sheet.clone())),
+        new_header: vec![f64::NAN; 8],
     }
 }
 
@@ -103,11 +113,33 @@ fn poke<T: Copy>(random: &mut Random, list: &mut [T], value: T) {
     }
 }
 
+/// Damages one length or one number of a job.
+fn damage_job(random: &mut Random, input: &mut Input) {
+    let x = extreme(random);
+    match random.below(8) {
+        0 => stretch(random, &mut input.header, 1.0),
+        1 => stretch(random, &mut input.file, 255),
+        2 => stretch(random, &mut input.saved, 0),
+        3 => stretch(random, &mut input.new_header, f64::NAN),
+        4 => poke(random, &mut input.header, f64::from_bits(x.to_bits() ^ 0xdead_beef)),
+        5 => poke(random, &mut input.saved, (x.to_bits() >> 56) as u8),
+        _ => damage_trailer(random, &mut input.saved),
+    }
+}
+
+/// Another number in the trailer of a file that has one.
+fn damage_trailer(random: &mut Random, file: &mut Vec<u8>) {
+    let words = [0, 16, 19, 20, 21, 24, 28, 63, 64, 65, 88, 256, u32::MAX - 23, u32::MAX];
+    if file.len() >= 20 {
+        *file = with_number(file, random.below(5), random.pick(&words));
+    }
+}
+
 /// Damages one length, count or number.
 pub fn damage(random: &mut Random, input: &mut Input) {
     let (x, n) = (extreme(random), input.points.len() / 3);
     let corner = random.pick(&[0, 1, n as u32, n as u32 + 1, u32::MAX, 1 << 31]);
-    match random.below(23) {
+    match random.below(27) {
         0 => stretch(random, &mut input.points, 0.5),
         1 => stretch(random, &mut input.quads, 0),
         2 => stretch(random, &mut input.labels, 0),
@@ -136,7 +168,8 @@ pub fn damage(random: &mut Random, input: &mut Input) {
         19 => poke(random, &mut input.labels, (x.to_bits() >> 60) as u8),
         20 => poke(random, &mut input.numbers, x),
         21 => poke(random, &mut input.bounds, x),
-        _ => poke(random, &mut input.levels, x),
+        22 => poke(random, &mut input.levels, x),
+        _ => damage_job(random, input),
     }
 }
 

@@ -6,6 +6,8 @@ mod call;
 mod common;
 mod guarded;
 mod inputs;
+mod job;
+mod lent_job;
 mod order;
 mod page;
 mod random;
@@ -46,15 +48,18 @@ fn one(random: &mut Random, sheets: &[(quads::Sheet, quads::Band)]) -> (Operatio
 fn damaged_calls_are_answered() {
     let (calls, seed) = (number("QUADS_CALLS", 20_000), number("QUADS_SEED", 1));
     let (sheets, mut random) = (inputs::sheets(), Random(seed));
-    let mut answered: BTreeMap<Operation, [usize; 14]> = OPERATIONS.map(|operation| (operation, [0; 14])).into();
+    let mut answered: BTreeMap<Operation, BTreeMap<u32, usize>> = BTreeMap::new();
     for call in 0..calls {
         let (operation, number, broken) = one(&mut random, &sheets);
         assert!(broken.is_empty(), "seed {seed}, call {call}: {operation:?} answers {number}: {broken:?}");
-        answered.entry(operation).or_default()[number as usize] += 1;
+        *answered.entry(operation).or_default().entry(number).or_default() += 1;
     }
-    for (operation, numbers) in answered {
-        println!("{operation:?}: calls by the number they answered, 0 first: {numbers:?}");
-        assert!(numbers[0] > 0 && numbers[13] > 0, "{operation:?} was not called both rightly and wrongly");
+    for operation in OPERATIONS {
+        let numbers = answered.remove(&operation).unwrap_or_default();
+        println!("{operation:?}: calls by the number they answered: {numbers:?}");
+        let is_met = |number| numbers.contains_key(&number);
+        assert!(is_met(0) && is_met(13), "{operation:?} was not called both rightly and wrongly");
+        assert!(is_met(14) == (operation == Operation::Open), "{operation:?} and trailers do not fit");
     }
     println!("{calls} calls, seed {seed}, 0 broken");
 }

@@ -10,7 +10,7 @@ pub type Fault = fn(&mut Input);
 
 /// The operations that take a band and a lent sheet.
 fn banded() -> impl Iterator<Item = Operation> {
-    OPERATIONS.into_iter().filter(|operation| !matches!(operation, Operation::Extract | Operation::Refine))
+    OPERATIONS.into_iter().filter(|operation| operation.takes_band() && *operation != Operation::Extract)
 }
 
 /// Calls an operation, right but for the faults: its number and what it left.

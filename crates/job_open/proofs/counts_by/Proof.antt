@@ -1,0 +1,72 @@
+-- `job_open::counts_by` meets its contract. Assumes nothing.
+use borrow.Author.Needs.{needs}
+use Rattle.lists.proofs.Every.{tests}
+use Rattle.rule_job.specs.Files.{goodStarts, countsBy}
+use Rattle.job_open.proofs.counts_by.Statement.{statement}
+use Rattle.job_open.proofs.counts_by.Tie as tie
+
+returns : tie.Need-returns
+unfolding countsBy goodStarts
+returns c = search tests
+
+returns-2 : tie.Need-returns-2
+unfolding countsBy goodStarts
+returns-2 c = search tests
+
+returns-3 : tie.Need-returns-3
+unfolding countsBy goodStarts
+returns-3 c = search tests
+
+returns-4 : tie.Need-returns-4
+unfolding countsBy goodStarts
+returns-4 c = search tests
+
+returns-5 : tie.Need-returns-5
+unfolding countsBy goodStarts
+returns-5 c = search tests
+
+returns-6 : tie.Need-returns-6
+unfolding countsBy goodStarts
+returns-6 c = search tests
+
+returns-7 : tie.Need-returns-7
+unfolding countsBy goodStarts
+returns-7 c = search tests
+
+add-if8 : tie.Need-add-if8
+add-if8 c = search needs
+
+returns-8 : tie.Need-returns-8
+unfolding countsBy goodStarts
+returns-8 c = search tests
+
+cast-t11 : tie.Need-cast-t11
+cast-t11 c = search needs
+
+cast-t10 : tie.Need-cast-t10
+cast-t10 c = search needs
+
+cast-t15 : tie.Need-cast-t15
+cast-t15 c = search needs
+
+returns-9 : tie.Need-returns-9
+unfolding countsBy goodStarts
+returns-9 c = search tests
+
+pub counts-by-spec : {M : Type 1} → statement M
+counts-by-spec =
+    tie.close
+    (tie.spec
+    returns
+    returns-2
+    returns-3
+    returns-4
+    returns-5
+    returns-6
+    returns-7
+    add-if8
+    returns-8
+    cast-t11
+    cast-t10
+    cast-t15
+    returns-9)

@@ -1,0 +1,2 @@
+-- `Saving` has the bytes of a job, how long they are and how they are put one after the other.
+pub mod Saving

@@ -1,0 +1,258 @@
+//! Job files, which the original does not have: a writer by `to_le_bytes` and a reader by `chunks_exact`, which share
+//! nothing with the library and its Rust crate. A trailer is good if it is the one that the writer would write.
+use crate::Point;
+use crate::call::{Answer, Call};
+use crate::field::{BandNumbers, Field};
+use crate::operation::Operation;
+use crate::quads::QuadMesh;
+
+/// The most points, quads or labels of a sheet.
+pub const MOST: usize = 1_048_576;
+
+/// How many points, quads and labels the replay has room for.
+const REPLAYED: usize = 64;
+
+/// The refusals: a sheet above the limit, a slice that is too short, a trailer that is not good.
+const LARGE: u8 = 12;
+const SHORT: u8 = 13;
+const TRAILER: u8 = 14;
+
+/// A band of which nothing is used.
+pub const NO_BAND: BandNumbers = BandNumbers { field: Field::Plane([0.0; 4]), bounds: [[0.0; 3]; 2], levels: [0.0; 2] };
+
+/// What a job file holds: low x, y, z, high x, y, z, lower and upper level, and a sheet.
+#[derive(Clone, Debug)]
+pub struct Job {
+    /// The eight numbers.
+    pub header: [f64; 8],
+    /// The sheet.
+    pub sheet: QuadMesh,
+}
+
+/// The elements of the slices into which a file is opened.
+#[derive(Clone, Copy, Debug)]
+pub struct Room {
+    /// Those of the header.
+    pub header: usize,
+    /// Those of the points, three a point.
+    pub points: usize,
+    /// Those of the quads, four a quad.
+    pub quads: usize,
+    /// Those of the labels.
+    pub labels: usize,
+}
+
+impl Room {
+    /// Room for a header, and for so many points, quads and labels; 0 stands for the room of the replay.
+    pub fn of(argument: u64) -> Room {
+        let n = if argument == 0 { REPLAYED } else { argument as usize };
+        Room { header: 8, points: 3 * n, quads: 4 * n, labels: n }
+    }
+
+    /// Whether it holds the header and a sheet of these counts.
+    fn holds(self, [points, quads, labels]: [usize; 3]) -> bool {
+        self.header >= 8 && self.points >= 3 * points && self.quads >= 4 * quads && self.labels >= labels
+    }
+}
+
+/// How many points, quads and labels a sheet has.
+pub fn counts(sheet: &QuadMesh) -> [usize; 3] {
+    [sheet.points.len(), sheet.quads.len(), sheet.labels.len()]
+}
+
+/// Whether one of these counts is above the limit.
+fn is_large(counts: [usize; 3]) -> bool {
+    counts.iter().any(|&n| n > MOST)
+}
+
+/// The trailer of a sheet of these counts: the starts of points, quads, labels and trailer, and its length.
+fn trailer([points, quads, labels]: [usize; 3]) -> [usize; 5] {
+    let at_quads = 64 + 24 * points;
+    let at_labels = at_quads + 16 * quads;
+    [64, at_quads, at_labels, at_labels + labels, 20]
+}
+
+/// The bytes of a file with a sheet of these counts.
+pub fn bytes(counts: [usize; 3]) -> usize {
+    trailer(counts)[3] + 20
+}
+
+/// The file of a job.
+pub fn write(job: &Job) -> Vec<u8> {
+    file_of(&job.header, &job.sheet)
+}
+
+/// The file of a header and a sheet.
+pub fn file_of(header: &[f64; 8], sheet: &QuadMesh) -> Vec<u8> {
+    let mut file = Vec::with_capacity(bytes(counts(sheet)));
+    let floats = header.iter().chain(sheet.points.iter().flatten());
+    floats.for_each(|x| file.extend(x.to_bits().to_le_bytes()));
+    sheet.quads.iter().flatten().for_each(|&corner| file.extend((corner as u32).to_le_bytes()));
+    file.extend(&sheet.labels);
+    trailer(counts(sheet)).iter().for_each(|&n| file.extend((n as u32).to_le_bytes()));
+    file
+}
+
+/// The words of so many bytes each, as numbers.
+fn numbers(bytes: &[u8], size: usize) -> impl Iterator<Item = u64> {
+    bytes.chunks_exact(size).map(move |word| {
+        let mut eight = [0; 8];
+        eight[..size].copy_from_slice(word);
+        u64::from_le_bytes(eight)
+    })
+}
+
+/// The counts that a good trailer says; none where it is not good.
+fn counts_in(file: &[u8]) -> Option<[usize; 3]> {
+    let found: Vec<usize> = numbers(&file[file.len().checked_sub(20)?..], 4).map(|n| n as usize).collect();
+    let part = |place: usize, size: usize| Some(found[place + 1].checked_sub(found[place])? / size);
+    let counts = [part(0, 24)?, part(1, 16)?, part(2, 1)?];
+    (found == trailer(counts) && bytes(counts) == file.len()).then_some(counts)
+}
+
+/// The job of a file, or the number with which it is refused whatever room there is.
+pub fn read(file: &[u8]) -> Result<Job, u8> {
+    let counts = counts_in(file).ok_or(TRAILER)?;
+    if is_large(counts) {
+        return Err(LARGE);
+    }
+    let [_, quads, labels, end, _] = trailer(counts);
+    let floats: Vec<f64> = numbers(&file[..quads], 8).map(f64::from_bits).collect();
+    let corners: Vec<usize> = numbers(&file[quads..labels], 4).map(|corner| corner as usize).collect();
+    let point = |c: &[f64]| -> Point { [c[0], c[1], c[2]] };
+    let sheet = QuadMesh {
+        points: floats[8..].chunks_exact(3).map(point).collect(),
+        quads: corners.chunks_exact(4).map(|q| [q[0], q[1], q[2], q[3]]).collect(),
+        labels: file[labels..end].to_vec(),
+    };
+    Ok(Job { header: std::array::from_fn(|i| floats[i]), sheet })
+}
+
+/// The header of a band's box and levels.
+pub fn header(band: &BandNumbers) -> [f64; 8] {
+    let ([[x, y, z], [high_x, high_y, high_z]], [lower, upper]) = (band.bounds, band.levels);
+    [x, y, z, high_x, high_y, high_z, lower, upper]
+}
+
+/// The job of a call that saves.
+pub fn of(call: &Call) -> Job {
+    Job { header: header(&call.band), sheet: call.sheet.clone() }
+}
+
+/// The call that saves a job into so many bytes.
+pub fn save(Job { header, sheet }: Job, lent: usize) -> Call {
+    let [x, y, z, high_x, high_y, high_z, lower, upper] = header;
+    let bounds = [[x, y, z], [high_x, high_y, high_z]];
+    let band = BandNumbers { bounds, levels: [lower, upper], ..NO_BAND };
+    Call { operation: Operation::Save, argument: lent as u64, band, sheet }
+}
+
+/// The call that opens a file into this room: the file stands where the labels of a sheet would.
+pub fn open(file: Vec<u8>, room: u64) -> Call {
+    let sheet = QuadMesh { points: vec![], quads: vec![], labels: file };
+    Call { operation: Operation::Open, argument: room, band: NO_BAND, sheet }
+}
+
+/// What is expected of a call that saves, its slices as long as they must be: the file, which needs so many bytes.
+pub fn saved(call: &Call) -> Answer {
+    let counts = counts(&call.sheet);
+    if is_large(counts) {
+        return Answer::refused(LARGE);
+    }
+    if bytes(counts) as u64 > call.argument {
+        return Answer::refused(SHORT);
+    }
+    Answer::file(&file_of(&header(&call.band), &call.sheet), counts)
+}
+
+/// What is expected of a call that opens a file into this room.
+pub fn opened(file: &[u8], room: Room) -> Answer {
+    match read(file) {
+        Err(number) => Answer::refused(number),
+        Ok(job) if !room.holds(counts(&job.sheet)) => Answer::refused(SHORT),
+        Ok(job) => Answer::job(&job),
+    }
+}
+
+#[cfg(test)]
+mod tests {
+    use super::*;
+    use crate::call::original;
+    use crate::random::Random;
+    use crate::{inputs, sheets};
+
+    /// The cube in the unit box, between the levels -1 and 2.
+    fn cube() -> Job {
+        Job { header: [0.0, 0.0, 0.0, 1.0, 1.0, 1.0, -1.0, 2.0], sheet: sheets::cube() }
+    }
+
+    /// The bytes of an answer that is a file.
+    fn file_in(answer: &Answer) -> Vec<u8> {
+        let mut bytes: Vec<u8> = answer.words.iter().flat_map(|word| word.to_le_bytes()).collect();
+        assert!(bytes.split_off(answer.count as usize).iter().all(|&byte| byte == 0));
+        bytes
+    }
+
+    #[test]
+    fn the_cube_has_its_378_bytes() {
+        let file = write(&cube());
+        assert_eq!(file, include_bytes!("../../../rust/quads/tests/cube.job"));
+        assert_eq!(file[358..], [64, 0, 0, 0, 0, 1, 0, 0, 96, 1, 0, 0, 102, 1, 0, 0, 20, 0, 0, 0]);
+        let answer = original(&save(cube(), 378));
+        assert_eq!((answer.count, answer.counts, file_in(&answer)), (378, [8, 6, 6], file));
+    }
+
+    #[test]
+    fn nothing_has_84_bytes() {
+        let nothing = Job { header: [0.0; 8], sheet: sheets::empty() };
+        let file = write(&nothing);
+        assert_eq!(file[64..], [64, 0, 0, 0, 64, 0, 0, 0, 64, 0, 0, 0, 64, 0, 0, 0, 20, 0, 0, 0]);
+        assert_eq!(original(&open(file, 0)), Answer { words: vec![0; 8], ..Answer::default() });
+    }
+
+    #[test]
+    fn large_short_and_trailer_have_their_order() {
+        let number = |call: Call| original(&call).number;
+        assert_eq!([377, 378, 400].map(|lent| number(save(cube(), lent))), [SHORT, 0, 0]);
+        let many = |labels| Job { sheet: QuadMesh { labels: vec![1; labels], ..sheets::empty() }, ..cube() };
+        assert_eq!([MOST, MOST + 1].map(|n| number(save(many(n), 0))), [SHORT, LARGE]);
+        assert_eq!([MOST, MOST + 1].map(|n| number(open(write(&many(n)), 1))), [SHORT, LARGE]);
+        assert_eq!(number(open(write(&many(MOST)), MOST as u64)), 0);
+        assert_eq!(number(open([write(&many(MOST + 1)), vec![0]].concat(), 1)), TRAILER);
+        let file = write(&cube());
+        assert!((0..378).all(|bytes| number(open(file[..bytes].to_vec(), 0)) == TRAILER));
+        assert_eq!([7, 8, 0].map(|room| number(open(file.clone(), room))), [SHORT, 0, 0]);
+    }
+
+    #[test]
+    fn the_room_of_the_replay_is_64_of_each() {
+        let Room { header, points, quads, labels } = Room::of(0);
+        assert_eq!([header, points, quads, labels], [8, 192, 256, 64]);
+    }
+
+    #[test]
+    fn a_file_that_opens_is_written_again_byte_for_byte() {
+        let mut r = Random::new(6);
+        let mut opened = 0;
+        for _ in 0..4000 {
+            let file = inputs::call(&mut r, Operation::Open).sheet.labels;
+            if let Ok(job) = read(&file) {
+                assert_eq!(write(&job), file);
+                opened += 1;
+            }
+        }
+        assert!((1000..3000).contains(&opened), "{opened}");
+    }
+
+    #[test]
+    fn what_is_saved_opens_to_the_same_words() {
+        let mut r = Random::new(7);
+        for _ in 0..2000 {
+            let call = inputs::call(&mut r, Operation::Save);
+            let job = of(&call);
+            let call = Call { argument: bytes(counts(&job.sheet)) as u64, ..call };
+            let again = original(&open(file_in(&original(&call)), 1000));
+            assert_eq!(again, Answer::job(&job));
+        }
+    }
+}
