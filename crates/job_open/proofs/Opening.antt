@@ -67,10 +67,6 @@ pub tested-refuses : (F : List ℕ) (c : Counts) (n : ℕ) {r : JobRoom} {H P Q 
     → Opens (afterTest (beforeVerdict c (isShortJob c r)) (gives (jobIn F c))) r (answers.Refused n) H P Q L
 tested-refuses F c n e Z = rw e (zeros-open n Z)
 
-counts-in : (F : List ℕ) (c : Counts) → jobIn F c .counts ≡ c
-unfolding jobIn
-counts-in F c = refl
-
 pub tested-opens : (F : List ℕ) (c : Counts) {r : JobRoom} {H P Q L H′ P′ Q′ L′ : List ℕ} → beforeVerdict c (isShortJob c r) ≡ Accepted → sizeOf c ≡ length F
     → Zeros r H P Q L → Reads (jobIn F c) H P Q L H′ P′ Q′ L′
     → Opens (afterTest (beforeVerdict c (isShortJob c r)) (gives (jobIn F c))) r (answers.Done (record { count = 0; sheet = c })) H′ P′ Q′ L′
