@@ -21,7 +21,8 @@
  *
  * WORK is two slices, `work` and `floats`. For a lent sheet they hold at least QUADS_WORK(np, nq) and QUADS_FLOATS(np, nq) elements, for
  * drawing QUADS_DRAW_WORK(cells) and QUADS_DRAW_FLOATS(cells). What is in them does not matter. After every call all of both is zero.
- * To save and to open a job takes no work.
+ * To save and to open a job takes `work` alone, one element for each point of the sheet, and to read the sum of a job
+ * file takes none.
  *
  * A JOB FILE holds a box, two levels and a sheet; the field is not in it. All numbers are little-endian, a double stands
  * by its 64 bits, and the parts touch:
@@ -29,17 +30,25 @@
  *   at 64    np points, three doubles each
  *   at q     nq quads, four uint32_t each: q = 64 + 24 * np
  *   at l     nl labels, a byte each: l = q + 16 * nq
- *   at t     the trailer, five uint32_t that end the file: 64, q, l, t and its own length 20; t = l + nl
- * So it has QUADS_JOB_BYTES(np, nq, nl) bytes, 84 or more. The sheet need not be one that other functions accept: labels
- * may be more or fewer than quads, and any number may stand anywhere.
+ *   at t     the trailer, 28 bytes that end the file; t = l + nl:
+ *     at t        four uint32_t: 64, q, l and t
+ *     at t + 16   the squared sum of the sheet, a uint64_t
+ *     at t + 24   the length of the trailer, a uint32_t: 28
+ * So it has QUADS_JOB_BYTES(np, nq, nl) bytes, 92 or more. The sheet need not be one that other functions accept:
+ * labels may be more or fewer than quads, and any number may stand anywhere.
+ * The SQUARED SUM is the sum over the np points of (k - 4)^2, where k is how many of the 4 * nq corners name the point:
+ * a quad that names a point twice counts twice there, a corner that is np or more counts nowhere, a point that none
+ * names adds 16. A sheet without points has the sum 0.
+ * Files that were saved before the sum was in them have a trailer of 20 bytes, five uint32_t: 64, q, l, t and the
+ * length 20. They are eight bytes shorter, 84 or more, and still open; saved again, they have the trailer of 28 bytes.
  *
- * The ANSWER slice has at least four elements (for quality ten, for corners per point two; the page has none). After a
- * call it holds
+ * The ANSWER slice has at least four elements (for quality ten, for corners per point and the sum of a job two; the
+ * page has none). After a call it holds
  *   answer[0]   the number of swaps or merges, or the bytes of a saved file; 0 where the operation counts none
  *   answer[1]   the points, answer[2] the quads and answer[3] the labels of the sheet that was made, altered or saved
- * (for quality and corners per point what is said at the function) and zeros there after a refusal. Elements behind these stay as they came,
- * and so does a whole answer slice that is too short. The same holds of quality's four measures: each of the two slices by its own length,
- * whatever the other's is.
+ * (for quality, corners per point and the sum of a job what is said at the function) and zeros there after a refusal.
+ * Elements behind these stay as they came, and so does a whole answer slice that is too short. The same holds of
+ * quality's four measures: each of the two slices by its own length, whatever the other's is.
  *
  * AFTER SUCCESS every slice that the operation writes a sheet, a page or a file to has it in front and zeros behind it.
  * AFTER A REFUSAL a sheet that was to be altered in its own slices is bit for bit as it came, and the slices for a new
@@ -49,6 +58,10 @@
  * sheet shorter than its count says, too little work, or a numbers, bounds, answer, measures, page, header or file slice
  * that is too short. SHORT (result) means more points or quads than the slices for the new sheet, or QUADS_LIMIT, hold.
  * A kind above 2 is refused with QUADS_BOX, where a band of any other fault is.
+ *
+ * OLDER CALLERS. quads_save_job and quads_open_job take `work` since the sum is in the file, and QUADS_JOB_BYTES is
+ * eight more. A caller that was written for an older header must lend the work and be compiled again with this one; an
+ * object file that was compiled with the older one still links, and must not be used.
  *
  * THE MACHINE. The library is compiled for x86-64. A call needs the floating-point environment that a C program starts with: rounding to
  * nearest, subnormal numbers kept (no flush to zero, no denormals are zero); it changes nothing in it. It uses no more than 64 KiB of stack.
@@ -82,8 +95,8 @@ extern "C" {
 #define QUADS_DRAW_WORK(cells) (12 * ((size_t)(cells) + 2) * ((size_t)(cells) + 2) * ((size_t)(cells) + 2))
 #define QUADS_DRAW_FLOATS(cells) (((size_t)(cells) + 3) * ((size_t)(cells) + 3) * ((size_t)(cells) + 3))
 
-/* The bytes of a job file with a sheet of np points, nq quads and nl labels. */
-#define QUADS_JOB_BYTES(np, nq, nl) (84 + 24 * (size_t)(np) + 16 * (size_t)(nq) + (size_t)(nl))
+/* The bytes of a job file, as it is saved, with a sheet of np points, nq quads and nl labels. */
+#define QUADS_JOB_BYTES(np, nq, nl) (92 + 24 * (size_t)(np) + 16 * (size_t)(nq) + (size_t)(nl))
 
 /* What a call returns. */
 enum {
@@ -101,7 +114,8 @@ enum {
     QUADS_NORMAL = 11,    /* normal: the normal at a quad's centre is not finite or shorter than 0.5 */
     QUADS_LARGE = 12,     /* large: a lent sheet, or one in a job file, above QUADS_LIMIT */
     QUADS_SHORT = 13,     /* short: a slice holds too little */
-    QUADS_TRAILER = 14    /* trailer: a job file that is too short, or whose trailer is not that of its parts */
+    QUADS_TRAILER = 14,   /* trailer: a job file that is too short, or whose trailer is not that of its parts */
+    QUADS_SUM = 17        /* sum: the squared sum that a job file says is not that of its sheet */
 };
 
 /*
@@ -266,8 +280,11 @@ uint32_t quads_page(
  * Writes the job file of a header and a sheet. The header is at least eight doubles: low x, y, z, high x, y, z, lower
  * level, upper level. Nothing is asked of the numbers: every double, a NaN too, passes as its 64 bits, and neither the
  * band nor the sheet is tested. header, points, quads and labels are only read.
- * The file slice has at least QUADS_JOB_BYTES(np, nq, nl) elements. After success the file is in front, and all behind
- * it is zero; after a refusal all of the slice is zero, also of one that is too short.
+ * The work slice has at least np elements. What is in them does not matter. After every call all of the slice is zero,
+ * also of one that is too short.
+ * The file slice has at least QUADS_JOB_BYTES(np, nq, nl) elements. After success the file is in front, its trailer of
+ * 28 bytes with the squared sum, and all behind it is zero; after a refusal all of the slice is zero, also of one that
+ * is too short.
  *   answer[0]    the bytes of the file
  *   answer[1]    np, answer[2] nq and answer[3] nl
  * A refusal leaves zeros there.
@@ -276,29 +293,48 @@ uint32_t quads_page(
 uint32_t quads_save_job(
     const double *header, size_t header_len, const double *points, size_t points_len,
     const uint32_t *quads, size_t quads_len, const uint8_t *labels, size_t labels_len,
-    size_t np, size_t nq, size_t nl, uint8_t *file, size_t file_len, uint64_t *answer, size_t answer_len);
+    size_t np, size_t nq, size_t nl, uint32_t *work, size_t work_len,
+    uint8_t *file, size_t file_len, uint64_t *answer, size_t answer_len);
 
 /*
  * Opens a job file: its eight doubles go to the header slice, its sheet to the three slices for a new sheet, each double
- * as its 64 bits. What quads_save_job wrote opens to the same bits, and a file that opens is saved again byte for byte.
- * All of the file slice is the file, and its last 20 bytes are the trailer: of a slice that quads_save_job wrote, lend
- * the first answer[0] bytes.
- * The header slice has at least eight elements, the other three as many as the file's sheet needs: file_len / 24 points,
- * file_len / 16 quads and file_len labels always suffice, and so do QUADS_LIMIT of each. After success each of the four
- * has its part of the file in front and zeros behind it; after a refusal all of the four are zero, also those that are
- * too short.
+ * as its 64 bits. What quads_save_job wrote opens to the same bits, and a file with a trailer of 28 bytes that opens is
+ * saved again byte for byte. One with a trailer of 20 bytes is saved again with the same bytes in front of its trailer,
+ * and the trailer of 28.
+ * All of the file slice is the file, and its last bytes are the trailer: of a slice that quads_save_job wrote, lend the
+ * first answer[0] bytes.
+ * The header slice has at least eight elements, the other three as many as the file's sheet needs, and the work slice
+ * one for each point of it: file_len / 24 points, file_len / 16 quads, file_len labels and file_len / 24 elements of
+ * work always suffice, and so do QUADS_LIMIT of each. After success the header slice and the three have their parts of
+ * the file in front and zeros behind them; after a refusal all of the four are zero, also those that are too short.
+ * What is in the work slice does not matter. After every call all of it is zero, also where it is too short.
  *   answer[0]    0
  *   answer[1]    the points, answer[2] the quads and answer[3] the labels of the sheet
  * A refusal leaves zeros there. A file is refused with TRAILER, whatever else is wrong, if it has fewer than 84 bytes or
- * its trailer breaks a rule: its length is 20, points start at 64, points and quads are whole, no part starts before the
- * one in front of it, and the trailer starts 20 bytes before the end. A file with a good trailer and more than
- * QUADS_LIMIT points, quads or labels is refused with LARGE.
- * Refusals: TRAILER, LARGE, SHORT (header, the slices for the new sheet, or answer).
+ * its trailer breaks a rule: its length, the last uint32_t of the file, is 20, or it is 28 and the file has 92 bytes or
+ * more; points start at 64, points and quads are whole, no part starts before the one in front of it, and the trailer
+ * starts as many bytes before the end as its length says. A file with a good trailer and more than QUADS_LIMIT points,
+ * quads or labels is refused with LARGE. A file whose trailer of 28 bytes says another squared sum than its sheet has
+ * is refused with SUM, behind all others; one with a trailer of 20 bytes never is, but needs the work too.
+ * Refusals: TRAILER, LARGE, SHORT (header, the slices for the new sheet, work or answer), SUM.
  */
 uint32_t quads_open_job(
     const uint8_t *file, size_t file_len, double *header, size_t header_len,
     double *new_points, size_t new_points_len, uint32_t *new_quads, size_t new_quads_len,
-    uint8_t *new_labels, size_t new_labels_len, uint64_t *answer, size_t answer_len);
+    uint8_t *new_labels, size_t new_labels_len, uint32_t *work, size_t work_len,
+    uint64_t *answer, size_t answer_len);
+
+/*
+ * Reads the squared sum that the trailer of a job file says; of the file, it looks at its length and its trailer alone.
+ * It does not compare the sum with the sheet: who must be sure opens the file, which quads_open_job refuses with SUM
+ * where the two differ. All of the file slice is the file. The answer slice has at least two elements; a refusal leaves
+ * zeros there.
+ *   answer[0]    1 if the trailer has the sum, that is 28 bytes; 0 if it has 20
+ *   answer[1]    the sum as the trailer says it; 0 if it says none
+ * A file is refused with TRAILER exactly where quads_open_job refuses it so; one above QUADS_LIMIT is answered.
+ * Refusals: TRAILER, SHORT (answer).
+ */
+uint32_t quads_job_sum(const uint8_t *file, size_t file_len, uint64_t *answer, size_t answer_len);
 
 #ifdef __cplusplus
 }

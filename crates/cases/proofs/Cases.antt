@@ -41,8 +41,8 @@ use Rattle.rule_quality.specs.Quality.{qualityOf, eightCounts, qualityRule}
 use Rattle.rule_corners.specs.Corners.{ratioOf, cornersRule}
 use Rattle.rule_page.specs.Page.{columnOf, lineOf, line, joined, pageOf}
 use Rattle.encoding.specs.Encoding.{little, number, littles, numbers}
-use Rattle.rule_job.specs.Files.{fileOf, goodStarts, countsBy, trailerOf, jobIn}
-use Rattle.rule_job.specs.Jobs.{isShortJob, saveRule, openWith}
+use Rattle.rule_job.specs.Files.{trailerBytes, fileWith, goodStarts, countsBy, startsAt, trailerBy, trailerOf, jobIn}
+use Rattle.rule_job.specs.Jobs.{isShortJob, saveRule, summed, openWith}
 use Rattle.cases.specs.Cases.{cube, nothing, turnedCube, pillow, twoPillows, swapPatch, mergePatch, AllHold, cases}
 
 -- the lines of a record, by its counts
@@ -63,8 +63,8 @@ unfolding cube nothing turnedCube pillow twoPillows swapPatch mergePatch cases o
     refined refineRule those edgeQuads pointQuads paired labelCount centreAt isCopied copies numberOf labelCentres
     inward tryFrom copyOf copiedQuads sidesOf edgeSides rowSides stripAt rowsSheet rowsMade rowed rowsRule isClosed
     reached connected goodLink badLinks tight cornersOf cellsOf goodNormal measureRule qualityOf qualityRule zipWith ratioOf
-    cornersRule padded columnOf lineOf little number littles numbers fileOf goodStarts countsBy trailerOf jobIn isShortJob
-    saveRule openWith beforeVerdict
+    cornersRule padded columnOf lineOf little number littles numbers trailerBytes fileWith goodStarts countsBy startsAt trailerBy
+    trailerOf jobIn isShortJob saveRule summed openWith beforeVerdict
 cases-hold = (
   (refl, refl, refl, refl, refl, refl),
   (
@@ -83,7 +83,7 @@ cases-hold = (
                 (refl, refl, refl),
                 (
                   (refl, refl, refl),
-                  (refl, (refl, ((refl, (refl, refl)), ((refl, (refl, refl)), ((refl, (refl, refl)), ((refl, (refl, refl)), ((refl, refl), ((refl, refl), ((λ q e. page-lines q e), ((λ q e. page-lines q e), ((refl, refl, refl), ((refl, refl, refl), tt)))))))))))),
+                  (refl, (refl, ((refl, (refl, refl)), ((refl, (refl, refl)), ((refl, (refl, refl)), ((refl, (refl, refl)), ((refl, refl), ((refl, refl), ((λ q e. page-lines q e), ((λ q e. page-lines q e), ((refl, refl, refl), ((refl, refl, refl), ((refl, refl, refl), ((refl, refl, refl), (refl, (refl, (refl, (refl, tt)))))))))))))))))),
                 ),
               ),
             ),

@@ -35,8 +35,9 @@ use Rattle.rule_quality.specs.declared.report.Quality.{Quality}
 use Rattle.rule_quality.specs.Quality.{eightCounts, qualityRule}
 use Rattle.rule_corners.specs.Corners.{cornersRule}
 use Rattle.rule_page.specs.Page.{bytesOf, lineEnd, pageOf}
-use Rattle.rule_job.specs.Files.{Job, jobOf, fileOf}
-use Rattle.rule_job.specs.Jobs.{roomIn, saveRule, openRule}
+use Rattle.rule_job.specs.declared.Sum.the-variants.{Missing, Written}
+use Rattle.rule_job.specs.Files.{Job, jobOf, sumOf, fileWith, fileOf}
+use Rattle.rule_job.specs.Jobs.{sumNumber, JobRoom, roomIn, saveRule, openRule}
 
 -- ---- what the rules are asked with
 
@@ -73,10 +74,19 @@ jobFor s =
     (map (toBits binary64) (zeroF ∷ zeroF ∷ zeroF ∷ one ∷ one ∷ one ∷ zeroF ∷ one ∷ []))
     (map (toBits binary64) (flatPoints (s .points))) (flatQuads (s .quads)) (s .labels)
 
+-- slices that just hold it, with an element of work for each point
+abbrev pub roomForJob : Job → JobRoom
+roomForJob j = roomIn j (j .counts .points)
+
 -- a rule accepts, and what it makes has the property P
 abbrev pub Gives : {A : Type 0} → Outcome A → (A → Type 0) → Type 0
 Gives (refuses n) P = ⊥
 Gives (gives x) P = P x
+
+-- a file of the job j: so many bytes, this trailer at its end, and it opens to the job
+abbrev pub IsFile : List ℕ → Job → ℕ → List ℕ → Type 0
+IsFile F j size trailer =
+    (length F ≡ size) × (drop (size - length trailer) F ≡ trailer) × Gives (openRule F (roomForJob j)) (λ k. k ≡ j)
 
 -- ---- the cube
 
@@ -169,6 +179,12 @@ pub data Case : Type 0 where
   pageCase : (counts : List ℕ) (lines : List String) → Case
   -- the job of a sheet: how many bytes its file has, and its trailer; the file opens to the job
   jobCase : (s : Sheet) (size : ℕ) (trailer : List ℕ) → Case
+  -- the same of the file without a sum
+  olderJobCase : (s : Sheet) (size : ℕ) (trailer : List ℕ) → Case
+  -- the file of a sheet with this sum is refused
+  otherSumCase : (s : Sheet) (sum : ℕ) → Case
+  -- the squared sum of so many points and quads of these corners
+  sumCase : (points quads : ℕ) (corners : List ℕ) (sum : ℕ) → Case
   -- a square root
   rootCase : (of is : Float) → Case
 
@@ -208,9 +224,11 @@ Holds (finerCornersCase s points quads quotient remainder) =
 Holds (pageCase counts lines) =
     (q : Quality) → eightCounts q ≡ counts → pageOf q ≡ joinOf (λ l. bytesOf l ++ (lineEnd ∷ [])) lines
 Holds (jobCase s size trailer) =
-    Gives (saveRule (jobFor s) size)
-    (λ j. (length (fileOf j) ≡ size) × (drop (size - 20) (fileOf j) ≡ trailer)
-    × Gives (openRule (fileOf j) (roomIn (jobFor s))) (λ k. k ≡ jobFor s))
+    Gives (saveRule (jobFor s) (length (s .points)) size) (λ j. IsFile (fileOf j) (jobFor s) size trailer)
+Holds (olderJobCase s size trailer) = IsFile (fileWith Missing (jobFor s)) (jobFor s) size trailer
+Holds (otherSumCase s n) = openRule (fileWith (Written n) (jobFor s)) (roomForJob (jobFor s)) ≡ refuses sumNumber
+Holds (sumCase points quads corners n) =
+    sumOf (jobOf (record { points = points; quads = quads; labels = 0 }) [] [] corners []) ≡ n
 Holds (rootCase of is) = sqrtOf of ≡ is
 
 -- the same of every row
@@ -275,8 +293,22 @@ cases =
     ∷ []) ∷
     -- Document 02, Point 1: "starts of points, quads, labels and trailer, then the trailer's length 20, each a u32",
     -- all little-endian
-    jobCase cube 378
+    olderJobCase cube 378
     (64 ∷ 0 ∷ 0 ∷ 0 ∷ 0 ∷ 1 ∷ 0 ∷ 0 ∷ 96 ∷ 1 ∷ 0 ∷ 0 ∷ 102 ∷ 1 ∷ 0 ∷ 0 ∷ 20 ∷ 0 ∷ 0 ∷ 0 ∷ []) ∷
-    jobCase nothing 84
+    olderJobCase nothing 84
     (64 ∷ 0 ∷ 0 ∷ 0 ∷ 64 ∷ 0 ∷ 0 ∷ 0 ∷ 64 ∷ 0 ∷ 0 ∷ 0 ∷ 64 ∷ 0 ∷ 0 ∷ 0 ∷ 20 ∷ 0 ∷ 0 ∷ 0 ∷ []) ∷
+    -- Document 02, Point 9: "The trailer takes it as a u64 before its length, and that length becomes 28."
+    jobCase cube 386
+    (64 ∷ 0 ∷ 0 ∷ 0 ∷ 0 ∷ 1 ∷ 0 ∷ 0 ∷ 96 ∷ 1 ∷ 0 ∷ 0 ∷ 102 ∷ 1 ∷ 0 ∷ 0
+    ∷ 8 ∷ 0 ∷ 0 ∷ 0 ∷ 0 ∷ 0 ∷ 0 ∷ 0 ∷ 28 ∷ 0 ∷ 0 ∷ 0 ∷ []) ∷
+    jobCase nothing 92
+    (64 ∷ 0 ∷ 0 ∷ 0 ∷ 64 ∷ 0 ∷ 0 ∷ 0 ∷ 64 ∷ 0 ∷ 0 ∷ 0 ∷ 64 ∷ 0 ∷ 0 ∷ 0
+    ∷ 0 ∷ 0 ∷ 0 ∷ 0 ∷ 0 ∷ 0 ∷ 0 ∷ 0 ∷ 28 ∷ 0 ∷ 0 ∷ 0 ∷ []) ∷
+    -- "17 sum, when the sum written is not the sheet's"
+    otherSumCase cube 9 ∷
+    -- "Each corner entry counts once for the point it names, one out of range for none": a point that is named eight
+    -- times beside one that is not, three points and no corner in range, no points
+    sumCase 2 2 (0 ∷ 0 ∷ 0 ∷ 0 ∷ 0 ∷ 0 ∷ 0 ∷ 0 ∷ []) 32 ∷
+    sumCase 3 1 (3 ∷ 4 ∷ 3 ∷ 4294967295 ∷ []) 48 ∷
+    sumCase 0 1 (0 ∷ 1 ∷ 2 ∷ 3 ∷ []) 0 ∷
     []

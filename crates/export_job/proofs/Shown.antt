@@ -1,7 +1,8 @@
--- What `quads_save_job` and `quads_open_job` show, from what their operations do. Assumes nothing.
+-- What `quads_save_job`, `quads_open_job` and `quads_job_sum` show, from what their operations do. Assumes nothing.
 use Prim.Native.Nat.{ℕ}
 use mathlib.Core.Path.{_≡_, refl}
-use mathlib.Core.List.{List}
+use mathlib.Core.Bool.{true, false}
+use mathlib.Core.List.{List, [], _∷_}
 use lib.ListN.{replicate}
 use Rattle.rule_sheet.specs.declared.Answer.{Answer}
 use Rattle.rule_sheet.specs.declared.Answer.the-variants as answers
@@ -9,12 +10,16 @@ use Rattle.rule_sheet.specs.declared.Counts.{Counts}
 use Rattle.rule_sheet.specs.declared.Verdict.{Verdict}
 use Rattle.rule_sheet.specs.declared.Verdict.the-variants.{Refused}
 use Rattle.rule_sheet.specs.Lent.{beforeVerdict}
-use Rattle.rule_sheet.specs.Outcomes.{Outcome, afterTest}
+use Rattle.rule_sheet.specs.Outcomes.{Outcome, gives, afterTest}
 use Rattle.sheet.proofs.Results.{pad-none}
+use Rattle.rule_job.specs.declared.Sum.{Sum}
+use Rattle.rule_job.specs.declared.Trailer.{Trailer}
+use Rattle.rule_job.specs.declared.Trailer.the-variants.{Found, Broken}
 use Rattle.rule_job.specs.Files.{Job}
-use Rattle.rule_job.specs.Jobs.{JobRoom, Saves, Opens}
+use Rattle.rule_job.specs.Jobs.{trailerNumber, JobRoom, Saves, Opens, sumBy}
 use Rattle.rule_exports.specs.Exports.{isShortAnswer, withAnswer, Shows}
-use Rattle.rule_exports.specs.Jobs.{ExportSaves, ExportOpens}
+use Rattle.rule_exports.specs.Measured.{fronted}
+use Rattle.rule_exports.specs.Jobs.{ExportSaves, ExportOpens, isShortSum, sumShown, sumAnswered, ShowsSum}
 
 -- a refusal leaves zeros
 pub refused-saves : (o : Outcome Job) {v : Verdict} {k n : ℕ} {F : List ℕ} → v ≡ Refused k → F ≡ replicate n 0 → Saves (afterTest v o) n (answers.Refused k) F
@@ -33,3 +38,18 @@ opened-shows O S = record {
   shows = rw (O .answer) at S;
   opens = record { answer = refl; header = O .header; points = O .points; quads = O .quads; labelled = O .labelled };
 }
+
+-- ---- the sum alone, by the length of its slice and by the trailer
+
+module _ (t : Trailer) (l : List ℕ) where
+  pub few-shows : isShortSum l ≡ true → {n : ℕ} → n ≡ sumAnswered (sumBy t true) → ShowsSum (sumBy t (isShortSum l)) l n l
+  few-shows h e = rw h (record { number = e; answer = rw h })
+
+  pub found-shows : isShortSum l ≡ false → {c : Counts} {s : Sum} {l′ : List ℕ} → t ≡ Found c s → l′ ≡ fronted (sumShown (gives s)) l
+      → ShowsSum (sumBy t (isShortSum l)) l 0 l′
+  unfolding sumBy sumAnswered
+  found-shows h e f = rw (h, e) (record { number = refl; answer = rw h f })
+
+  pub broken-shows : isShortSum l ≡ false → {l′ : List ℕ} → t ≡ Broken → l′ ≡ fronted (0 ∷ 0 ∷ []) l → ShowsSum (sumBy t (isShortSum l)) l trailerNumber l′
+  unfolding sumBy sumAnswered sumShown
+  broken-shows h e f = rw (h, e) (record { number = refl; answer = rw h f })

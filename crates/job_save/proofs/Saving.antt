@@ -1,36 +1,45 @@
 -- The bytes of a job: how many, and put one after the other. Assumes nothing.
 use Prim.Native.Nat.{ℕ, _+_, _*_, _≤_, zero-le}
-use mathlib.Core.Path.{_≡_, refl, _∙_}
+use mathlib.Core.Path.{_≡_, refl, ap, _∙_}
 use mathlib.Core.Bool.{Bool, true, false, cond, _||_}
-use mathlib.Core.List.{List, [], _++_}
+use mathlib.Core.List.{List, [], _++_, append-assoc, append-nil}
 use native.Mathlib.Omega.{arith}
 use lib.Dec.{ltb}
-use lib.ListN.{length, take, drop, replicate, length-append}
+use lib.ListN.{length, take, drop, replicate, length-append, length-replicate}
 use lib.Seq.{length-take-le}
 use borrow.Author.Tests.{ltb-false}
 use Rattle.lists.specs.Regions.{part}
-use Rattle.encoding.specs.Encoding.{littles}
-use Rattle.encoding.proofs.Laws.{length-littles}
-use Rattle.encoding.proofs.Loops.{Written, written-is, written-more}
+use Rattle.encoding.specs.Encoding.{little, littles}
+use Rattle.encoding.proofs.Laws.{length-little, length-littles}
+use Rattle.encoding.proofs.Loops.{Written, written-is, written-none, written-more}
 use Rattle.rule_sheet.specs.declared.Counts.{Counts}
 use Rattle.rule_sheet.specs.declared.Answer.the-variants as answers
 use Rattle.rule_sheet.specs.declared.Verdict.{Verdict}
 use Rattle.rule_sheet.specs.declared.Verdict.the-variants.{Accepted, Refused}
 use Rattle.rule_sheet.specs.Numbers.{large, short}
-use Rattle.rule_sheet.specs.Lent.{isLarge, isShort, roomWith, beforeVerdict}
+use Rattle.rule_sheet.specs.Lent.{isLarge, beforeVerdict}
 use Rattle.sheet.proofs.Tests.{or-left, or-right, holds-of}
 use Rattle.sheet.proofs.Results.{pad-over, pad-none}
-use Rattle.rule_job.specs.Files.{Job, quadsAt, labelsAt, trailerAt, sizeOf, trailerWords, fileOf}
-use Rattle.rule_job.specs.Jobs.{jobRoomWith, isShortJob, roomIn, heldJob, saveRule, Saves}
+use Rattle.rule_job.specs.declared.Sum.{Sum}
+use Rattle.rule_job.specs.declared.Sum.the-variants as sums
+use Rattle.rule_job.specs.Files.{Job, sumOf, quadsAt, labelsAt, trailerAt, startsOf, sumBytes, trailerSize, trailerBytes, fileWith, fileOf, sizeOf}
+use Rattle.rule_job.specs.Jobs.{JobRoom, isShortJob, roomIn, heldJob, saveRule, Saves}
 use Rattle.job_save.specs.Steps.{LentJob}
 
 -- ---- what 12 and 13 leave
 
-pub lent-of : (c : Counts) (h p q l : ℕ) → isLarge c ≡ false → isShortJob c (jobRoomWith h p q l) ≡ false → LentJob c h p q l
-unfolding isShortJob
-lent-of c h p q l a b =
-    let s = isShort c (roomWith p q l) in
-    record { header = ltb-false h 8 (or-left (ltb h 8) s b); sheet = holds-of c p q l a (or-right (ltb h 8) s b) }
+module _ (c : Counts) (r : JobRoom) (e : isShortJob c r ≡ false) where
+  pub lent-of : isLarge c ≡ false → LentJob c (r .header) (r .sheet .points) (r .sheet .quads) (r .sheet .labels)
+  unfolding isShortJob
+  lent-of a = record {
+    header = ltb-false _ _ (search (or-left, or-right));
+    sheet = holds-of c _ _ _ a (search (or-left, or-right));
+  }
+
+  -- there is an element of work for each point
+  pub work-of : c .points ≤ r .work
+  unfolding isShortJob
+  work-of = ltb-false _ _ (search (or-left, or-right))
 
 -- a test that accepts is passed by the counts and by the slices
 pub accepted-by : (c : Counts) (tooShort : Bool) → beforeVerdict c tooShort ≡ Accepted → (isLarge c ≡ false) × (tooShort ≡ false)
@@ -43,27 +52,30 @@ accepted-by c tooShort = go (isLarge c) tooShort
     go false false e = (refl, refl)
 
 -- the test of `save`
-abbrev pub saveVerdict : Job → ℕ → Verdict
-saveVerdict x n = beforeVerdict (x .counts) (isShortJob (x .counts) (roomIn x) || ltb n (sizeOf (x .counts)))
+abbrev pub saveVerdict : Job → ℕ → ℕ → Verdict
+saveVerdict x w n = beforeVerdict (x .counts) (isShortJob (x .counts) (roomIn x w) || ltb n (sizeOf (x .counts)))
 
 -- the slices of a lent job hold its counts
 abbrev pub Holds : Job → Type 0
 Holds x = LentJob (x .counts) (length (x .header)) (length (x .points)) (length (x .quads)) (length (x .labels))
 
--- a lent job that is saved to a slice of n bytes
-pub record Accepts (x : Job) (n : ℕ) : Type 0 where
+-- a lent job that is saved with w elements of work to a slice of n bytes
+pub record Accepts (x : Job) (w n : ℕ) : Type 0 where
   pub few : isLarge (x .counts) ≡ false
   pub lent : Holds x
+  pub work : x .counts .points ≤ w
   pub room : sizeOf (x .counts) ≤ n
 
-pub accepts : (x : Job) (n : ℕ) → saveVerdict x n ≡ Accepted → Accepts x n
-accepts x n e =
-    let b = isShortJob (x .counts) (roomIn x) in
+pub accepts : (x : Job) (w n : ℕ) → saveVerdict x w n ≡ Accepted → Accepts x w n
+accepts x w n e =
+    let b = isShortJob (x .counts) (roomIn x w) in
     let s = ltb n (sizeOf (x .counts)) in
     let a = accepted-by (x .counts) (b || s) e in
+    let d = or-left b s (a .1) in
     record {
       few = a .0;
-      lent = lent-of (x .counts) _ _ _ _ (a .0) (or-left b s (a .1));
+      lent = lent-of (x .counts) (roomIn x w) d (a .0);
+      work = work-of (x .counts) (roomIn x w) d;
       room = ltb-false n (sizeOf (x .counts)) (or-right b s (a .1));
     }
 
@@ -83,6 +95,20 @@ held-sized x K = record {
   quads = length-take-le (4 * x .counts .quads) (x .quads) (K .sheet .quads);
   labels = length-take-le (x .counts .labels) (x .labels) (K .sheet .labels);
 }
+
+-- the starts of a trailer, and those with the sum
+pub long-starts : (c : Counts) → length (littles 4 (startsOf c)) ≡ 16
+long-starts c = length-littles 4 (startsOf c)
+
+pub long-trailer : (c : Counts) (s : Sum) → length (trailerBytes c s) ≡ trailerSize s
+unfolding trailerBytes
+long-trailer c s =
+    length-append (littles 4 (startsOf c) ++ sumBytes s) (little 4 (trailerSize s))
+    ∙ omega (arith, length-append (littles 4 (startsOf c)) (sumBytes s), long-starts c, long-sum s, length-little 4 (trailerSize s))
+  where
+    long-sum : (s : Sum) → length (sumBytes s) + 20 ≡ trailerSize s
+    long-sum sums.Missing = refl
+    long-sum (sums.Written n) = omega (arith, length-little 8 n)
 
 -- the parts of a file before the points, the quads, the labels and the trailer
 abbrev pub headed : Job → List ℕ
@@ -116,15 +142,34 @@ module _ (j : Job) (S : Sized j) where
   pub long-labelled : length (labelled j) ≡ trailerAt (j .counts)
   long-labelled = length-append (cornered j) (j .labels) ∙ omega (arith, long-cornered, S .labels)
 
-  pub long-bytes : length (fileOf j) ≡ sizeOf (j .counts)
-  unfolding fileOf
-  long-bytes = length-append (labelled j) (littles 4 (trailerWords (j .counts))) ∙ omega (arith, long-labelled, length-littles 4 (trailerWords (j .counts)))
+  pub long-file : (s : Sum) → length (fileWith s j) ≡ trailerAt (j .counts) + trailerSize s
+  unfolding fileWith
+  long-file s = length-append (labelled j) (trailerBytes (j .counts) s) ∙ omega (arith, long-labelled, long-trailer (j .counts) s)
 
 -- ---- a file is put piece by piece, each behind the pieces before it
 
 -- w is put at a place, over m bytes
 abbrev Put : ℕ → ℕ → List ℕ → List ℕ → List ℕ → Type 0
 Put a m w s y = y ≡ take a s ++ w ++ drop (a + m) s
+
+-- the pieces of a trailer
+pub put-three : (c : Counts) (n : ℕ) (d : List ℕ) {s₁ s₂ s₃ : List ℕ} → sizeOf c ≤ length d
+    → Put (trailerAt c) 16 (littles 4 (startsOf c)) d s₁
+    → Put (trailerAt c + 16) 8 (little 8 n) s₁ s₂
+    → Put (trailerAt c + 24) 4 (little 4 28) s₂ s₃
+    → s₃ ≡ take (trailerAt c) d ++ trailerBytes c (sums.Written n) ++ drop (sizeOf c) d
+unfolding trailerBytes
+put-three c n d room e f g =
+    let p = take (trailerAt c) d ++ [] in
+    let a = littles 4 (startsOf c) in
+    let l₀ : length p ≡ trailerAt c = length-append (take (trailerAt c) d) [] ∙ omega (arith, length-take-le (trailerAt c) d (omega arith)) in
+    let l₁ : length (p ++ a) ≡ trailerAt c + 16 = length-append p a ∙ omega (arith, long-starts c) in
+    let l₂ : length (p ++ a ++ little 8 n) ≡ trailerAt c + 24 = length-append (p ++ a) (little 8 n) ∙ omega (arith, length-little 8 n) in
+    let l₃ : length (p ++ a ++ little 8 n ++ little 4 28) ≡ sizeOf c = length-append (p ++ a ++ little 8 n) (little 4 28) ∙ omega (arith, length-little 4 28) in
+    let W₁ = written-more (trailerAt c) 16 a (written-none (trailerAt c) d (omega arith)) l₀ (long-starts c) (omega arith) e in
+    let W₂ = written-more (trailerAt c + 16) 8 (little 8 n) W₁ l₁ (length-little 8 n) (omega arith) f in
+    let W₃ = written-more (trailerAt c + 24) 4 (little 4 28) W₂ l₂ (length-little 4 28) (omega arith) g in
+    written-is (sizeOf c) W₃ l₃ ∙ simp (append-assoc, append-nil)
 
 module _ (j : Job) (S : Sized j) (d : List ℕ) (room : sizeOf (j .counts) ≤ length d) where
   put-points : {s y : List ℕ} → Put 0 64 (headed j) d s → Put 64 (8 * (3 * j .counts .points)) (littles 8 (j .points)) s y → Written (pointed j) d y
@@ -138,39 +183,48 @@ module _ (j : Job) (S : Sized j) (d : List ℕ) (room : sizeOf (j .counts) ≤ l
   put-labels : {s y : List ℕ} → Written (cornered j) d s → Put (labelsAt (j .counts)) (j .counts .labels) (j .labels) s y → Written (labelled j) d y
   put-labels W e = written-more (labelsAt (j .counts)) (j .counts .labels) (j .labels) W (long-cornered j S) (S .labels) (omega arith) e
 
-  put-last : {s y : List ℕ} → Written (labelled j) d s → Put (trailerAt (j .counts)) 20 (littles 4 (trailerWords (j .counts))) s y → y ≡ fileOf j ++ drop (sizeOf (j .counts)) d
-  unfolding fileOf
-  put-last W e =
-      let t = littles 4 (trailerWords (j .counts)) in
-      let G = written-more (trailerAt (j .counts)) 20 t W (long-labelled j S) (length-littles 4 (trailerWords (j .counts))) room e in
-      written-is (sizeOf (j .counts)) G (length-append (labelled j) t ∙ omega (arith, long-labelled j S, length-littles 4 (trailerWords (j .counts))))
+  put-last : (n : ℕ) {s y : List ℕ} → Written (labelled j) d s → Put (trailerAt (j .counts)) 28 (trailerBytes (j .counts) (sums.Written n)) s y
+      → y ≡ fileWith (sums.Written n) j ++ drop (sizeOf (j .counts)) d
+  unfolding fileWith
+  put-last n W e =
+      let t = trailerBytes (j .counts) (sums.Written n) in
+      let l = long-trailer (j .counts) (sums.Written n) in
+      let G = written-more (trailerAt (j .counts)) 28 t W (long-labelled j S) l room e in
+      written-is (sizeOf (j .counts)) G (length-append (labelled j) t ∙ omega (arith, long-labelled j S))
 
 -- the five pieces of a lent job
-pub put-five : (x : Job) (d : List ℕ) {s₁ s₂ s₃ s₄ s₅ : List ℕ} → Holds x
+pub put-five : (x : Job) (n : ℕ) (d : List ℕ) {s₁ s₂ s₃ s₄ s₅ : List ℕ} → Holds x
     → sizeOf (x .counts) ≤ length d
     → Put 0 64 (littles 8 (take 8 (x .header))) d s₁
     → Put 64 (8 * (3 * x .counts .points)) (littles 8 (take (3 * x .counts .points) (x .points))) s₁ s₂
     → Put (quadsAt (x .counts)) (4 * (4 * x .counts .quads)) (littles 4 (take (4 * x .counts .quads) (x .quads))) s₂ s₃
     → Put (labelsAt (x .counts)) (x .counts .labels) (part 0 (x .counts .labels) (x .labels)) s₃ s₄
-    → Put (trailerAt (x .counts)) 20 (littles 4 (trailerWords (x .counts))) s₄ s₅
-    → s₅ ≡ fileOf (heldJob x) ++ drop (sizeOf (x .counts)) d
-put-five x d K room e₁ e₂ e₃ e₄ e₅ =
+    → Put (trailerAt (x .counts)) 28 (trailerBytes (x .counts) (sums.Written n)) s₄ s₅
+    → s₅ ≡ fileWith (sums.Written n) (heldJob x) ++ drop (sizeOf (x .counts)) d
+put-five x n d K room e₁ e₂ e₃ e₄ e₅ =
     let j = heldJob x in
     let S = held-sized x K in
-    put-last j S d room (put-labels j S d room (put-quads j S d room (put-points j S d room e₁ e₂) e₃) e₄) e₅
+    put-last j S d room n (put-labels j S d room (put-quads j S d room (put-points j S d room e₁ e₂) e₃) e₄) e₅
+
+-- ---- the work
+
+-- a slice that was cleared is as long as it was
+pub still-zeros : {n : ℕ} {w : List ℕ} → w ≡ replicate n 0 → (length w ≡ n) × (w ≡ replicate (length w) 0)
+still-zeros {n} {w} e = let l : length w ≡ n = ap length e ∙ length-replicate n 0 in (l, rw l e)
 
 -- ---- the answer
 
-pub saves-refused : (x : Job) (n k : ℕ) {F : List ℕ} → saveVerdict x n ≡ Refused k
-    → F ≡ replicate n 0 → Saves (saveRule x n) n (answers.Refused k) F
+pub saves-refused : (x : Job) (w n k : ℕ) {F : List ℕ} → saveVerdict x w n ≡ Refused k
+    → F ≡ replicate n 0 → Saves (saveRule x w n) n (answers.Refused k) F
 unfolding saveRule
-saves-refused x n k e z = rw e (record { answer = refl; file = pad-none 0 n z })
+saves-refused x w n k e z = rw e (record { answer = refl; file = pad-none 0 n z })
 
-pub saves-done : (x : Job) (n r : ℕ) {Z F : List ℕ} → Holds x
-    → saveVerdict x n ≡ Accepted
-    → Z ≡ replicate n 0 → F ≡ fileOf (heldJob x) ++ drop (sizeOf (x .counts)) Z → r ≡ sizeOf (x .counts)
-    → Saves (saveRule x n) n (answers.Done (record { count = r; sheet = x .counts })) F
+pub saves-done : (x : Job) (w n r m : ℕ) {Z F : List ℕ} → Holds x
+    → saveVerdict x w n ≡ Accepted → m ≡ sumOf (heldJob x)
+    → Z ≡ replicate n 0 → F ≡ fileWith (sums.Written m) (heldJob x) ++ drop (sizeOf (x .counts)) Z → r ≡ sizeOf (x .counts)
+    → Saves (saveRule x w n) n (answers.Done (record { count = r; sheet = x .counts })) F
 unfolding saveRule
-saves-done x n r K e z f g =
-    let l = long-bytes (heldJob x) (held-sized x K) in
-    rw e (record { answer = rw (g, l); file = pad-over 0 (sizeOf (x .counts)) n (fileOf (heldJob x)) z l f })
+saves-done x w n r m {Z} {F} K e i z f g =
+    let l = long-file (heldJob x) (held-sized x K) (sums.Written (sumOf (heldJob x))) in
+    let h : F ≡ fileOf (heldJob x) ++ drop (sizeOf (x .counts)) Z = rw i at f in
+    rw e (record { answer = rw (g, l); file = pad-over 0 (sizeOf (x .counts)) n (fileOf (heldJob x)) z l h })

@@ -1,10 +1,12 @@
 // The public face: every operation under its name, as a function that C and Rust can link. A slice passes as its
 // pointer and its length. An export that takes a band is told it as a kind, numbers, bounds and levels; the answer
-// slice takes the count of swaps or merges, or of the bytes of a saved file, and the counts of the sheet.
+// slice takes the count of swaps or merges, or of the bytes of a saved file, and the counts of the sheet, or what is
+// said at the export.
 
 use rule_sheet::Counts;
+ghost use mathlib.Core.Path.{_≡_};
 ghost use mathlib.Core.Bool.{false, _||_};
-ghost use lib.ListN.{length};
+ghost use lib.ListN.{length, replicate};
 ghost use Rattle.rule_sheet.specs.Lent.{lentOf, roomOf, workOf};
 ghost use Rattle.rule_sheet.specs.Results.{Cleared};
 ghost use Rattle.rule_regularize.specs.Rule.{regularizeRule, improveRule};
@@ -17,13 +19,13 @@ ghost use Rattle.rule_corners.specs.Corners.{cornersRule, dividedOf};
 ghost use Rattle.rule_page.specs.Page.{pageRule};
 ghost use Rattle.rule_extract.specs.Drawing.{extractRule};
 ghost use Rattle.rule_job.specs.Files.{jobOf};
-ghost use Rattle.rule_job.specs.Jobs.{jobRoomOf, saveRule};
+ghost use Rattle.rule_job.specs.Jobs.{jobRoomOf, saveRule, sumRule};
 ghost use Rattle.rule_exports.specs.Told.{toldOf, byTold, drawnByTold};
 ghost use Rattle.rule_exports.specs.Exports.{isShortAnswer, withAnswer, ExportMakes, ExportAlters, ExportAltersQuads};
 ghost use Rattle.rule_exports.specs.Measured.{isShortCounts, isShortMeasures, ShowsMeasures};
 ghost use Rattle.rule_exports.specs.Divided.{isShortRatio, ShowsRatio};
 ghost use Rattle.rule_exports.specs.Paged.{ShowsPage};
-ghost use Rattle.rule_exports.specs.Jobs.{ExportSaves, openBy, ExportOpens};
+ghost use Rattle.rule_exports.specs.Jobs.{ExportSaves, openBy, ExportOpens, isShortSum, ShowsSum};
 
 // `extract_candidate`: the counts of the drawn sheet go to answer[1..4], answer[0] is 0.
 #[no_mangle]
@@ -513,15 +515,18 @@ pub extern "C" fn quads_save_job(
     np: usize,
     nq: usize,
     nl: usize,
+    work: &mut [u32],
     file: &mut [u8],
     answer: &mut [u64],
 ) -> u32
-    ensures { λ r. ⌜ (
+    ensures answer { λ r. ⌜ (
         let x = jobOf (record { points = np; quads = nq; labels = nl }) (now (header .entry)) (now (points .entry))
         (now (quads .entry)) (now (labels .entry)) in
+        let w = length (now (work .entry)) in
         let m = length (now (file .entry)) in
         let l = now (answer .entry) in
-        ExportSaves (withAnswer (x .counts) l (saveRule x m)) m l r (now (file .exit)) (now (answer .exit))) ⌝ }
+        ExportSaves (withAnswer (x .counts) l (saveRule x w m)) m l r (now (file .exit)) (now (answer .exit))) ⌝ }
+    ensures cleared { λ _. ⌜ now (work .exit) ≡ replicate (length (now (work .entry))) 0 ⌝ }
 {
     let c = Counts {
         points: np,
@@ -529,7 +534,7 @@ pub extern "C" fn quads_save_job(
         labels: nl,
     };
     let before = export_band::answer_verdict(c, answer.len());
-    let r = export_job::save_after(before, header, points, quads, labels, c, file);
+    let r = export_job::save_after(before, header, points, quads, labels, c, work, file);
     export_band::put_answer(answer, r)
 }
 
@@ -541,16 +546,28 @@ pub extern "C" fn quads_open_job(
     new_points: &mut [u64],
     new_quads: &mut [u32],
     new_labels: &mut [u8],
+    work: &mut [u32],
     answer: &mut [u64],
 ) -> u32
-    ensures { λ r. ⌜ (
+    ensures answer { λ r. ⌜ (
         let room = jobRoomOf (now (header .entry)) (now («new_points» .entry)) (now («new_quads» .entry))
-        (now («new_labels» .entry)) in
+        (now («new_labels» .entry)) (now (work .entry)) in
         let l = now (answer .entry) in
         ExportOpens (openBy (now (file .entry)) room l) room l r (now (header .exit)) (now («new_points» .exit))
         (now («new_quads» .exit)) (now («new_labels» .exit)) (now (answer .exit))) ⌝ }
+    ensures cleared { λ _. ⌜ now (work .exit) ≡ replicate (length (now (work .entry))) 0 ⌝ }
 {
     let few = answer.len() < export_band::ANSWERS;
-    let r = export_job::open_after(few, file, header, new_points, new_quads, new_labels);
+    let r = export_job::open_after(few, file, header, new_points, new_quads, new_labels, work);
     export_band::put_answer(answer, r)
+}
+
+// The squared sum that a job file says, without opening it: answer[0] is 1 where one is written, answer[1] is the sum.
+#[no_mangle]
+pub extern "C" fn quads_job_sum(file: &[u8], answer: &mut [u64]) -> u32
+    ensures { λ r. ⌜ (
+        let l = now (answer .entry) in
+        ShowsSum (sumRule (now (file .entry)) (isShortSum l)) l r (now (answer .exit))) ⌝ }
+{
+    export_job::sum_told(file, answer)
 }

@@ -40,7 +40,7 @@ fn agrees(bytes: &[u8], operation: u64, number: u64) -> bool {
         1 | 2 | 7 => replay_made::agrees(bytes, operation, &k, number),
         3 => replay_made::agrees_drawn(bytes, &k, number),
         4 | 5 | 6 => replay_altered::agrees(bytes, operation, &k, number),
-        18 | 19 => replay_job::agrees(bytes, operation, number),
+        18 | 19 | 20 => replay_job::agrees(bytes, operation, number),
         _ => replay_measured::agrees(bytes, operation, &k, number),
     }
 }

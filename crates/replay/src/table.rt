@@ -29,6 +29,7 @@ fn print_name(operation: usize) -> bool {
         17 => io::write_all(1, b"page "),
         18 => io::write_all(1, b"save "),
         19 => io::write_all(1, b"open "),
+        20 => io::write_all(1, b"sum "),
         _ => print_function(operation),
     }
 }

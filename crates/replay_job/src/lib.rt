@@ -1,9 +1,11 @@
-// `save` and `open`, asked as a record says, and whether they answer as it.
+// `save`, `open` and the sum of a file, asked as a record says, and whether they answer as it.
 
 mod stored;
 
 use replay_records::numbers;
 use replay_records::sheets;
+ghost use Prim.Native.Nat.{_≤_};
+ghost use lib.ListN.{length};
 
 // Where the header of a record's job begins, and where its points or the file of `open` do.
 const HEADER: usize = 144;
@@ -13,8 +15,10 @@ const POINTS: usize = 208;
 // The most bytes that are lent for a file, or that a file has.
 const MOST: usize = 2800;
 
-// The number of `save`.
+// The numbers of `save` and of the sum.
 const SAVE: u64 = 18;
+
+const SUM: u64 = 20;
 
 // The numbers of eight bytes from a place on, as many as the slice takes.
 fn load_words(bytes: &[u8], at: usize, words: &mut [u64]) {
@@ -37,6 +41,7 @@ fn saves_to(bytes: &[u8], file: &mut [u8], number: u64) -> bool {
     load_words(bytes, POINTS, &mut points);
     numbers::load_halves(bytes, corners_at, &mut corners);
     numbers::load_bytes(bytes, corners_at + 16 * n.quads, &mut labels);
+    let mut work = [7u32; 64];
     let mut answer = [7u64; 4];
     let got = quads::quads_save_job(
         &header,
@@ -46,10 +51,11 @@ fn saves_to(bytes: &[u8], file: &mut [u8], number: u64) -> bool {
         n.points,
         n.quads,
         n.labels,
+        &mut work,
         file,
         &mut answer,
     );
-    stored::same_saved(bytes, got, number, file, &answer)
+    stored::is_clear(&work) && stored::same_saved(bytes, got, number, file, &answer)
 }
 
 // The same, to a slice as long as the record says.
@@ -61,45 +67,65 @@ fn save_agrees(bytes: &[u8], lent: usize, number: u64) -> bool {
     saves_to(bytes, &mut file[..lent], number)
 }
 
-// Whether `open` of the file of so many bytes answers as the record says; it stands where labels would.
-fn open_agrees(bytes: &[u8], size: usize, number: u64) -> bool {
+// Whether `open` of a file answers as the record says.
+fn open_agrees(bytes: &[u8], file: &[u8], number: u64) -> bool
+    requires { ⌜ length (now file) ≤ 2800 ⌝ }
+{
+    let mut header = [7u64; 8];
+    let mut points = [7u64; 192];
+    let mut corners = [7u32; 256];
+    let mut labels = [7u8; 64];
+    let mut work = [7u32; 64];
+    let mut answer = [7u64; 4];
+    let got = quads::quads_open_job(
+        file,
+        &mut header,
+        &mut points,
+        &mut corners,
+        &mut labels,
+        &mut work,
+        &mut answer,
+    );
+    let at = POINTS + (file.len() + 7) / 8 * 8;
+    stored::is_clear(&work)
+        && stored::same_opened(
+            bytes,
+            at,
+            got,
+            number,
+            &header,
+            &points,
+            &corners,
+            &labels,
+            &answer,
+        )
+}
+
+// Whether the sum of a file is told as the record says: whether one is written, and the sum.
+fn sum_agrees(bytes: &[u8], file: &[u8], number: u64) -> bool {
+    let mut answer = [7u64; 2];
+    let got = quads::quads_job_sum(file, &mut answer);
+    got as u64 == number
+        && answer[0] == numbers::half_at(bytes, 40)
+        && answer[1] == numbers::word_at(bytes, 16)
+}
+
+// Whether the operation of a record, one of these three, answers as the record says. A file that is read stands where
+// labels would.
+pub fn agrees(bytes: &[u8], operation: u64, number: u64) -> bool {
+    if operation == SAVE {
+        return save_agrees(bytes, numbers::half_at(bytes, 8) as usize, number);
+    }
+    let size = numbers::half_at(bytes, 32) as usize;
     if MOST < size {
         return false;
     }
     if bytes.len() < POINTS + size {
         return false;
     }
-    let mut header = [7u64; 8];
-    let mut points = [7u64; 192];
-    let mut corners = [7u32; 256];
-    let mut labels = [7u8; 64];
-    let mut answer = [7u64; 4];
-    let got = quads::quads_open_job(
-        &bytes[POINTS..POINTS + size],
-        &mut header,
-        &mut points,
-        &mut corners,
-        &mut labels,
-        &mut answer,
-    );
-    let at = POINTS + (size + 7) / 8 * 8;
-    stored::same_opened(
-        bytes,
-        at,
-        got,
-        number,
-        &header,
-        &points,
-        &corners,
-        &labels,
-        &answer,
-    )
-}
-
-// Whether the operation of a record, one of these two, answers as the record says.
-pub fn agrees(bytes: &[u8], operation: u64, number: u64) -> bool {
-    if operation == SAVE {
-        return save_agrees(bytes, numbers::half_at(bytes, 8) as usize, number);
+    let file = &bytes[POINTS..POINTS + size];
+    if operation == SUM {
+        return sum_agrees(bytes, file, number);
     }
-    open_agrees(bytes, numbers::half_at(bytes, 32) as usize, number)
+    open_agrees(bytes, file, number)
 }

@@ -79,6 +79,11 @@ fn same_bytes(bytes: &[u8], at: usize, count: usize, s: &[u8]) -> bool {
     true
 }
 
+// Whether all of a slice is zero.
+pub fn is_clear(s: &[u32]) -> bool {
+    same_halves(&[], 0, 0, s)
+}
+
 // One of the stored counts of points, quads and labels, zeros of a refusal.
 fn count_at(bytes: &[u8], at: usize) -> usize
     requires { ⌜ at ≤ 48 ⌝ }

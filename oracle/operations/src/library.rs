@@ -91,8 +91,8 @@ impl Lent {
         self
     }
 
-    /// Calls the operation: 0, or the number of its refusal. None where it is not one of the library's, or saves or
-    /// opens a job, which is lent other things.
+    /// Calls the operation: 0, or the number of its refusal. None where it is not one of the library's, or is of a job,
+    /// which is lent other things.
     pub fn run(&mut self, operation: Operation) -> Option<u32> {
         let (band, number, answer) = (self.band.as_band_ref(), self.argument, &mut self.answer);
         let (sheet, made, work) = (&mut self.sheet, self.result.as_sheet_out(), self.work.as_work_mut());
@@ -109,7 +109,7 @@ impl Lent {
             Operation::Page => Some(ffi::page(sheet.as_sheet_ref(), band, work, &mut self.page)),
             Operation::Project | Operation::Value | Operation::Gradient | Operation::Normal => None,
             Operation::Sqrt | Operation::Constraints | Operation::Validate => None,
-            Operation::Save | Operation::Open => None,
+            Operation::Save | Operation::Open | Operation::Sum => None,
         }
     }
 

@@ -21,11 +21,11 @@ pub struct Call {
     /// Which one.
     pub operation: Operation,
     /// Passes, cells, mask or label; of `save` the bytes lent for the file, of `open` the points, quads and labels for
-    /// which there is room, where 0 stands for 64.
+    /// which there is room, and the elements of work, where 0 stands for 64.
     pub argument: u64,
     /// The band; `save` takes its box and its levels.
     pub band: BandNumbers,
-    /// The lent sheet; operations 9 to 13 take its only point, and `open` its labels as the bytes of the file.
+    /// The lent sheet; operations 9 to 13 take its only point, `open` and `sum` its labels as the bytes of the file.
     pub sheet: QuadMesh,
 }
 
@@ -36,9 +36,9 @@ pub struct Answer {
     pub number: u8,
     /// What is said by `DIGEST`, `VALID`, `TIGHT` and `SCORED`.
     pub flags: u8,
-    /// How many swaps or merges were made, or how many bytes were saved.
+    /// How many swaps or merges were made, or how many bytes were saved, or the sum that was read.
     pub count: u64,
-    /// Points, quads and labels of the result, or of the sheet that was saved.
+    /// Points, quads and labels of the result, or of the sheet that was saved; of `sum`, 1 and zeros if one is written.
     pub counts: [u32; 3],
     /// The result.
     pub words: Vec<u64>,
@@ -139,6 +139,12 @@ impl Answer {
         Answer { counts: job::counts(sheet).map(|n| n as u32), words, ..Answer::default() }
     }
 
+    /// Accepted, with the sum that a file has, or with none.
+    pub fn sum(written: Option<u64>) -> Answer {
+        let counts = [u32::from(written.is_some()), 0, 0];
+        Answer { count: written.unwrap_or(0), counts, ..Answer::default() }
+    }
+
     /// The answer of a result of the original.
     fn of<T>(result: Result<T, MeshingError>, accepted: impl FnOnce(T) -> Answer) -> Answer {
         result.map_or_else(|error| Answer::refused(refusal::number(&error)), accepted)
@@ -170,7 +176,8 @@ fn cleaned(call: &Call, operation: Clean) -> Answer {
 }
 
 /// Runs the original's own operation on a sheet, which is the call's or a copy of it, and keeps nothing of the answer;
-/// where it has no such operation, what stands for it; of `save` and `open`, the oracle's writer and reader alone.
+/// where it has no such operation, what stands for it; of `save` and `open`, the oracle's writer and reader alone, with
+/// the sum that they work out and compare.
 pub fn run(call: &Call, sheet: &mut QuadMesh) {
     let (band, number) = (&call.band.band(), call.argument as usize);
     match call.operation {
@@ -183,7 +190,7 @@ pub fn run(call: &Call, sheet: &mut QuadMesh) {
         Operation::Coarsen => drop(quads::coarsen(sheet, band, number)),
         Operation::Quality => drop(quads::quality(sheet, band)),
         Operation::Save => drop(job::file_of(&job::header(&call.band), sheet)),
-        Operation::Open => drop(job::read(&sheet.labels)),
+        Operation::Open => drop(job::read(&sheet.labels).map(|job| job::tells_true(&sheet.labels, &job.sheet))),
         _ => drop(original(call)),
     }
 }
@@ -217,6 +224,7 @@ pub fn original(call: &Call) -> Answer {
         Operation::Page => Answer::of(quads::quality(sheet, band), |q| Answer::text(page::text(&q).as_bytes())),
         Operation::Save => job::saved(call),
         Operation::Open => job::opened(&sheet.labels, Room::of(call.argument)),
+        Operation::Sum => job::summed(&sheet.labels),
     }
 }
 
@@ -241,6 +249,14 @@ mod tests {
     fn the_words_of_a_file_are_its_bytes_and_zeros() {
         let Answer { words, count, counts, .. } = Answer::file(&[1, 2, 3, 4, 5, 6, 7, 8, 9], [3, 2, 1]);
         assert_eq!((words, count, counts), (vec![0x0807_0605_0403_0201, 9], 9, [3, 2, 1]));
+    }
+
+    #[test]
+    fn a_sum_is_a_count_and_whether_it_is_written() {
+        let Answer { number, count, counts, words, .. } = Answer::sum(Some(7));
+        assert_eq!((number, count, counts, words), (0, 7, [1, 0, 0], vec![]));
+        assert_eq!(Answer::sum(None), Answer::accepted());
+        assert_ne!(Answer::sum(Some(0)), Answer::sum(None));
     }
 
     #[test]

@@ -1,4 +1,5 @@
-//! Random jobs to save, and job files to open, good and damaged.
+//! Random jobs to save, and job files without a sum to open, good and damaged. The stored sample is made of them: what
+//! is new stands in `summed`.
 use crate::call::Call;
 use crate::job::{self, Job};
 use crate::quads::QuadMesh;
@@ -15,7 +16,7 @@ fn float(r: &mut Random) -> f64 {
 }
 
 /// A point of such floats.
-fn point(r: &mut Random) -> Point {
+pub fn point(r: &mut Random) -> Point {
     std::array::from_fn(|_| float(r))
 }
 
@@ -48,12 +49,12 @@ fn sheet(r: &mut Random) -> QuadMesh {
 }
 
 /// Any job.
-fn job(r: &mut Random) -> Job {
+pub fn job(r: &mut Random) -> Job {
     Job { header: std::array::from_fn(|_| float(r)), sheet: sheet(r) }
 }
 
 /// A number of elements that is enough, exactly or more, or too few.
-fn about(r: &mut Random, needed: usize) -> usize {
+pub fn about(r: &mut Random, needed: usize) -> usize {
     let few = [needed.saturating_sub(1), needed / 2, 0];
     let enough = [needed, needed, needed + 1, needed + 9, 2 * needed + 30];
     if r.one_in(4) { r.pick(&few) } else { r.pick(&enough) }
@@ -66,7 +67,7 @@ pub fn saving(r: &mut Random) -> Call {
     job::save(job, about(r, needed))
 }
 
-/// A number of the trailer of a file, of which the first is number 0.
+/// A number of the trailer of a file without a sum, of which the first is number 0.
 pub fn number(file: &[u8], which: usize) -> u32 {
     let at = file.len() - 20 + 4 * which;
     file[at..].first_chunk().map_or(0, |bytes| u32::from_le_bytes(*bytes))
@@ -118,12 +119,12 @@ fn tiny(r: &mut Random) -> Vec<u8> {
     file
 }
 
-/// Any file: of any job, as it is or damaged once or twice, or a short one.
+/// Any file without a sum: of any job, as it is or damaged once or twice, or a short one.
 fn file(r: &mut Random) -> Vec<u8> {
     if r.one_in(8) {
         return tiny(r);
     }
-    let mut file = job::write(&job(r));
+    let mut file = job::write_old(&job(r));
     for _ in 0..r.pick(&[0, 0, 0, 1, 1, 2]) {
         if file.len() > 50 {
             damage(r, &mut file);
@@ -132,9 +133,14 @@ fn file(r: &mut Random) -> Vec<u8> {
     file
 }
 
-/// A call that opens any file, with room for its sheet, more, or less.
+/// A call that opens any file without a sum, with room for its sheet, more, or less.
 pub fn opening(r: &mut Random) -> Call {
     let file = file(r);
+    opening_of(r, file)
+}
+
+/// A call that opens a file, with room for its sheet, more, or less.
+pub fn opening_of(r: &mut Random, file: Vec<u8>) -> Call {
     let counts = job::read(&file).map_or([r.below(9); 3], |job| job::counts(&job.sheet));
     let room = about(r, counts.into_iter().fold(0, usize::max));
     job::open(file, room as u64)
@@ -169,7 +175,7 @@ mod tests {
         let mut r = Random::new(2);
         let mut good = [0; 2];
         for _ in 0..4000 {
-            let mut file = job::write(&job(&mut r));
+            let mut file = job::write_old(&job(&mut r));
             damage(&mut r, &mut file);
             good[usize::from(job::read(&file).is_ok())] += 1;
         }

@@ -2,7 +2,7 @@
 use crate::call::{Call, lone};
 use crate::operation::Operation;
 use crate::random::Random;
-use crate::{bands, drawn, files, floats, sheets};
+use crate::{bands, drawn, floats, sheets, summed};
 
 /// A number to take the root of: hostile, or a square or nearly.
 pub fn radicand(r: &mut Random) -> f64 {
@@ -65,8 +65,9 @@ pub fn call(r: &mut Random, operation: Operation) -> Call {
         }
         Operation::Constraints => Call { argument: 0, ..on_sheet(r, operation) },
         Operation::Refine => on_sheet(r, operation),
-        Operation::Save => files::saving(r),
-        Operation::Open => files::opening(r),
+        Operation::Save => summed::saving(r),
+        Operation::Open => summed::opening(r),
+        Operation::Sum => summed::summing(r),
         _ => on_any_sheet(r, operation),
     }
 }
@@ -96,7 +97,8 @@ mod tests {
         assert_eq!(numbers(Operation::Corners), BTreeSet::from([0, 1, 5, 6, 7]));
         assert_eq!(numbers(Operation::Page), BTreeSet::from([0, 1, 5, 6, 7, 11]));
         assert_eq!(numbers(Operation::Save), BTreeSet::from([0, 13]));
-        assert_eq!(numbers(Operation::Open), BTreeSet::from([0, 13, 14]));
+        assert_eq!(numbers(Operation::Open), BTreeSet::from([0, 13, 14, 17]));
+        assert_eq!(numbers(Operation::Sum), BTreeSet::from([0, 14]));
     }
 
     #[test]

@@ -1,5 +1,6 @@
 //! Job files, which the original does not have: a writer by `to_le_bytes` and a reader by `chunks_exact`, which share
-//! nothing with the library and its Rust crate. A trailer is good if it is the one that the writer would write.
+//! nothing with the library and its Rust crate. A trailer is good if it is the one that the writer would write of the
+//! counts that it tells and of the sum that stands in it, or, without a sum, the one that was written before.
 use crate::Point;
 use crate::call::{Answer, Call};
 use crate::field::{BandNumbers, Field};
@@ -12,10 +13,12 @@ pub const MOST: usize = 1_048_576;
 /// How many points, quads and labels the replay has room for.
 const REPLAYED: usize = 64;
 
-/// The refusals: a sheet above the limit, a slice that is too short, a trailer that is not good.
+/// The refusals: a sheet above the limit, a slice that is too short, a trailer that is not good, a sum that is not the
+/// sheet's.
 const LARGE: u8 = 12;
 const SHORT: u8 = 13;
 const TRAILER: u8 = 14;
+const SUM: u8 = 17;
 
 /// A band of which nothing is used.
 pub const NO_BAND: BandNumbers = BandNumbers { field: Field::Plane([0.0; 4]), bounds: [[0.0; 3]; 2], levels: [0.0; 2] };
@@ -40,18 +43,21 @@ pub struct Room {
     pub quads: usize,
     /// Those of the labels.
     pub labels: usize,
+    /// Those of the work, one a point.
+    pub work: usize,
 }
 
 impl Room {
     /// Room for a header, and for so many points, quads and labels; 0 stands for the room of the replay.
     pub fn of(argument: u64) -> Room {
         let n = if argument == 0 { REPLAYED } else { argument as usize };
-        Room { header: 8, points: 3 * n, quads: 4 * n, labels: n }
+        Room { header: 8, points: 3 * n, quads: 4 * n, labels: n, work: n }
     }
 
-    /// Whether it holds the header and a sheet of these counts.
+    /// Whether it holds the header and a sheet of these counts, with its work.
     fn holds(self, [points, quads, labels]: [usize; 3]) -> bool {
-        self.header >= 8 && self.points >= 3 * points && self.quads >= 4 * quads && self.labels >= labels
+        let sheet = self.points >= 3 * points && self.quads >= 4 * quads && self.labels >= labels;
+        sheet && self.header >= 8 && self.work >= points
     }
 }
 
@@ -65,16 +71,32 @@ fn is_large(counts: [usize; 3]) -> bool {
     counts.iter().any(|&n| n > MOST)
 }
 
-/// The trailer of a sheet of these counts: the starts of points, quads, labels and trailer, and its length.
-fn trailer([points, quads, labels]: [usize; 3]) -> [usize; 5] {
+/// The starts of points, quads, labels and trailer in the file of a sheet of these counts.
+fn starts([points, quads, labels]: [usize; 3]) -> [usize; 4] {
     let at_quads = 64 + 24 * points;
     let at_labels = at_quads + 16 * quads;
-    [64, at_quads, at_labels, at_labels + labels, 20]
+    [64, at_quads, at_labels, at_labels + labels]
 }
 
-/// The bytes of a file with a sheet of these counts.
+/// The trailer of a sheet of these counts, with a sum or as it was before there was one.
+fn trailer(counts: [usize; 3], sum: Option<u64>) -> Vec<u8> {
+    let mut trailer: Vec<u8> = starts(counts).iter().flat_map(|&n| (n as u32).to_le_bytes()).collect();
+    trailer.extend(sum.map(u64::to_le_bytes).iter().flatten());
+    trailer.extend((trailer.len() as u32 + 4).to_le_bytes());
+    trailer
+}
+
+/// The bytes of the file with a sheet of these counts.
 pub fn bytes(counts: [usize; 3]) -> usize {
-    trailer(counts)[3] + 20
+    starts(counts)[3] + 28
+}
+
+/// The sum over the points of (corners that name the point minus 4) squared. A corner out of range names none.
+pub fn squared_sum(sheet: &QuadMesh) -> u64 {
+    let mut named = vec![0u64; sheet.points.len()];
+    let corners = sheet.quads.iter().flatten().filter(|&&corner| corner < sheet.points.len());
+    corners.for_each(|&corner| named[corner] += 1);
+    named.iter().map(|corners| corners.abs_diff(4).pow(2)).sum()
 }
 
 /// The file of a job.
@@ -82,14 +104,25 @@ pub fn write(job: &Job) -> Vec<u8> {
     file_of(&job.header, &job.sheet)
 }
 
+/// The file of a job as it was before there was a sum in it.
+pub fn write_old(job: &Job) -> Vec<u8> {
+    [body(&job.header, &job.sheet), trailer(counts(&job.sheet), None)].concat()
+}
+
 /// The file of a header and a sheet.
 pub fn file_of(header: &[f64; 8], sheet: &QuadMesh) -> Vec<u8> {
+    let mut file = body(header, sheet);
+    file.extend(trailer(counts(sheet), Some(squared_sum(sheet))));
+    file
+}
+
+/// What stands in front of the trailer.
+fn body(header: &[f64; 8], sheet: &QuadMesh) -> Vec<u8> {
     let mut file = Vec::with_capacity(bytes(counts(sheet)));
     let floats = header.iter().chain(sheet.points.iter().flatten());
     floats.for_each(|x| file.extend(x.to_bits().to_le_bytes()));
     sheet.quads.iter().flatten().for_each(|&corner| file.extend((corner as u32).to_le_bytes()));
     file.extend(&sheet.labels);
-    trailer(counts(sheet)).iter().for_each(|&n| file.extend((n as u32).to_le_bytes()));
     file
 }
 
@@ -102,21 +135,34 @@ fn numbers(bytes: &[u8], size: usize) -> impl Iterator<Item = u64> {
     })
 }
 
-/// The counts that a good trailer says; none where it is not good.
-fn counts_in(file: &[u8]) -> Option<[usize; 3]> {
-    let found: Vec<usize> = numbers(&file[file.len().checked_sub(20)?..], 4).map(|n| n as usize).collect();
+/// The counts that the trailer of a file says from a byte on, and the sum if one is to be there; none where it is not
+/// good.
+fn told_from(file: &[u8], at: usize, summed: bool) -> Option<([usize; 3], Option<u64>)> {
+    let found: Vec<usize> = numbers(&file[at..at + 16], 4).map(|n| n as usize).collect();
     let part = |place: usize, size: usize| Some(found[place + 1].checked_sub(found[place])? / size);
     let counts = [part(0, 24)?, part(1, 16)?, part(2, 1)?];
-    (found == trailer(counts) && bytes(counts) == file.len()).then_some(counts)
+    let sum = if summed { numbers(&file[at + 16..], 8).next() } else { None };
+    (file[at..] == trailer(counts, sum) && starts(counts)[3] == at).then_some((counts, sum))
 }
 
-/// The job of a file, or the number with which it is refused whatever room there is.
+/// The counts and the sum, if there is one, that a good trailer says; none where it is not good.
+fn told(file: &[u8]) -> Option<([usize; 3], Option<u64>)> {
+    let from = |length: usize, summed| told_from(file, file.len().checked_sub(length)?, summed);
+    from(20, false).or_else(|| from(28, true))
+}
+
+/// Whether the sum that a good file says is that of a sheet; one that says none tells nothing false.
+pub fn tells_true(file: &[u8], sheet: &QuadMesh) -> bool {
+    told(file).and_then(|(_, sum)| sum).is_none_or(|sum| sum == squared_sum(sheet))
+}
+
+/// The job of a file, or the number with which it is refused whatever room there is and whatever its sum is.
 pub fn read(file: &[u8]) -> Result<Job, u8> {
-    let counts = counts_in(file).ok_or(TRAILER)?;
+    let (counts, _) = told(file).ok_or(TRAILER)?;
     if is_large(counts) {
         return Err(LARGE);
     }
-    let [_, quads, labels, end, _] = trailer(counts);
+    let [_, quads, labels, end] = starts(counts);
     let floats: Vec<f64> = numbers(&file[..quads], 8).map(f64::from_bits).collect();
     let corners: Vec<usize> = numbers(&file[quads..labels], 4).map(|corner| corner as usize).collect();
     let point = |c: &[f64]| -> Point { [c[0], c[1], c[2]] };
@@ -153,6 +199,11 @@ pub fn open(file: Vec<u8>, room: u64) -> Call {
     Call { operation: Operation::Open, argument: room, band: NO_BAND, sheet }
 }
 
+/// The call that reads the sum of a file, which stands where the labels of a sheet would.
+pub fn sum(file: Vec<u8>) -> Call {
+    Call { operation: Operation::Sum, ..open(file, 0) }
+}
+
 /// What is expected of a call that saves, its slices as long as they must be: the file, which needs so many bytes.
 pub fn saved(call: &Call) -> Answer {
     let counts = counts(&call.sheet);
@@ -170,8 +221,14 @@ pub fn opened(file: &[u8], room: Room) -> Answer {
     match read(file) {
         Err(number) => Answer::refused(number),
         Ok(job) if !room.holds(counts(&job.sheet)) => Answer::refused(SHORT),
+        Ok(job) if !tells_true(file, &job.sheet) => Answer::refused(SUM),
         Ok(job) => Answer::job(&job),
     }
+}
+
+/// What is expected of a call that reads the sum of a file, its answer slice as long as it must be.
+pub fn summed(file: &[u8]) -> Answer {
+    told(file).map_or(Answer::refused(TRAILER), |(_, sum)| Answer::sum(sum))
 }
 
 #[cfg(test)]
@@ -194,54 +251,97 @@ mod tests {
     }
 
     #[test]
-    fn the_cube_has_its_378_bytes() {
-        let file = write(&cube());
-        assert_eq!(file, include_bytes!("../../../rust/quads/tests/cube.job"));
-        assert_eq!(file[358..], [64, 0, 0, 0, 0, 1, 0, 0, 96, 1, 0, 0, 102, 1, 0, 0, 20, 0, 0, 0]);
-        let answer = original(&save(cube(), 378));
-        assert_eq!((answer.count, answer.counts, file_in(&answer)), (378, [8, 6, 6], file));
+    fn the_cube_has_its_386_bytes_and_had_378() {
+        let (file, old) = (write(&cube()), write_old(&cube()));
+        assert_eq!(file, include_bytes!("../../../rust/quads/tests/cube-sum.job"));
+        assert_eq!(old, include_bytes!("../../../rust/quads/tests/cube.job"));
+        assert_eq!(old[358..], [64, 0, 0, 0, 0, 1, 0, 0, 96, 1, 0, 0, 102, 1, 0, 0, 20, 0, 0, 0]);
+        assert_eq!(file[374..], [8, 0, 0, 0, 0, 0, 0, 0, 28, 0, 0, 0]);
+        let answer = original(&save(cube(), 386));
+        assert_eq!((answer.count, answer.counts, file_in(&answer)), (386, [8, 6, 6], file));
     }
 
     #[test]
-    fn nothing_has_84_bytes() {
+    fn nothing_has_92_bytes_and_had_84() {
         let nothing = Job { header: [0.0; 8], sheet: sheets::empty() };
-        let file = write(&nothing);
-        assert_eq!(file[64..], [64, 0, 0, 0, 64, 0, 0, 0, 64, 0, 0, 0, 64, 0, 0, 0, 20, 0, 0, 0]);
-        assert_eq!(original(&open(file, 0)), Answer { words: vec![0; 8], ..Answer::default() });
+        let (file, old) = (write(&nothing), write_old(&nothing));
+        assert_eq!(old[64..], [64, 0, 0, 0, 64, 0, 0, 0, 64, 0, 0, 0, 64, 0, 0, 0, 20, 0, 0, 0]);
+        assert_eq!((file.len(), &file[80..]), (92, &[0, 0, 0, 0, 0, 0, 0, 0, 28, 0, 0, 0][..]));
+        for file in [file, old] {
+            assert_eq!(original(&open(file, 0)), Answer { words: vec![0; 8], ..Answer::default() });
+        }
+    }
+
+    #[test]
+    fn sums_are_those_that_are_worked_out_by_hand() {
+        let sum = |points: usize, quads: Vec<[usize; 4]>| {
+            squared_sum(&QuadMesh { points: vec![[0.5; 3]; points], quads, labels: vec![] })
+        };
+        assert_eq!((squared_sum(&sheets::cube()), squared_sum(&sheets::pillow())), (8, 16));
+        assert_eq!([sum(1, vec![[0; 4]; 2]), sum(1, vec![[0; 4]]), sum(3, vec![])], [16, 0, 48]);
+        assert_eq!([sum(5, vec![[5, 6, 7, u32::MAX as usize]; 3]), sum(0, vec![[0; 4]; 9])], [80, 0]);
+        assert_eq!(sum(2, vec![[0, 0, 0, 2]]), 1 + 16);
     }
 
     #[test]
     fn large_short_and_trailer_have_their_order() {
         let number = |call: Call| original(&call).number;
-        assert_eq!([377, 378, 400].map(|lent| number(save(cube(), lent))), [SHORT, 0, 0]);
+        assert_eq!([385, 386, 400].map(|lent| number(save(cube(), lent))), [SHORT, 0, 0]);
         let many = |labels| Job { sheet: QuadMesh { labels: vec![1; labels], ..sheets::empty() }, ..cube() };
         assert_eq!([MOST, MOST + 1].map(|n| number(save(many(n), 0))), [SHORT, LARGE]);
-        assert_eq!([MOST, MOST + 1].map(|n| number(open(write(&many(n)), 1))), [SHORT, LARGE]);
-        assert_eq!(number(open(write(&many(MOST)), MOST as u64)), 0);
-        assert_eq!(number(open([write(&many(MOST + 1)), vec![0]].concat(), 1)), TRAILER);
-        let file = write(&cube());
-        assert!((0..378).all(|bytes| number(open(file[..bytes].to_vec(), 0)) == TRAILER));
-        assert_eq!([7, 8, 0].map(|room| number(open(file.clone(), room))), [SHORT, 0, 0]);
+        for write in [write, write_old] {
+            assert_eq!([MOST, MOST + 1].map(|n| number(open(write(&many(n)), 1))), [SHORT, LARGE]);
+            assert_eq!(number(open(write(&many(MOST)), MOST as u64)), 0);
+            assert_eq!(number(open([write(&many(MOST + 1)), vec![0]].concat(), 1)), TRAILER);
+            let file = write(&cube());
+            assert!((0..file.len()).all(|bytes| number(open(file[..bytes].to_vec(), 0)) == TRAILER));
+            assert!((0..file.len()).all(|bytes| number(sum(file[..bytes].to_vec())) == TRAILER));
+            assert_eq!([7, 8, 0].map(|room| number(open(file.clone(), room))), [SHORT, 0, 0]);
+        }
+    }
+
+    #[test]
+    fn a_sum_is_read_as_it_is_written_and_compared_behind_all_else() {
+        let answered = |file: &[u8], room| original(&open(file.to_vec(), room)).number;
+        let mut file = write(&cube());
+        assert_eq!((summed(&file), summed(&write_old(&cube()))), (Answer::sum(Some(8)), Answer::sum(None)));
+        for byte in 374..382 {
+            file[byte] ^= 128;
+            assert_eq!([7, 8, 0].map(|room| answered(&file, room)), [SHORT, SUM, SUM]);
+            assert_ne!(summed(&file), Answer::sum(Some(8)));
+            file[byte] ^= 128;
+        }
+        file[382] = 24;
+        assert_eq!((answered(&file, 1), summed(&file)), (TRAILER, Answer::refused(TRAILER)));
+    }
+
+    #[test]
+    fn a_short_work_is_one_of_the_short() {
+        let room = |work| Room { work, ..Room::of(0) };
+        for file in [write(&cube()), write_old(&cube())] {
+            assert_eq!([7, 8, 13].map(|work| opened(&file, room(work)).number), [SHORT, 0, 0]);
+        }
     }
 
     #[test]
     fn the_room_of_the_replay_is_64_of_each() {
-        let Room { header, points, quads, labels } = Room::of(0);
-        assert_eq!([header, points, quads, labels], [8, 192, 256, 64]);
+        let Room { header, points, quads, labels, work } = Room::of(0);
+        assert_eq!([header, points, quads, labels, work], [8, 192, 256, 64, 64]);
     }
 
     #[test]
     fn a_file_that_opens_is_written_again_byte_for_byte() {
         let mut r = Random::new(6);
-        let mut opened = 0;
+        let [mut opened, mut old] = [0; 2];
         for _ in 0..4000 {
             let file = inputs::call(&mut r, Operation::Open).sheet.labels;
-            if let Ok(job) = read(&file) {
-                assert_eq!(write(&job), file);
-                opened += 1;
-            }
+            let Some(job) = read(&file).ok().filter(|job| tells_true(&file, &job.sheet)) else { continue };
+            let is_old = file == write_old(&job);
+            assert!(is_old || file == write(&job));
+            opened += 1;
+            old += usize::from(is_old);
         }
-        assert!((1000..3000).contains(&opened), "{opened}");
+        assert!((1000..3000).contains(&opened) && (300..1500).contains(&old), "{opened}, {old}");
     }
 
     #[test]

@@ -23,3 +23,4 @@ pub mod refusal;
 pub mod rings;
 pub mod sample;
 pub mod sheets;
+pub mod summed;

@@ -43,6 +43,8 @@ pub enum Operation {
     Save = 18,
     /// Opens a job.
     Open = 19,
+    /// Reads the squared sum of a job file.
+    Sum = 20,
 }
 
 impl Operation {
@@ -68,6 +70,7 @@ impl Operation {
             Operation::Page => "page",
             Operation::Save => "save",
             Operation::Open => "open",
+            Operation::Sum => "sum",
         }
     }
 
@@ -81,9 +84,9 @@ impl Operation {
         matches!(self, Operation::Quality | Operation::Corners | Operation::Page)
     }
 
-    /// Whether it saves or opens a job.
+    /// Whether it saves or opens a job, or reads the sum of one.
     pub fn is_of_a_job(self) -> bool {
-        matches!(self, Operation::Save | Operation::Open)
+        matches!(self, Operation::Save | Operation::Open | Operation::Sum)
     }
 
     /// All of them in the order of their numbers.
@@ -117,6 +120,7 @@ impl TryFrom<u8> for Operation {
             17 => Ok(Operation::Page),
             18 => Ok(Operation::Save),
             19 => Ok(Operation::Open),
+            20 => Ok(Operation::Sum),
             _ => Err(UnknownOperation(number)),
         }
     }
@@ -160,16 +164,17 @@ mod tests {
             "page",
             "save",
             "open",
+            "sum",
         ];
         assert_eq!(Operation::all().map(Operation::name).collect::<Vec<_>>(), names);
-        assert!(Operation::all().map(Operation::number).eq(1..=19));
+        assert!(Operation::all().map(Operation::number).eq(1..=20));
     }
 
     #[test]
     fn another_number_is_none() {
-        for number in [0, 20, u8::MAX] {
+        for number in [0, 21, u8::MAX] {
             assert_eq!(Operation::try_from(number), Err(UnknownOperation(number)));
         }
-        assert_eq!(UnknownOperation(20).to_string(), "20 is the number of no operation");
+        assert_eq!(UnknownOperation(21).to_string(), "21 is the number of no operation");
     }
 }

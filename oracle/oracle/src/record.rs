@@ -202,9 +202,10 @@ mod tests {
         assert!(sheet_in(&original(&on(Operation::Quality, sheets::cube()))).is_none());
         assert!(sheet_in(&original(&on(Operation::Corners, sheets::cube()))).is_none());
         assert!(sheet_in(&original(&on(Operation::Page, sheets::cube()))).is_none());
-        let save = Call { argument: 378, ..on(Operation::Save, sheets::cube()) };
+        let save = Call { argument: 386, ..on(Operation::Save, sheets::cube()) };
         let file = job::write(&job::of(&save));
-        assert!(sheet_in(&original(&save)).is_none() && sheet_in(&original(&job::open(file, 8))).is_none());
+        assert!(sheet_in(&original(&save)).is_none() && sheet_in(&original(&job::open(file.clone(), 8))).is_none());
+        assert!(sheet_in(&original(&job::sum(file))).is_none());
         assert!(sheet_in(&original(&on(Operation::Subdivide, sheets::empty()))).is_none());
     }
 

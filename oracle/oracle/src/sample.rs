@@ -7,7 +7,7 @@ use crate::operation::Operation;
 use crate::quads::{self, QuadMesh};
 use crate::random::Random;
 use crate::record::{Record, shortened};
-use crate::{Point, drawn, files, inputs, patches, sheets};
+use crate::{Point, drawn, files, inputs, patches, sheets, summed};
 
 /// The seed of the sample that the repository holds.
 pub const SEED: u64 = 2026;
@@ -47,6 +47,9 @@ const PAGES: usize = 14;
 
 /// How many random small jobs the sample holds for saving, and for opening.
 const JOBS: usize = 5;
+
+/// How many random files the sample holds for opening, and for reading the sum, since there is one.
+const SUMS: usize = 8;
 
 /// The most bytes of a file in the sample.
 const MOST_BYTES: u64 = 2800;
@@ -353,15 +356,15 @@ fn fixed_jobs() -> [Job; 7] {
     ]
 }
 
-/// The cube's file with a number of its trailer changed.
+/// The cube's file without a sum, with a number of its trailer changed.
 fn with_number(which: usize, number: u32) -> Vec<u8> {
-    let mut file = job::write(&job(sheets::cube()));
+    let mut file = job::write_old(&job(sheets::cube()));
     files::put(&mut file, which, number);
     file
 }
 
-/// Files of which all but the first two are refused with 14: the cube's with a number changed, cut, and with bytes
-/// behind it.
+/// Files without a sum of which all but the first two are refused with 14: the cube's with a number changed, cut, and
+/// with bytes behind it.
 fn changed_files() -> Vec<Vec<u8>> {
     let file = with_number(4, 20);
     let numbers = [(2, 336), (0, 63), (0, 0), (1, 257), (1, 40), (2, 353), (2, 240), (3, 359), (3, 351), (4, 28)];
@@ -372,14 +375,14 @@ fn changed_files() -> Vec<Vec<u8>> {
     all
 }
 
-/// Files that say more than the replay has room for: a point, a quad and a label more.
-fn large_files() -> [Vec<u8>; 3] {
+/// Jobs of more than the replay has room for: a point, a quad and a label more.
+fn large_jobs() -> [Job; 3] {
     let sheets: [fn(&mut QuadMesh); 3] =
         [|s| s.points.resize(65, [0.5; 3]), |s| s.quads.resize(65, [0, 1, 2, 3]), |s| s.labels.resize(65, 1)];
-    sheets.map(|change| job::write(&job(changed(change))))
+    sheets.map(|change| job(changed(change)))
 }
 
-/// Whether the replay has room for a call that saves or opens: its file is short, and a sheet that it saves is small.
+/// Whether the replay has room for a call on a job: its file is short, and a sheet that it saves is small.
 fn is_small_job(call: &Call) -> bool {
     match call.operation {
         Operation::Save => is_small(&call.sheet) && call.argument <= MOST_BYTES,
@@ -387,22 +390,96 @@ fn is_small_job(call: &Call) -> bool {
     }
 }
 
-/// Jobs that are saved, into as many bytes as the file needs, into more, and into one less; then jobs that are opened;
-/// of each kind random ones too.
+/// Jobs that are saved, into as many bytes as the file needs, into more, and into one less; then files without a sum
+/// that are opened; of each kind random ones too.
 fn jobs(seed: u64) -> Vec<Record> {
     let mut r = Random::new(seed);
     let needed = |job: &Job| job::write(job).len();
     let save = |more: usize, less: usize, job: Job| job::save(job.clone(), needed(&job) + more - less);
     let mut calls: Vec<Call> = fixed_jobs().map(|job| save(0, 0, job)).to_vec();
     calls.extend([(9, 0), (0, 1)].map(|(more, less)| save(more, less, job(sheets::cube()))));
-    calls.extend([save(0, 84, job(sheets::empty())), save(0, 1, job(sheets::empty()))]);
+    calls.extend([save(0, 92, job(sheets::empty())), save(0, 1, job(sheets::empty()))]);
     let saves = std::iter::repeat_with(|| files::saving(&mut r)).filter(is_small_job);
     calls.extend(saves.take(JOBS));
     let open = |file| job::open(file, 0);
-    calls.extend(fixed_jobs().map(|job| open(job::write(&job))));
-    calls.extend(changed_files().into_iter().chain(large_files()).map(open));
+    calls.extend(fixed_jobs().map(|job| open(job::write_old(&job))));
+    calls.extend(changed_files().into_iter().chain(large_jobs().map(|job| job::write_old(&job))).map(open));
     let opens = std::iter::repeat_with(|| open(files::opening(&mut r).sheet.labels)).filter(is_small_job);
     calls.extend(opens.take(JOBS));
+    calls.into_iter().map(record).collect()
+}
+
+/// Jobs whose sums are seen at once: of a point that two quads name eight times, of corners that name no point, of
+/// quads without a point, and of a point that all quads name, as many as the replay has room for.
+fn crowded_jobs() -> [Job; 4] {
+    let of = |points: usize, quads: Vec<[usize; 4]>| {
+        job(QuadMesh { points: vec![[0.5; 3]; points], labels: vec![1; quads.len()], quads })
+    };
+    [
+        of(1, vec![[0; 4]; 2]),
+        of(5, vec![[5, 6, u32::MAX as usize, 1 << 31]; 3]),
+        of(0, vec![[0, 1, 2, 3]; 3]),
+        of(64, vec![[63; 4]; 64]),
+    ]
+}
+
+/// The cube's file with another sum.
+fn with_sum(sum: u64) -> Vec<u8> {
+    let mut file = job::write(&job(sheets::cube()));
+    summed::put_sum(&mut file, sum);
+    file
+}
+
+/// The cube's file with a word of its trailer changed.
+fn with_word(which: usize, word: u32) -> Vec<u8> {
+    let mut file = with_sum(8);
+    summed::put(&mut file, which, word);
+    file
+}
+
+/// Files of the cube with a sum that is not their sheet's: each byte of it changed, one, 16 and 2^32 more, zero, a quad
+/// that became labels, and a corner changed.
+fn false_files() -> Vec<Vec<u8>> {
+    let mut all: Vec<Vec<u8>> = (0..8).map(|byte| with_sum(8 ^ 1 << (8 * byte + 7))).collect();
+    all.extend([9, 24, 8 + (1 << 32), 0].map(with_sum));
+    all.push(with_word(2, 336));
+    let mut corner = with_sum(8);
+    corner[256] = 1;
+    all.push(corner);
+    all
+}
+
+/// Files of the cube with a sum that are refused with 14: with a word of the trailer changed, cut, with bytes behind
+/// it, with too few bytes in front of the trailer, and with a trailer of 24 and of 32 bytes.
+fn broken_files() -> Vec<Vec<u8>> {
+    let file = with_sum(8);
+    let words = [(6, 20), (6, 24), (6, 32), (6, 36), (0, 63), (1, 257), (1, 40), (2, 353), (3, 359), (3, 351)];
+    let mut all = words.map(|(which, word)| with_word(which, word)).to_vec();
+    all.extend([92, 378, 385].map(|bytes| file[..bytes].to_vec()));
+    all.extend([1, 28].map(|bytes| [&file[..], &vec![0; bytes]].concat()));
+    all.extend([84, 91].map(|bytes| file[file.len() - bytes..].to_vec()));
+    all.extend([4, 12].map(|bytes| summed::with_zeros(&job(sheets::cube()), bytes)));
+    all
+}
+
+/// What came with the sum: jobs that are saved whose sums are seen at once; files with a sum that are opened, and some
+/// of the same jobs without one; and sums that are read; of each of the last two kinds random ones too.
+fn sums(seed: u64) -> Vec<Record> {
+    let mut r = Random::new(seed);
+    let mut calls: Vec<Call> = crowded_jobs().map(|job| job::save(job.clone(), job::write(&job).len())).to_vec();
+    let good: Vec<Vec<u8>> = fixed_jobs().iter().chain(&crowded_jobs()).map(job::write).collect();
+    let old: Vec<Vec<u8>> = crowded_jobs()[..3].iter().map(job::write_old).collect();
+    let mut large = large_jobs().map(|job| job::write(&job)).to_vec();
+    large.push([&large[0][..large[0].len() - 12], &[255, 0, 0, 0, 0, 0, 0, 0, 28, 0, 0, 0]].concat());
+    let opened = [&good[..], &old, &false_files(), &broken_files(), &large].concat();
+    calls.extend(opened.into_iter().map(|file| job::open(file, 0)));
+    let opens = std::iter::repeat_with(|| job::open(summed::opening(&mut r).sheet.labels, 0)).filter(is_small_job);
+    calls.extend(opens.take(SUMS));
+    let plain = [with_number(4, 20), job::write_old(&job(sheets::empty()))];
+    let read = [&good[..6], &good[7..], &plain, &false_files()[6..12], &broken_files(), &[with_sum(u64::MAX)]].concat();
+    calls.extend(read.into_iter().map(job::sum));
+    let sums = std::iter::repeat_with(|| summed::summing(&mut r)).filter(is_small_job);
+    calls.extend(sums.take(SUMS));
     calls.into_iter().map(record).collect()
 }
 
@@ -416,6 +493,7 @@ pub fn records(seed: u64) -> Vec<Record> {
     records.extend(corners(seed));
     records.extend(pages(seed));
     records.extend(jobs(seed));
+    records.extend(sums(seed));
     records
 }
 
@@ -447,7 +525,7 @@ mod tests {
         let drawn = [0, 1, 2, 3, 4, 5, 7].map(|number| (Extract, number));
         let corners = [0, 1, 5, 6, 7].map(|number| (Corners, number));
         let pages = [0, 1, 5, 6, 7, 11].map(|number| (Page, number));
-        let jobs = [(Save, 0), (Save, 13), (Open, 0), (Open, 13), (Open, 14)];
+        let jobs = [(Save, 0), (Save, 13), (Open, 0), (Open, 13), (Open, 14), (Open, 17), (Sum, 0), (Sum, 14)];
         let measured = refine.into_iter().chain(subdivide).chain(quality).chain(corners).chain(pages);
         let cleaned = regularize.into_iter().chain(improve).chain(coarsen).chain(rows).chain(drawn);
         let expected = leaf.into_iter().chain(tests).chain(sheet).chain(measured).chain(cleaned).chain(jobs).collect();
@@ -494,10 +572,10 @@ mod tests {
     }
 
     #[test]
-    fn corners_per_point_then_pages_and_then_jobs_stand_last() {
-        let (records, new) = (records(SEED), [corners(SEED), pages(SEED), jobs(SEED)].concat());
+    fn corners_per_point_then_pages_then_jobs_and_then_sums_stand_last() {
+        let (records, new) = (records(SEED), [corners(SEED), pages(SEED), jobs(SEED), sums(SEED)].concat());
         let (before, last) = records.split_at(records.len() - new.len());
-        let operations = [Operation::Corners, Operation::Page, Operation::Save, Operation::Open];
+        let operations = [Operation::Corners, Operation::Page, Operation::Save, Operation::Open, Operation::Sum];
         assert!(!before.iter().any(|record| operations.contains(&record.call.operation)));
         assert_eq!(record::file(last), record::file(&new));
     }
@@ -513,19 +591,47 @@ mod tests {
         assert_eq!((&opens[..9], &opens[9..26], &opens[26..29]), (&[0; 9][..], &[14; 17][..], &[13; 3][..]));
     }
 
+    /// The numbers of the records of an operation among those that came with the sum.
+    fn numbers_of(operation: Operation) -> Vec<u8> {
+        let sums = sums(SEED).into_iter().filter(|record| record.call.operation == operation);
+        sums.map(|record| record.answer.number).collect()
+    }
+
+    #[test]
+    fn what_came_with_the_sum_has_its_numbers() {
+        assert_eq!(numbers_of(Operation::Save), [0; 4]);
+        let opens = [&[0; 14][..], &[17; 14], &[14; 19], &[13; 4]].concat();
+        assert!(numbers_of(Operation::Open).starts_with(&opens));
+        assert_eq!(numbers_of(Operation::Open).len(), opens.len() + SUMS);
+        let reads = [&[0; 18][..], &[14; 19], &[0]].concat();
+        assert!(numbers_of(Operation::Sum).starts_with(&reads));
+        assert_eq!(numbers_of(Operation::Sum).len(), reads.len() + SUMS);
+        assert_eq!(sums(SEED).len(), 4 + 51 + 38 + 2 * SUMS);
+    }
+
+    #[test]
+    fn sums_that_are_read_are_those_that_are_written() {
+        let sums = sums(SEED).into_iter().filter(|record| record.call.operation == Operation::Sum);
+        let read: Vec<(u64, [u32; 3])> = sums.map(|record| (record.answer.count, record.answer.counts)).collect();
+        let crowded = [(16, [1, 0, 0]), (80, [1, 0, 0]), (0, [1, 0, 0]), (252 * 252 + 63 * 16, [1, 0, 0])];
+        assert_eq!((read[0], &read[6..10], &read[10..12]), ((8, [1, 0, 0]), &crowded[..], &[(0, [0; 3]); 2][..]));
+        assert_eq!(read[37], (u64::MAX, [1, 0, 0]));
+    }
+
     #[test]
     fn jobs_are_small_and_stored_whole() {
-        for Record { call, answer } in jobs(SEED) {
-            let bytes = if call.operation == Operation::Save { answer.count } else { call.sheet.labels.len() as u64 };
-            assert!(bytes <= MOST_BYTES && (call.operation == Operation::Open || call.argument <= MOST_BYTES));
-            assert!(answer.counts.iter().all(|&n| n <= 64) && answer.flags == 0);
-            assert!(call.operation == Operation::Save || call.argument == 0);
+        for Record { call, answer } in [jobs(SEED), sums(SEED)].concat() {
+            let is_save = call.operation == Operation::Save;
+            let bytes = if is_save { answer.count } else { call.sheet.labels.len() as u64 };
+            assert!(bytes <= MOST_BYTES && answer.counts.iter().all(|&n| n <= 64) && answer.flags == 0);
+            assert!(if is_save { call.argument <= MOST_BYTES } else { call.argument == 0 });
         }
     }
 
     #[test]
     fn what_is_stored_as_saved_opens() {
-        let saved = jobs(SEED).into_iter().filter(|record| record.call.operation == Operation::Save);
+        let jobs = [jobs(SEED), sums(SEED)].concat();
+        let saved = jobs.into_iter().filter(|record| record.call.operation == Operation::Save);
         for Record { call, answer } in saved.filter(|record| record.answer.number == 0) {
             let mut file: Vec<u8> = answer.words.iter().flat_map(|word| word.to_le_bytes()).collect();
             file.truncate(answer.count as usize);

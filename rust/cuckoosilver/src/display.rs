@@ -82,6 +82,11 @@ fn measures(quality: &Quality) -> String {
         + &answer("valid", quality.is_valid())
 }
 
+/// The sum of a job file, or that it has none, laid out like the page.
+pub fn squared_sum(sum: Option<u64>) -> String {
+    line("squared sum", sum.map_or("none".into(), |sum| sum.to_string()))
+}
+
 /// The corners per point with their remainder, laid out like the page.
 fn corners(Ratio { quotient, remainder }: Ratio) -> String {
     line("corners per point", quotient) + &line("remainder", remainder)

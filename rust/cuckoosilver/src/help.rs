@@ -40,6 +40,14 @@ steps that show the sheet
                           bit for bit; - is standard output, as for write
   picture FILE.svg|.png   draw a picture of the sheet
 
+step that needs no sheet
+  sum FILE.job            one line: the squared sum that the trailer of a job
+                          file says, that is the sum over the points of (quads
+                          at the point minus 4) squared; none in a file that was
+                          saved before the sum was in it. The sheet is not
+                          opened, and the sum is not compared with it; - is
+                          standard input
+
 options
   --plane A B C D         the field a*x + b*y + c*z - d
   --ball X Y Z R          the squared distance from (x, y, z), less r; so r is
@@ -61,6 +69,7 @@ needs no options. A job file has the box and the levels but no field: after open
 a step that asks for the band needs --plane, --ball or --quadric. What a file
 says of the band holds where no option gave it: with --box or --levels the
 option holds, also where the file says otherwise, and save saves the option's.
+A job file whose squared sum is not that of its sheet is refused by open.
 A file that is there already is replaced once the new one is whole. After each
 step that brings or changes the sheet, a warning tells of bad points and of
 quads turned over or collapsed that were not there before.
@@ -72,6 +81,7 @@ examples
   cuckoosilver --plane 0 0 1 0 --box 0 0 0 4 4 4 --levels 1 2 \\
       draw 8 rows page save wall.job
   cuckoosilver --plane 0 0 1 0 open wall.job quality
+  cuckoosilver sum wall.job
 
 exit codes
   0 all steps are done; 1 a step is refused, a sheet that is checked is not
@@ -79,4 +89,5 @@ exit codes
   141 nobody reads what is written. A refusal has a number and a word:
    1 box     2 bottomless  3 cells   4 samples  5 bare    6 corner  7 clash
    8 edge    9 astray     10 row    11 normal  12 large  13 short  14 trailer
+  17 sum
 ";

@@ -46,14 +46,16 @@ impl Invocation {
     }
 }
 
-/// The steps of a command line, of which the first brings a sheet.
+/// The steps of a command line. The first that has to do with a sheet brings one. There need be no such step where
+/// there is a `sum`.
 pub fn steps(words: &[String]) -> Result<Vec<Step>, Problem> {
     let steps = step::parse(words)?;
-    at_most_once(&steps, Step::takes_input, "standard input holds one sheet")?;
+    at_most_once(&steps, Step::takes_input, "standard input holds one file")?;
     at_most_once(&steps, Step::fills_output, "standard output takes one sheet")?;
-    let first = steps.iter().map(|step| &step.action).find(|action| !matches!(action, Action::Set(_)));
-    match first {
+    let sums = steps.iter().any(|step| matches!(step.action, Action::Sum(_)));
+    match steps.iter().map(|step| &step.action).find(|action| action.is_of_the_sheet()) {
         Some(Action::Run(operation)) if operation.brings_sheet() => Ok(steps),
+        None if sums => Ok(steps),
         _ => Err(Problem::Usage("there is no sheet: begin with draw CELLS, read FILE or open FILE".into())),
     }
 }
@@ -99,6 +101,20 @@ mod tests {
         assert!(parse("read - write - read a.ply write a.ply").is_ok());
         assert!(parse("open - save - open a.job save a.job").is_ok());
         for wrong in ["read - read -", "draw 8 write - write -", "read - open -", "draw 8 write - save -"] {
+            assert!(matches!(parse(wrong), Err(Problem::Usage(_))), "{wrong}");
+        }
+        assert!(parse("sum - draw 8 save -").is_ok());
+        for wrong in ["sum - sum -", "sum - open -", "read - sum -"] {
+            assert!(matches!(parse(wrong), Err(Problem::Usage(_))), "{wrong}");
+        }
+    }
+
+    #[test]
+    fn a_sum_needs_no_sheet_and_brings_none() {
+        for right in ["sum a.job", "--quiet sum a.job sum b.job", "sum a.job open a.job page", "draw 8 sum a.job"] {
+            assert!(parse(right).is_ok(), "{right}");
+        }
+        for wrong in ["sum a.job page", "sum a.job refine", "sum a.job save b.job", "page sum a.job"] {
             assert!(matches!(parse(wrong), Err(Problem::Usage(_))), "{wrong}");
         }
     }

@@ -41,7 +41,7 @@ impl Operation {
         let operation = match word {
             "draw" => Operation::Draw(words.count(word, "CELLS")?),
             "read" => Operation::Read(Place::to_read(words)?),
-            "open" => Operation::Open(Place::to_open(words)?),
+            "open" => Operation::Open(Place::to_open(word, words)?),
             "refine" => Operation::Refine,
             "subdivide" => Operation::Subdivide,
             "rows" => Operation::Rows,

@@ -66,6 +66,7 @@ impl<'a> Pipeline<'a> {
                 Ok(())
             }
             Action::Print(report) => self.print(*report),
+            Action::Sum(place) => self.sum(place),
             Action::Run(operation) => {
                 self.run_and_tell(operation, &step.text)?;
                 self.warn(operation, &step.text);
@@ -125,12 +126,23 @@ impl<'a> Pipeline<'a> {
         }
     }
 
-    /// Prints what is asked of the sheet; to the log, where the output is the sheet.
+    /// Prints what is asked of the sheet.
     fn print(&mut self, report: Report) -> Result<(), Problem> {
         let band = self.parts().band()?;
         let text = report.text(&mut self.workspace, &self.sheet, &band)?;
+        self.show(&text)
+    }
+
+    /// Prints the sum that the trailer of a job file says. The sheet, the box and the levels stay as they are.
+    fn sum(&mut self, place: &Place) -> Result<(), Problem> {
+        let sum = Job::sum(&place.bytes(LARGEST_JOB)?)?;
+        self.show(display::squared_sum(sum).as_bytes())
+    }
+
+    /// Prints a text; to the log, where the output is the sheet.
+    fn show(&mut self, text: &[u8]) -> Result<(), Problem> {
         let out = if self.output_is_sheet { &mut *self.log } else { &mut *self.out };
-        display::send(out, &text)
+        display::send(out, text)
     }
 
     /// Works on the sheet: what was done.
@@ -173,7 +185,7 @@ impl<'a> Pipeline<'a> {
 
     /// Opens a job. Its box and its levels take the place of another file's band; options that say otherwise are told.
     fn open(&mut self, place: &Place) -> Result<String, Problem> {
-        let job = Job::open(&place.bytes(LARGEST_JOB)?)?;
+        let job = self.workspace.open(&place.bytes(LARGEST_JOB)?)?;
         let parts = Parts::of(&job);
         self.found = parts;
         self.sheet = job.sheet;
@@ -208,7 +220,7 @@ impl<'a> Pipeline<'a> {
     /// Saves the sheet with the box and the levels.
     fn save(&mut self, place: &Place) -> Result<String, Problem> {
         let job = self.parts().job(std::mem::take(&mut self.sheet))?;
-        let file = job.save()?;
+        let file = self.workspace.save(&job)?;
         self.sheet = job.sheet;
         self.put_to(place, &file)
     }

@@ -25,11 +25,11 @@ impl Place {
         Ok(Place::from(name))
     }
 
-    /// The place that `open` names: anything but a PLY file by its ending.
-    pub fn to_open(words: &mut Words) -> Result<Place, Problem> {
-        let name = words.file("open", "FILE.job or -")?;
+    /// The place that `open` or `sum` names: anything but a PLY file by its ending.
+    pub fn to_open(step: &str, words: &mut Words) -> Result<Place, Problem> {
+        let name = words.file(step, "FILE.job or -")?;
         if has_ending(name, PLY) {
-            return Err(other("open", JOB, name));
+            return Err(other(step, JOB, name));
         }
         Ok(Place::from(name))
     }
@@ -161,8 +161,12 @@ mod tests {
         let [ply, job] = ["a.ply", "a.job"].map(|name| [name.to_string()]);
         let told = |found: Result<Place, Problem>, hint: &str| found.unwrap_err().to_string().contains(hint);
         assert!(told(Place::to_read(&mut Words::new(&job)), "; job files are opened by `open` and saved by `save`\n"));
-        assert!(told(Place::to_open(&mut Words::new(&ply)), "; PLY files are read by `read` and written by `write`\n"));
+        for step in ["open", "sum"] {
+            let opened = Place::to_open(step, &mut Words::new(&ply));
+            assert!(told(opened, "; PLY files are read by `read` and written by `write`\n"));
+            assert!(Place::to_open(step, &mut Words::new(&job)).is_ok());
+        }
         assert!(told(to_save("a.obj"), "not a.obj; it knows a file by its ending\n"));
-        assert!(Place::to_read(&mut Words::new(&ply)).is_ok() && Place::to_open(&mut Words::new(&job)).is_ok());
+        assert!(Place::to_read(&mut Words::new(&ply)).is_ok());
     }
 }

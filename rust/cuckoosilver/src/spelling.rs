@@ -1,7 +1,7 @@
 //! The word that may have been meant by one that is not known.
 
 /// The steps and options.
-const KNOWN: [&str; 31] = [
+const KNOWN: [&str; 32] = [
     "draw",
     "read",
     "open",
@@ -15,6 +15,7 @@ const KNOWN: [&str; 31] = [
     "page",
     "quality",
     "corners",
+    "sum",
     "check",
     "write",
     "save",
@@ -92,6 +93,7 @@ mod tests {
             ("help", Some("--help")),
             ("safe", Some("save")),
             ("opne", Some("open")),
+            ("sums", Some("sum")),
             ("example", None),
             ("paint", None),
             ("8", None),

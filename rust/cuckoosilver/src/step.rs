@@ -1,6 +1,7 @@
 //! The steps and options of a command line.
 use crate::display::Report;
 use crate::operation::Operation;
+use crate::place::Place;
 use crate::problem::Problem;
 use crate::setting::Setting;
 use crate::spelling;
@@ -16,9 +17,12 @@ pub struct Step {
 }
 
 impl Step {
-    /// Whether it takes the sheet from standard input.
+    /// Whether it takes the sheet, or a job file, from standard input.
     pub fn takes_input(&self) -> bool {
-        matches!(&self.action, Action::Run(operation) if operation.takes_input())
+        match &self.action {
+            Action::Run(operation) => operation.takes_input(),
+            action => *action == Action::Sum(Place::Standard),
+        }
     }
 
     /// Whether it writes the sheet to standard output.
@@ -34,11 +38,18 @@ pub enum Action {
     Set(Setting),
     /// Prints something of the sheet.
     Print(Report),
+    /// Prints the sum of a job file, without its sheet.
+    Sum(Place),
     /// Works on the sheet, or on a file.
     Run(Operation),
 }
 
 impl Action {
+    /// Whether it has to do with the sheet: it is neither an option nor the sum of a file.
+    pub fn is_of_the_sheet(&self) -> bool {
+        matches!(self, Action::Print(_) | Action::Run(_))
+    }
+
     /// The action of a word, with its operands.
     fn parse(word: &str, words: &mut Words) -> Result<Action, Problem> {
         if let Some(setting) = Setting::parse(word, words)? {
@@ -46,6 +57,9 @@ impl Action {
         }
         if let Some(report) = Report::parse(word) {
             return Ok(Action::Print(report));
+        }
+        if word == "sum" {
+            return Place::to_open(word, words).map(Action::Sum);
         }
         let operation = Operation::parse(word, words)?;
         operation.map(Action::Run).ok_or_else(|| unknown(word))
@@ -109,17 +123,28 @@ mod tests {
     }
 
     #[test]
+    fn a_sum_is_that_of_a_file() {
+        let sum = |name: &str| Action::Sum(name.into());
+        assert_eq!(actions("sum a.job sum - sum a"), Ok(vec![sum("a.job"), sum("-"), sum("a")]));
+        assert!(!sum("a.job").is_of_the_sheet() && Action::Print(Report::Page).is_of_the_sheet());
+    }
+
+    #[test]
     fn what_is_no_step_is_refused() {
-        for wrong in ["paint", "draw", "draw x", "--plane 1 2 3", "--size 9", "picture a.gif", "picture", "write"] {
+        let lone = ["paint", "draw", "picture", "write", "sum"];
+        for wrong in lone.into_iter().chain(["draw x", "--plane 1 2 3", "--size 9", "picture a.gif", "sum a.ply"]) {
             assert!(matches!(actions(wrong), Err(Problem::Usage(_))), "{wrong}");
         }
     }
 
     #[test]
     fn a_dash_is_standard_input_or_output() {
-        let words = ["read", "-", "open", "-", "open", "a.job", "write", "-", "save", "-", "save", "a.job"];
+        let words = ["read", "-", "open", "-", "sum", "-", "open", "a.job", "sum", "a.job"];
         let steps = parse(&words.map(String::from)).unwrap();
-        assert_eq!(steps.iter().map(Step::takes_input).collect::<Vec<_>>(), [true, true, false, false, false, false]);
-        assert_eq!(steps.iter().map(Step::fills_output).collect::<Vec<_>>(), [false, false, false, true, true, false]);
+        assert_eq!(steps.iter().map(Step::takes_input).collect::<Vec<_>>(), [true, true, true, false, false]);
+        assert!(!steps.iter().any(Step::fills_output));
+        let steps = parse(&["write", "-", "save", "-", "save", "a.job"].map(String::from)).unwrap();
+        assert_eq!(steps.iter().map(Step::fills_output).collect::<Vec<_>>(), [true, true, false]);
+        assert!(!steps.iter().any(Step::takes_input));
     }
 }

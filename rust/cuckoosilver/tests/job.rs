@@ -9,9 +9,19 @@ use std::process::Command;
 /// The box and the levels of the unit cube, as options.
 const BOX: &str = "--box 0 0 0 1 1 1 --levels -1 2";
 
-/// The cube's job file, as it was first saved.
+/// A job file of the tests of the crate quads.
+fn fixture(name: &str) -> Vec<u8> {
+    fs::read(Path::new(env!("CARGO_MANIFEST_DIR")).join("../quads/tests").join(name)).unwrap()
+}
+
+/// The cube's job file, as it was first saved with the sum.
 fn cube_file() -> Vec<u8> {
-    fs::read(Path::new(env!("CARGO_MANIFEST_DIR")).join("../quads/tests/cube.job")).unwrap()
+    fixture("cube-sum.job")
+}
+
+/// The cube's job file, as it was saved before the sum was in it.
+fn old_cube_file() -> Vec<u8> {
+    fixture("cube.job")
 }
 
 /// A folder of this name that holds the unit cube as a PLY file and as a job file.
@@ -50,11 +60,21 @@ fn the_cube_is_saved_as_it_was_first() {
     let run = run_in(&here, &format!("{BOX} read cube.ply save a.job open a.job save b.job"));
     let lines: Vec<&str> = run.log.lines().collect();
     assert_eq!((run.code, run.out.as_str(), lines.len()), (Some(0), "", 4), "{}", run.log);
-    assert!(lines[1].starts_with("save a.job: 378 bytes, "), "{}", run.log);
+    assert!(lines[1].starts_with("save a.job: 386 bytes, "), "{}", run.log);
     assert!(lines[2].starts_with("open a.job: 8 points, 6 quads, 0."), "{}", run.log);
     for file in ["a.job", "b.job"] {
         assert!(fs::read(here.join(file)).unwrap() == cube_file());
     }
+}
+
+#[test]
+fn a_file_of_before_the_sum_opens_and_is_saved_with_it() {
+    let here = with_cube("old_cube");
+    fs::write(here.join("old.job"), old_cube_file()).unwrap();
+    assert_eq!(does(&here, "--plane 0 0 1 0 open old.job page"), does(&here, "--plane 0 0 1 0 open cube.job page"));
+    does(&here, "open old.job save a.job");
+    assert!(fs::read(here.join("a.job")).unwrap() == cube_file());
+    assert!(fs::read(here.join("old.job")).unwrap() == old_cube_file());
 }
 
 #[test]
@@ -68,7 +88,7 @@ fn any_bits_and_any_labels_come_back() {
     assert!(fs::read(here.join("b.job")).unwrap() == file);
     fs::write(here.join("nothing.job"), Job::default().save().unwrap()).unwrap();
     does(&here, "open nothing.job save c.job");
-    assert_eq!(fs::read(here.join("c.job")).unwrap().len(), 84);
+    assert_eq!(fs::read(here.join("c.job")).unwrap().len(), 92);
 }
 
 #[test]
@@ -155,14 +175,17 @@ fn jobs_go_through_pipes() {
     assert!(!here.join("-").exists());
 }
 
-/// Asserts that opening a file of these bytes is refused with 14, and tells the cause and what to do.
+/// Asserts that opening a file of these bytes, and reading its sum, is refused with 14, and tells the cause and what to
+/// do.
 fn assert_told(here: &Path, bytes: &[u8], cause: &str, advice: &str) {
     fs::write(here.join("a.job"), bytes).unwrap();
-    let Run { code, out, log } = run_in(here, "--quiet open a.job save b.job");
-    assert_eq!((code, out.as_str()), (Some(1), ""));
-    let reason = "14 trailer: the file is too short for a job file, or its trailer does not fit it";
-    let advice = format!("what to do: {advice}");
-    assert_eq!(log, format!("cuckoosilver: open a.job is refused: {reason}: {cause}\n{advice}\n"));
+    for (step, behind) in [("open a.job", "save b.job"), ("sum a.job", "")] {
+        let Run { code, out, log } = run_in(here, &format!("--quiet {step} {behind}"));
+        assert_eq!((code, out.as_str()), (Some(1), ""));
+        let reason = "14 trailer: the file is too short for a job file, or its trailer does not fit it";
+        let advice = format!("what to do: {advice}");
+        assert_eq!(log, format!("cuckoosilver: {step} is refused: {reason}: {cause}\n{advice}\n"));
+    }
     assert!(!here.join("b.job").exists());
 }
 
@@ -173,33 +196,61 @@ fn a_file_that_is_no_job_file_is_told() {
         assert_told(&here, bytes, cause, "give a job file as it was saved, whole and unaltered");
     };
     told(b"", "the file has 0 bytes, and a job file has 84 or more");
-    told(&file[..378 - 16], "its last number, the length of the trailer, is 64 and not 20");
-    told(CUBE.as_bytes(), "its last number, the length of the trailer, is 168637984 and not 20");
-    let longer = [&file[..64], &[0; 8], &file[64..]].concat();
-    told(&longer, "its trailer is said to start at byte 358, and the last 20 bytes start at byte 366");
-    let behind = [&file[..], b"\n"].concat();
+    told(&file[386 - 90..], "the file has 90 bytes, and a job file whose trailer has 28 bytes has 92 or more");
+    told(&file[..386 - 24], "its last number, the length of the trailer, is 64 and neither 28 nor 20");
+    told(CUBE.as_bytes(), "its last number, the length of the trailer, is 168637984 and neither 28 nor 20");
+    let longer = |file: &[u8]| [&file[..64], &[0; 8], &file[64..]].concat();
+    let told_start = |file: &[u8], length: usize| {
+        let last = format!("the last {length} bytes start at byte 366");
+        told(&longer(file), &format!("its trailer is said to start at byte 358, and {last}"));
+    };
+    told_start(&file, 28);
+    told_start(&old_cube_file(), 20);
     let advice = "take away the bytes behind the trailer";
-    assert_told(&here, &behind, "a job file ends at byte 378, and 1 byte is behind it", advice);
+    for (file, end) in [(file, 386), (old_cube_file(), 378)] {
+        let cause = format!("a job file ends at byte {end}, and 1 byte is behind it");
+        assert_told(&here, &[&file[..], b"\n"].concat(), &cause, advice);
+    }
+}
+
+#[test]
+fn a_file_with_another_sum_is_told_with_both() {
+    let (here, mut file) = (folder("wrong_sum"), cube_file());
+    file[374..382].copy_from_slice(&4_294_967_296_u64.to_le_bytes());
+    fs::write(here.join("a.job"), &file).unwrap();
+    let run = run_in(&here, "--quiet open a.job save b.job");
+    assert_eq!((run.code, run.out.as_str()), (Some(1), ""));
+    let reason = "17 sum: the squared sum in the trailer of the job file is not that of its sheet";
+    let cause = "its trailer says the sum 4294967296, and the sum of its sheet is 8";
+    let advice = "what to do: give the job file as it was saved: its quads or its trailer were altered since";
+    assert_eq!(run.log, format!("cuckoosilver: open a.job is refused: {reason}: {cause}\n{advice}\n"));
+    assert_eq!(names(&here), ["a.job"]);
+    assert_eq!(does(&here, "sum a.job"), "squared sum                   4294967296\n");
 }
 
 #[test]
 fn a_sheet_in_a_file_above_the_limit_is_told() {
     let here = folder("large_job");
     let labels = 1_048_577_u32;
-    let trailer = [64, 64, 64, 64 + labels, 20].map(u32::to_le_bytes).concat();
-    fs::write(here.join("a.job"), [vec![0; 64 + labels as usize], trailer].concat()).unwrap();
-    let run = run_in(&here, "--quiet open a.job");
-    assert_eq!(run.code, Some(1));
-    let told = "open a.job is refused: 12 large: the sheet has more than 1,048,576 points, quads or labels: \
-                it has 0 points, 0 quads and 1048577 labels\n";
-    assert!(run.log.contains(told), "{}", run.log);
+    for end in [&[20][..], &[0, 0, 28]] {
+        let trailer = [&[64, 64, 64, 64 + labels], end].concat();
+        let trailer: Vec<u8> = trailer.into_iter().flat_map(u32::to_le_bytes).collect();
+        fs::write(here.join("a.job"), [vec![0; 64 + labels as usize], trailer].concat()).unwrap();
+        let run = run_in(&here, "--quiet open a.job");
+        assert_eq!(run.code, Some(1));
+        let told = "open a.job is refused: 12 large: the sheet has more than 1,048,576 points, quads or labels: \
+                    it has 0 points, 0 quads and 1048577 labels\n";
+        assert!(run.log.contains(told), "{}", run.log);
+    }
 }
 
 #[test]
 fn a_file_without_an_end_is_told() {
-    let told = "it has more than 42991700 bytes, the most of a job file\n";
-    let run = run("--quiet open /dev/zero");
-    assert_eq!((run.code, run.log), (Some(1), format!("cuckoosilver: /dev/zero: {told}")));
+    let told = "it has more than 42991708 bytes, the most of a job file\n";
+    for step in ["open", "sum"] {
+        let run = run(&format!("--quiet {step} /dev/zero"));
+        assert_eq!((run.code, run.log), (Some(1), format!("cuckoosilver: /dev/zero: {told}")));
+    }
     let run = script(&folder("endless_job"), "cat /dev/zero 2>/dev/null | \"$tool\" --quiet open -");
     assert_eq!((run.code, run.log), (Some(1), format!("cuckoosilver: standard input: {told}")));
 }
@@ -229,11 +280,18 @@ fn files_of_the_other_format_are_told() {
         "open cube.job write a.job",
         "write needs FILE.ply or -, not a.job; job files are opened by `open` and saved by `save`\n",
     );
+    told(
+        "sum cube.ply",
+        "sum needs FILE.job or -, not cube.ply; PLY files are read by `read` and written by `write`\n",
+    );
     told("open --quiet", "open needs FILE.job or -, not --quiet\n");
+    told("sum", "sum needs FILE.job or -\n");
     told("save a.job", "there is no sheet: begin with draw CELLS, read FILE or open FILE\n");
-    let run = run_in(&here, "open nowhere.job");
-    assert_eq!(run.code, Some(1));
-    assert!(run.log.contains("cuckoosilver: nowhere.job: No such file"), "{}", run.log);
+    for step in ["open", "sum"] {
+        let run = run_in(&here, &format!("{step} nowhere.job"));
+        assert_eq!((run.code, run.out.as_str()), (Some(1), ""));
+        assert!(run.log.contains("cuckoosilver: nowhere.job: No such file"), "{}", run.log);
+    }
     assert_eq!(names(&here), ["cube.job", "cube.ply"]);
 }
 
@@ -265,6 +323,7 @@ fn a_second_reader_finds_the_same_numbers() {
     assert_eq!(of("label").iter().flat_map(|words| wholes(&words[1..])).collect::<Vec<_>>(), wide(&job.sheet.labels));
     let counts = [of("points"), of("quads"), of("labels")].map(|lines| lines[0][0].parse::<usize>().unwrap());
     assert_eq!(counts, [job.sheet.points.len(), job.sheet.quads.len(), job.sheet.labels.len()]);
+    assert_eq!(of("sum")[0][0].parse(), Ok(Job::sum(&fs::read(here.join("a.job")).unwrap()).unwrap().unwrap()));
 }
 
 /// Labels as wider numbers.
@@ -273,30 +332,44 @@ fn wide(labels: &[u8]) -> Vec<u32> {
 }
 
 #[test]
-fn a_second_reader_shows_the_cube_and_refuses_what_is_no_job_file() {
-    let (here, file) = (with_cube("second_reader_refuses"), cube_file());
-    let Some(run) = second_reader(&here, &["cube.job"]) else { return };
-    assert_eq!(
-        run.out,
-        "low 0.0 0.0 0.0\nhigh 1.0 1.0 1.0\nlevels -1.0 2.0\npoints 8\nquads 6\nlabels 6\n\
-         point 0 0.0 0.0 0.0\npoint 7 1.0 1.0 1.0\nquad 0 0 4 6 2\nquad 5 4 5 7 6\nlabel 0 2\nlabel 5 7\n"
-    );
+fn a_second_reader_shows_the_cube() {
+    let here = with_cube("second_reader_shows");
+    fs::write(here.join("old.job"), old_cube_file()).unwrap();
+    for (name, sum) in [("cube.job", "8"), ("old.job", "none")] {
+        let Some(run) = second_reader(&here, &[name]) else { return };
+        let counts = format!("points 8\nquads 6\nlabels 6\nsum {sum}\n");
+        let parts = "point 0 0.0 0.0 0.0\npoint 7 1.0 1.0 1.0\nquad 0 0 4 6 2\nquad 5 4 5 7 6\nlabel 0 2\nlabel 5 7\n";
+        assert_eq!(run.out, format!("low 0.0 0.0 0.0\nhigh 1.0 1.0 1.0\nlevels -1.0 2.0\n{counts}{parts}"));
+    }
     fs::write(here.join("hostile.job"), hostile().save().unwrap()).unwrap();
     let run = second_reader(&here, &["hostile.job"]).unwrap();
     let nans =
         "point 0 nan(0x7ff0000000000001) nan(0x7ff8000000000002) -0.0\npoint 1 inf nan(0xfff0000000000003) 1e-310\n";
     assert!(run.code == Some(0) && run.out.contains(nans), "{}", run.out);
-    fs::write(here.join("cut.job"), &file[..377]).unwrap();
-    fs::write(here.join("short.job"), &file[..83]).unwrap();
-    fs::write(here.join("behind.job"), [&file[..], &[0]].concat()).unwrap();
-    for (name, told) in [
-        ("cut.job", "cut.job: the length of the trailer is "),
-        ("short.job", "short.job: it has 83 bytes"),
-        ("behind.job", "behind.job: the length of the trailer is "),
-        ("nowhere.job", "nowhere.job: No such file"),
-    ] {
-        let run = second_reader(&here, &[name]).unwrap();
+    assert!(run.out.contains("points 2\nquads 1\nlabels 3\nsum 18\n"), "{}", run.out);
+}
+
+#[test]
+fn a_second_reader_refuses_what_is_no_job_file() {
+    let (here, file) = (folder("second_reader_refuses"), cube_file());
+    let files = [
+        ("cut.job", file[..385].to_vec(), "the length of the trailer is "),
+        ("short.job", file[..83].to_vec(), "it has 83 bytes, and a job file has 84 or more"),
+        ("end.job", file[386 - 91..].to_vec(), "it has 91 bytes, and a job file with a trailer of 28 has 92 or more"),
+        ("behind.job", [&file[..], &[0]].concat(), "the length of the trailer is "),
+        (
+            "sum.job",
+            [&file[..374], &[9], &file[375..]].concat(),
+            "its trailer says the sum 9, and the sum of its sheet",
+        ),
+    ];
+    for (name, bytes, _) in &files {
+        fs::write(here.join(name), bytes).unwrap();
+    }
+    let told = files.iter().map(|(name, _, told)| (*name, format!("{name}: {told}")));
+    for (name, told) in told.chain([("nowhere.job", "nowhere.job: No such file".into())]) {
+        let Some(run) = second_reader(&here, &[name]) else { return };
         assert_eq!((run.code, run.out.as_str(), run.log.lines().count()), (Some(1), "", 1), "{name}: {}", run.log);
-        assert!(run.log.contains(told), "{name}: {}", run.log);
+        assert!(run.log.contains(&told), "{name}: {}", run.log);
     }
 }

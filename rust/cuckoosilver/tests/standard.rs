@@ -32,8 +32,8 @@ fn reports_do_not_mix_with_a_sheet() {
 #[test]
 fn standard_input_and_output_hold_one_sheet_each() {
     for (wrong, told) in [
-        ("read - read - display", "read - and read - do not go together; standard input holds one sheet"),
-        ("open - read - display", "open - and read - do not go together; standard input holds one sheet"),
+        ("read - read - display", "read - and read - do not go together; standard input holds one file"),
+        ("open - read - display", "open - and read - do not go together; standard input holds one file"),
         ("draw 8 write - write -", "write - and write - do not go together; standard output takes one sheet"),
         ("draw 8 save - write -", "save - and write - do not go together; standard output takes one sheet"),
     ] {

@@ -147,14 +147,15 @@ unsafe extern "C" {
     ) -> u32;
     fn quads_save_job(
         header: *const f64, header_len: usize, points: *const f64, points_len: usize, quads: *const u32,
-        quads_len: usize, labels: *const u8, labels_len: usize, np: usize, nq: usize, nl: usize, file: *mut u8,
-        file_len: usize, answer: *mut u64, answer_len: usize,
+        quads_len: usize, labels: *const u8, labels_len: usize, np: usize, nq: usize, nl: usize, work: *mut u32,
+        work_len: usize, file: *mut u8, file_len: usize, answer: *mut u64, answer_len: usize,
     ) -> u32;
     fn quads_open_job(
         file: *const u8, file_len: usize, header: *mut f64, header_len: usize, new_points: *mut f64,
         new_points_len: usize, new_quads: *mut u32, new_quads_len: usize, new_labels: *mut u8, new_labels_len: usize,
-        answer: *mut u64, answer_len: usize,
+        work: *mut u32, work_len: usize, answer: *mut u64, answer_len: usize,
     ) -> u32;
+    fn quads_job_sum(file: *const u8, file_len: usize, answer: *mut u64, answer_len: usize) -> u32;
 }
 
 /// Calls an export. Each group of arguments in turn adds its own to the list, a slice as its pointer and its length.
@@ -251,14 +252,19 @@ pub fn page(sheet: SheetRef, band: BandRef, work: WorkMut, page: &mut [u8]) -> u
     call!(quads_page() sheet sheet; band band; work work; writes page;)
 }
 
-/// `quads_save_job`: the header is low x, y, z, high x, y, z, lower and upper level.
-pub fn save_job(header: &[f64], sheet: SheetRef, file: &mut [u8], answer: &mut [u64]) -> u32 {
-    call!(quads_save_job() reads header; sheet sheet; writes file; writes answer;)
+/// `quads_save_job`: the header is low x, y, z, high x, y, z, lower and upper level; the work is one element a point.
+pub fn save_job(header: &[f64], sheet: SheetRef, work: &mut [u32], file: &mut [u8], answer: &mut [u64]) -> u32 {
+    call!(quads_save_job() reads header; sheet sheet; writes work; writes file; writes answer;)
 }
 
-/// `quads_open_job`: all of the file slice is the file.
-pub fn open_job(file: &[u8], header: &mut [f64], made: SheetOut, answer: &mut [u64]) -> u32 {
-    call!(quads_open_job() reads file; writes header; made made; writes answer;)
+/// `quads_open_job`: all of the file slice is the file; the work is one element a point.
+pub fn open_job(file: &[u8], header: &mut [f64], made: SheetOut, work: &mut [u32], answer: &mut [u64]) -> u32 {
+    call!(quads_open_job() reads file; writes header; made made; writes work; writes answer;)
+}
+
+/// `quads_job_sum`: all of the file slice is the file.
+pub fn job_sum(file: &[u8], answer: &mut [u64]) -> u32 {
+    call!(quads_job_sum() reads file; writes answer;)
 }
 
 #[cfg(test)]

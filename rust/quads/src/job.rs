@@ -6,11 +6,14 @@ use crate::operations::{accepted, made};
 use crate::refused::Refused;
 use crate::sheet::Sheet;
 use crate::sizes;
+use crate::workspace::Workspace;
 
 /// A sheet with the box and the levels of its band. The field is not in the file: who opens a job brings it.
 ///
-/// Saving and opening gives the same bits, those of a NaN too. Neither asks anything of the numbers: labels may be more
-/// or fewer than quads, and the box need not be one.
+/// Saving and opening gives the same bits, those of a NaN too. Neither tests the sheet, the box or the levels: labels may
+/// be more or fewer than quads, and the box need not be one. The file also has the squared sum of the sheet, the sum over
+/// its points of (quads at the point minus 4) squared, which [`Job::sum`] reads without opening the sheet; opening asks
+/// that it is that of its quads.
 ///
 /// ```
 /// use quads::{Band, Field, Job, Sheet};
@@ -55,31 +58,80 @@ impl Job {
     ///
     /// The sheet is above the limit (12).
     pub fn save(&self) -> Result<Vec<u8>, Refused> {
-        let (mut file, mut answer) = (vec![0; sizes::job_bytes(self.sheet.counts())], [0; 4]);
-        let number = ffi::save_job(&self.header(), self.sheet.as_sheet_ref(), &mut file, &mut answer);
-        accepted(number, |refusal| look::saving(refusal, &self.sheet))?;
-        file.truncate(Answer::from(answer).count);
-        Ok(file)
+        Workspace::new().save(self)
     }
 
-    /// The job that a file keeps; all bytes are the file.
+    /// The job that a file keeps; all bytes are the file. Files that were saved before the sum was in them open too.
     ///
     /// # Errors
     ///
-    /// The file is too short or its trailer is wrong (14), or its sheet is above the limit (12).
+    /// The file is too short or its trailer is wrong (14), its sheet is above the limit (12), or the squared sum that
+    /// its trailer says is not that of its sheet (17).
     pub fn open(file: &[u8]) -> Result<Job, Refused> {
-        let (mut header, mut answer) = ([0.0; 8], [0; 4]);
-        let mut sheet = Sheet::blank(sizes::opened(file.len()));
-        let number = ffi::open_job(file, &mut header, sheet.as_sheet_out(), &mut answer);
-        accepted(number, |refusal| look::opening(refusal, file))?;
-        let [x, y, z, high_x, high_y, high_z, lower, upper] = header;
-        Ok(Job { low: [x, y, z], high: [high_x, high_y, high_z], lower, upper, sheet: made(sheet, answer) })
+        Workspace::new().open(file)
+    }
+
+    /// The squared sum as the trailer of a file says it; none where the file was saved before the sum was in it. The
+    /// sheet is not looked at: that the sum is the sheet's is known once the file opens.
+    ///
+    /// ```
+    /// use quads::{Job, Sheet};
+    ///
+    /// let points = vec![[0.0; 3], [1.0, 0.0, 0.0], [1.0, 1.0, 0.0], [0.0, 1.0, 0.0]];
+    /// let sheet = Sheet { points, quads: vec![[0, 1, 2, 3], [3, 2, 1, 0]], labels: vec![6, 6] };
+    /// let file = Job { sheet, ..Job::default() }.save()?;
+    /// // Each of the four points has two quads, and (2 - 4) squared is 4.
+    /// assert_eq!(Job::sum(&file)?, Some(16));
+    /// # Ok::<(), quads::Refused>(())
+    /// ```
+    ///
+    /// # Errors
+    ///
+    /// The file is too short or its trailer is wrong (14).
+    pub fn sum(file: &[u8]) -> Result<Option<u64>, Refused> {
+        let mut answer = [0; 2];
+        accepted(ffi::job_sum(file, &mut answer), |refusal| look::opening(refusal, file))?;
+        let [written, sum] = answer;
+        Ok((written == 1).then_some(sum))
     }
 
     /// The eight numbers that begin the file.
     fn header(&self) -> [f64; 8] {
         let ([x, y, z], [high_x, high_y, high_z]) = (self.low, self.high);
         [x, y, z, high_x, high_y, high_z, self.lower, self.upper]
+    }
+}
+
+/// Jobs, with the work of this workspace.
+impl Workspace {
+    /// [`Job::save`].
+    ///
+    /// # Errors
+    ///
+    /// Those of [`Job::save`].
+    pub fn save(&mut self, job: &Job) -> Result<Vec<u8>, Refused> {
+        let (sheet, counts) = (&job.sheet, job.sheet.counts());
+        let (mut file, mut answer) = (vec![0; sizes::job_bytes(counts)], [0; 4]);
+        let work = self.lend(sizes::job_work(counts)).wholes;
+        let number = ffi::save_job(&job.header(), sheet.as_sheet_ref(), work, &mut file, &mut answer);
+        accepted(number, |refusal| look::saving(refusal, sheet))?;
+        file.truncate(Answer::from(answer).count);
+        Ok(file)
+    }
+
+    /// [`Job::open`].
+    ///
+    /// # Errors
+    ///
+    /// Those of [`Job::open`].
+    pub fn open(&mut self, file: &[u8]) -> Result<Job, Refused> {
+        let (mut header, mut answer) = ([0.0; 8], [0; 4]);
+        let most = sizes::opened(file.len());
+        let (mut sheet, work) = (Sheet::blank(most), self.lend(sizes::job_work(most)).wholes);
+        let number = ffi::open_job(file, &mut header, sheet.as_sheet_out(), work, &mut answer);
+        accepted(number, |refusal| look::opening(refusal, file))?;
+        let [x, y, z, high_x, high_y, high_z, lower, upper] = header;
+        Ok(Job { low: [x, y, z], high: [high_x, high_y, high_z], lower, upper, sheet: made(sheet, answer) })
     }
 }
 

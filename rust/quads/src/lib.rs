@@ -24,11 +24,12 @@
 //! print!("{}", String::from_utf8_lossy(&sheet.page(&band)?));
 //! let file = Job::new(&band, sheet).save()?;
 //! println!("{} quads in {} bytes", Job::open(&file)?.sheet.quads.len(), file.len());
+//! println!("squared sum {:?}", Job::sum(&file)?);
 //! # Ok::<(), quads::Refused>(())
 //! ```
 //!
-//! Who calls many operations keeps their work in a [`Workspace`], which has the same operations. To save and to open a
-//! [`Job`] takes no work.
+//! Who calls many operations keeps their work in a [`Workspace`], which has the same operations, [`Job::save`] and
+//! [`Job::open`] among them.
 #![warn(clippy::missing_errors_doc)]
 
 mod band;

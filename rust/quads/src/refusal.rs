@@ -35,10 +35,12 @@ pub enum Refusal {
     Short = 13,
     /// A job file that is too short, or whose trailer is not that of its parts.
     Trailer = 14,
+    /// A job file whose trailer says another squared sum than its sheet has.
+    Sum = 17,
 }
 
 /// All refusals in the order of their numbers, which need not follow on one another.
-const ALL: [Refusal; 14] = [
+const ALL: [Refusal; 15] = [
     Refusal::Box,
     Refusal::Bottomless,
     Refusal::Cells,
@@ -53,6 +55,7 @@ const ALL: [Refusal; 14] = [
     Refusal::Large,
     Refusal::Short,
     Refusal::Trailer,
+    Refusal::Sum,
 ];
 
 impl Refusal {
@@ -78,6 +81,7 @@ impl Refusal {
             Refusal::Large => "large",
             Refusal::Short => "short",
             Refusal::Trailer => "trailer",
+            Refusal::Sum => "sum",
         }
     }
 
@@ -100,6 +104,7 @@ impl Refusal {
                 "the result would have more than 1,048,576 points or quads, or a lent slice is too short for it"
             }
             Refusal::Trailer => "the file is too short for a job file, or its trailer does not fit it",
+            Refusal::Sum => "the squared sum in the trailer of the job file is not that of its sheet",
         }
     }
 
@@ -122,6 +127,7 @@ impl Refusal {
             Refusal::Large => "use a smaller sheet: draw with fewer cells, or refine less often",
             Refusal::Short => "draw with fewer cells, or refine less often",
             Refusal::Trailer => "give a job file as it was saved, whole and unaltered",
+            Refusal::Sum => "give the job file as it was saved: its quads or its trailer were altered since",
         }
     }
 
@@ -194,16 +200,17 @@ mod tests {
             "large",
             "short",
             "trailer",
+            "sum",
         ];
         assert_eq!(Refusal::all().map(Refusal::word).collect::<Vec<_>>(), words);
-        assert!(Refusal::all().map(Refusal::number).eq(1..=14));
+        assert!(Refusal::all().map(Refusal::number).eq((1..=14).chain([17])));
     }
 
     #[test]
     fn a_number_is_its_refusal() {
         assert_eq!(accepted(0), Ok(()));
         assert_eq!(accepted(7), Err(Refusal::Clash));
-        assert_eq!(accepted(14), Err(Refusal::Trailer));
+        assert_eq!([14, 17].map(accepted), [Err(Refusal::Trailer), Err(Refusal::Sum)]);
         for refusal in Refusal::all() {
             assert_eq!(Refusal::try_from(refusal.number()), Ok(refusal));
         }
@@ -211,7 +218,7 @@ mod tests {
 
     #[test]
     fn another_number_is_none() {
-        for number in [0, 15, u32::MAX] {
+        for number in [0, 15, 16, 18, u32::MAX] {
             assert_eq!(Refusal::try_from(number), Err(UnknownRefusal(number)));
         }
         assert_eq!(UnknownRefusal(15).to_string(), "15 is the number of no refusal");

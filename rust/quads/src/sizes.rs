@@ -1,5 +1,6 @@
 //! The sizes of what an operation is lent: its work, and room for the sheet, the page or the file that it makes.
-//! `include/quads.h` has those of the work, of the page and of a job file as macros.
+//! `include/quads.h` has those of the page and of a job file as macros, and those of the work but for a job's, which is
+//! one element a point.
 use crate::sheet::Counts;
 use std::ops::RangeInclusive;
 
@@ -10,7 +11,7 @@ pub const LIMIT: usize = 1_048_576;
 pub const PAGE: usize = 328;
 
 /// The most bytes of a job file, those of a sheet at the limit.
-pub const LARGEST_JOB: usize = 84 + (24 + 16 + 1) * LIMIT;
+pub const LARGEST_JOB: usize = 92 + (24 + 16 + 1) * LIMIT;
 
 /// The numbers of cells a side that a drawing may have.
 pub const CELLS: RangeInclusive<usize> = 4..=128;
@@ -73,7 +74,14 @@ pub fn job_bytes(sheet: Counts) -> usize {
     if sheet.largest() > LIMIT {
         return 0;
     }
-    84 + 24 * sheet.points + 16 * sheet.quads + sheet.labels
+    92 + 24 * sheet.points + 16 * sheet.quads + sheet.labels
+}
+
+/// The work for saving a sheet, or for opening a job file with one, one whole number a point and no floats. A sheet
+/// above the limit needs none: it is refused before work is used.
+pub fn job_work(sheet: Counts) -> WorkSize {
+    let wholes = if sheet.largest() > LIMIT { 0 } else { sheet.points };
+    WorkSize { wholes, floats: 0 }
 }
 
 /// The most that the sheet of a job file of so many bytes has: a point takes 24 of them, a quad 16 and a label one.
@@ -93,6 +101,7 @@ mod tests {
     fn work_is_what_the_library_asks() {
         assert_eq!(sheet_work(CUBE), WorkSize { wholes: 64 * 14, floats: 16 * 14 });
         assert_eq!(draw_work(4), WorkSize { wholes: 12 * 216, floats: 343 });
+        assert_eq!(job_work(CUBE), WorkSize { wholes: 8, floats: 0 });
     }
 
     #[test]
@@ -105,6 +114,7 @@ mod tests {
             Counts { labels: LIMIT + 1, ..CUBE },
         ] {
             assert_eq!((sheet_work(large), job_bytes(large)), (WorkSize::default(), 0));
+            assert_eq!(job_work(large), WorkSize::default());
         }
         for cells in [0, 3, 129, usize::MAX] {
             assert_eq!((draw_work(cells), drawn(cells)), (WorkSize::default(), Counts::default()));
@@ -123,10 +133,10 @@ mod tests {
 
     #[test]
     fn a_job_file_has_its_bytes_and_room_for_its_sheet() {
-        assert_eq!((job_bytes(Counts::default()), job_bytes(CUBE)), (84, 378));
+        assert_eq!((job_bytes(Counts::default()), job_bytes(CUBE)), (92, 386));
         let most = Counts { points: LIMIT, quads: LIMIT, labels: LIMIT };
         assert_eq!((job_bytes(most), opened(LARGEST_JOB)), (LARGEST_JOB, most));
-        assert_eq!(LARGEST_JOB, 42_991_700);
+        assert_eq!((LARGEST_JOB, job_work(most).wholes), (42_991_708, LIMIT));
         assert_eq!(opened(378), Counts { points: 15, quads: 23, labels: 378 });
     }
 }

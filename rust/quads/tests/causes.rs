@@ -3,7 +3,9 @@ mod common;
 #[path = "damaged/random.rs"]
 mod random;
 
-use common::{bowl, cube, edges, file_of, page_of, shell, unit_box, with_number};
+use common::{
+    bowl, cube, edges, file_of, page_of, place_of, shell, squared_sum, unit_box, with_number, with_sum, without_sum,
+};
 use quads::{Band, Cause, Field, Job, Ratio, Refusal, Refused, Section, Sheet, TrailerFault, Workspace};
 use random::Random;
 use std::collections::{BTreeMap, HashSet};
@@ -137,16 +139,17 @@ fn a_page_is_refused_as_quality() {
     assert!(seen.into_keys().eq([1, 5, 6, 7, 11]));
 }
 
-/// Spoils the end of a job file: one or two numbers of its trailer, or its length.
+/// Spoils the end of a job file: its sum, a number of its trailer, or its length.
 fn spoil_file(file: &mut Vec<u8>, random: &mut Random) {
-    match random.below(4) {
+    match random.below(5) {
         0 => file.truncate(random.below(file.len())),
         1 => file.extend(vec![random.below(256) as u8; 1 + random.below(30)]),
+        2 => *file = with_sum(file, random.pick(&[0, 8, 9, 1 << 32, u64::MAX])),
         _ => {
             let place = random.below(5);
             let steps = [0, 1, -1, 16, -16, 24, -24, 48, -48];
             let near = steps.map(|step| number_of(file, place).wrapping_add_signed(step));
-            let far = [0, 20, 64, u32::MAX - 23, number_of(file, random.below(5))];
+            let far = [0, 20, 28, 64, u32::MAX - 23, number_of(file, random.below(5))];
             let number = if random.below(2) == 0 { random.pick(&near) } else { random.pick(&far) };
             *file = with_number(file, place, number);
         }
@@ -155,7 +158,7 @@ fn spoil_file(file: &mut Vec<u8>, random: &mut Random) {
 
 /// A number of the trailer of a file.
 fn number_of(file: &[u8], place: usize) -> u32 {
-    file[file.len() - 20 + 4 * place..].first_chunk().map(|bytes| u32::from_le_bytes(*bytes)).unwrap()
+    file[place_of(file, place)..].first_chunk().map(|bytes| u32::from_le_bytes(*bytes)).unwrap()
 }
 
 /// Whether what a cause says of a job file is so.
@@ -163,9 +166,9 @@ fn is_so_of(fault: TrailerFault, file: &[u8]) -> bool {
     let says = |place: usize, number: u32| number_of(file, place) == number;
     let starts = |section: Section| section as usize;
     match fault {
-        TrailerFault::Short(bytes) => bytes == file.len() && bytes < 84,
-        TrailerFault::Behind { end, bytes } => end + bytes == file.len() && Job::open(&file[..end]).is_ok(),
-        TrailerFault::Length(length) => says(4, length) && length != 20,
+        TrailerFault::Short(bytes) => bytes == file.len() && (bytes < 84 || bytes < 92 && says(4, 28)),
+        TrailerFault::Behind { end, bytes } => end + bytes == file.len() && Job::sum(&file[..end]).is_ok(),
+        TrailerFault::Length(length) => says(4, length) && ![20, 28].contains(&length),
         TrailerFault::Start(start) => says(0, start) && start != 64,
         TrailerFault::Order { section, from, to } => {
             to < from && says(starts(section), from) && says(starts(section) + 1, to)
@@ -173,31 +176,55 @@ fn is_so_of(fault: TrailerFault, file: &[u8]) -> bool {
         TrailerFault::Part { section, bytes } => {
             bytes % section.element() != 0 && says(starts(section) + 1, number_of(file, starts(section)) + bytes)
         }
-        TrailerFault::End { start, bytes } => says(3, start) && bytes == file.len() && start as usize + 20 != bytes,
+        TrailerFault::End { start, length, bytes } => {
+            says(3, start) && says(4, length) && bytes == file.len() && start as usize + length as usize != bytes
+        }
         _ => false,
     }
 }
 
+/// Whether what a cause says of the sum of a job file, and of that of its sheet, is so.
+fn is_so_of_sums(file: &[u8], written: u64, sheet: u64) -> bool {
+    let opened = Job::open(&without_sum(file)).unwrap();
+    written != sheet && Job::sum(file) == Ok(Some(written)) && squared_sum(&opened.sheet) as u64 == sheet
+}
+
+/// A job file of one of these sheets, some of them without a sum.
+fn some_file(sheets: &[Sheet; 3], random: &mut Random) -> Vec<u8> {
+    let file = file_of(&Job::new(&bowl(), sheets[random.below(3)].clone()));
+    if random.below(3) == 0 { without_sum(&file) } else { file }
+}
+
+/// Asserts that a file that opens is saved again as it is, one without a sum as the one with it.
+fn assert_saved_again(job: &Job, file: &[u8]) {
+    let again = file_of(job);
+    assert!(again == file || without_sum(&again) == file, "{file:?}");
+}
+
 #[test]
 fn each_refusal_of_a_job_file_has_its_cause() {
-    let (mut random, mut opened, mut seen) = (Random(5), 0, HashSet::new());
+    let (mut random, mut opened, mut sums, mut seen) = (Random(5), 0, 0, HashSet::new());
     let sheets = [Sheet::default(), cube(), Sheet::extract_candidate(&bowl(), 6).unwrap()];
     for _ in 0..4000 {
-        let mut file = file_of(&Job::new(&bowl(), sheets[random.below(3)].clone()));
+        let mut file = some_file(&sheets, &mut random);
         spoil_file(&mut file, &mut random);
         match Job::open(&file).map_err(|refused| refused.cause()) {
             Ok(job) => {
-                assert_eq!(file_of(&job), file);
+                assert_saved_again(&job, &file);
                 opened += 1;
             }
             Err(Some(Cause::Trailer(fault))) => {
                 assert!(is_so_of(fault, &file), "{fault:?}: {file:?}");
                 seen.insert(std::mem::discriminant(&fault));
             }
+            Err(Some(Cause::Sum { written, sheet })) => {
+                assert!(is_so_of_sums(&file, written, sheet), "{written} and {sheet}: {file:?}");
+                sums += 1;
+            }
             Err(other) => panic!("{other:?}: {file:?}"),
         }
     }
-    assert!(opened > 100 && seen.len() == 7, "{opened} opened, {} kinds of faults", seen.len());
+    assert!(opened > 100 && sums > 100 && seen.len() == 7, "{opened} opened, {sums} sums, {} kinds", seen.len());
 }
 
 #[test]

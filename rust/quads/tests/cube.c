@@ -1,5 +1,5 @@
-/* Refines the unit cube, measures it and two pillows at one point, gives corners per point, prints the cube's page, and
-   saves and opens it, by include/quads.h. */
+/* Refines the unit cube, measures it and two pillows at one point, gives corners per point, prints the cube's page,
+   saves and opens it, and reads the sum of its file, by include/quads.h. */
 #include <quads.h>
 #include <stdio.h>
 #include <string.h>
@@ -84,31 +84,62 @@ static const double header[8] = {0, 0, 0, 1, 1, 1, -1, 0.0 / 0.0};
 /* The cube's job file in front of some bytes more. */
 static uint8_t file[QUADS_JOB_BYTES(8, 6, 6) + 9];
 
-/* Saves the cube in the first bytes of the file slice: the bytes of its file. */
-static uint64_t save_job(size_t length)
+/* Saves the cube in the first bytes of the file slice, with so much work: the bytes of its file. */
+static uint64_t save_job(size_t length, size_t work_length)
 {
     uint64_t answer[4];
     uint32_t number = quads_save_job(header, COUNT(header), points, COUNT(points), quads, COUNT(quads),
-        labels, COUNT(labels), 8, 6, 6, file, length, answer, COUNT(answer));
+        labels, COUNT(labels), 8, 6, 6, work, work_length, file, length, answer, COUNT(answer));
     printf("save %u: %llu bytes, %llu points, %llu quads, %llu labels\n", number, (unsigned long long)answer[0],
         (unsigned long long)answer[1], (unsigned long long)answer[2], (unsigned long long)answer[3]);
     return answer[0];
 }
 
-/* Opens the first bytes of the file slice: whether the cube and its header are there again, byte for byte. */
-static int open_job(size_t length)
+/* Opens the first bytes of the file slice, with so much work, which is full before and must be zero after it: whether
+   the cube and its header are there again, byte for byte. */
+static int open_job(size_t length, size_t work_length)
 {
     double opened[8], new_points[24];
     uint32_t new_quads[24];
     uint8_t new_labels[6];
     uint64_t answer[4];
+    memset(work, 255, work_length * sizeof *work);
     uint32_t number = quads_open_job(file, length, opened, COUNT(opened), new_points, COUNT(new_points),
-        new_quads, COUNT(new_quads), new_labels, COUNT(new_labels), answer, COUNT(answer));
+        new_quads, COUNT(new_quads), new_labels, COUNT(new_labels), work, work_length, answer, COUNT(answer));
+    for (size_t i = 0; i < work_length; i++) {
+        if (work[i] != 0) return -1;
+    }
     int same = memcmp(opened, header, sizeof header) == 0 && memcmp(new_points, points, sizeof points) == 0
         && memcmp(new_quads, quads, sizeof quads) == 0 && memcmp(new_labels, labels, sizeof labels) == 0;
     printf("open %u: %llu points, %llu quads, %llu labels, %s\n", number, (unsigned long long)answer[1],
         (unsigned long long)answer[2], (unsigned long long)answer[3], same ? "the same bytes" : "other bytes");
     return same;
+}
+
+/* Reads the sum of the first bytes of the file slice, into so many elements: the number. */
+static uint32_t job_sum(size_t length, size_t answer_length)
+{
+    uint64_t answer[2] = {7, 7};
+    uint32_t number = quads_job_sum(file, length, answer, answer_length);
+    printf("sum %u: written %llu, %llu\n", number, (unsigned long long)answer[0], (unsigned long long)answer[1]);
+    return number;
+}
+
+/* The bytes of the cube's file, and of the one as it was saved before the sum was in it. */
+#define BYTES QUADS_JOB_BYTES(8, 6, 6)
+#define OLD_BYTES (BYTES - 8)
+
+/* Saves, opens and reads the sum of the cube, of the cube with a sum that is not its own, and of the older file. */
+static int jobs(void)
+{
+    int kept = save_job(BYTES - 1, 8) == 0 && save_job(COUNT(file), 7) == 0 && save_job(COUNT(file), 8) == BYTES
+        && open_job(BYTES, 8) == 1 && open_job(BYTES, 7) == 0 && open_job(COUNT(file), 8) == 0
+        && job_sum(BYTES, 2) == QUADS_ACCEPTED && job_sum(BYTES, 1) == QUADS_SHORT
+        && job_sum(COUNT(file), 2) == QUADS_TRAILER;
+    file[BYTES - 12] = 9;
+    int told = job_sum(BYTES, 2) == QUADS_ACCEPTED && open_job(BYTES, 8) == 0;
+    memcpy(file + OLD_BYTES - 4, "\x14\0\0", 4);
+    return kept && told && job_sum(OLD_BYTES, 2) == QUADS_ACCEPTED && open_job(OLD_BYTES, 8) == 1;
 }
 
 int main(void)
@@ -118,7 +149,5 @@ int main(void)
         && corners(points, 8, quads, labels, 6, 1) == QUADS_ACCEPTED
         && corners(finer_points, 26, finer_quads, finer_labels, 24, 1) == QUADS_ACCEPTED
         && corners(points, 8, quads, labels, 6, -1) == QUADS_BOX && page(1) == QUADS_ACCEPTED
-        && page(-1) == QUADS_BOX && save_job(QUADS_JOB_BYTES(8, 6, 6) - 1) == 0
-        && save_job(COUNT(file)) == QUADS_JOB_BYTES(8, 6, 6) && open_job(QUADS_JOB_BYTES(8, 6, 6))
-        && !open_job(COUNT(file)));
+        && page(-1) == QUADS_BOX && jobs());
 }

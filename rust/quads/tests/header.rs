@@ -60,7 +60,7 @@ fn from_rattle(text: &str) -> String {
 #[test]
 fn header_library_and_crate_declare_the_same() {
     let header = declared("include/quads.h", "uint32_t quads_", from_c);
-    assert_eq!(header.len(), 12);
+    assert_eq!(header.len(), 13);
     assert_eq!(header, declared("rust/quads/src/ffi.rs", "fn quads_", str::to_string));
     assert_eq!(header, declared("crates/quads/src/lib.rt", "extern \"C\" fn quads_", from_rattle));
 }
@@ -130,8 +130,17 @@ fn a_c_program_refines_measures_and_saves() {
          invalid                                0\n\
          page 1:\n\
          save 13: 0 bytes, 0 points, 0 quads, 0 labels\n\
-         save 0: 378 bytes, 8 points, 6 quads, 6 labels\n\
+         save 13: 0 bytes, 0 points, 0 quads, 0 labels\n\
+         save 0: 386 bytes, 8 points, 6 quads, 6 labels\n\
          open 0: 8 points, 6 quads, 6 labels, the same bytes\n\
-         open 14: 0 points, 0 quads, 0 labels, other bytes\n"
+         open 13: 0 points, 0 quads, 0 labels, other bytes\n\
+         open 14: 0 points, 0 quads, 0 labels, other bytes\n\
+         sum 0: written 1, 8\n\
+         sum 13: written 7, 7\n\
+         sum 14: written 0, 0\n\
+         sum 0: written 1, 9\n\
+         open 17: 0 points, 0 quads, 0 labels, other bytes\n\
+         sum 0: written 0, 0\n\
+         open 0: 8 points, 6 quads, 6 labels, the same bytes\n"
     );
 }

@@ -1,10 +1,16 @@
 //! The job file: saved and opened to the same bits, and every file that is none is refused.
 mod common;
-use common::{bowl, cube, file_of, shell, unit_box, with_number};
+use common::{bowl, cube, file_of, shell, unit_box, with_number, without_sum};
 use quads::{Cause, Counts, Job, LIMIT, Refusal, Sheet, TrailerFault};
 
-/// The cube's file, kept as it was first saved: later releases open it too.
-const CUBE: &[u8; 378] = include_bytes!("cube.job");
+/// The cube's file, kept as it was saved before the sum was in it: later releases open it too.
+const OLD_CUBE: &[u8; 378] = include_bytes!("cube.job");
+
+/// The cube's file, kept as it was first saved with the sum.
+const CUBE: &[u8; 386] = include_bytes!("cube-sum.job");
+
+/// Both files.
+const CUBES: [&[u8]; 2] = [OLD_CUBE, CUBE];
 
 /// The job of the cube in the unit box.
 fn cube_job() -> Job {
@@ -18,13 +24,16 @@ fn bits(job: &Job) -> (Vec<u64>, &[[u32; 4]], &[u8]) {
     (floats.iter().map(|x| x.to_bits()).collect(), &job.sheet.quads, &job.sheet.labels)
 }
 
-/// Asserts that a job is saved as Rust lays it out, opens to the same bits and is saved again byte for byte.
+/// Asserts that a job is saved as Rust lays it out, and that its file, and the one of before the sum, opens to the same
+/// bits and is saved again as that file, byte for byte.
 fn assert_kept(job: &Job) {
     let file = job.save().unwrap();
     assert!(file == file_of(job), "{:?}", job.sheet.counts());
-    let opened = Job::open(&file).unwrap();
-    assert!(bits(&opened) == bits(job), "{:?}", job.sheet.counts());
-    assert!(opened.save().unwrap() == file, "{:?}", job.sheet.counts());
+    for saved in [&file, &without_sum(&file)] {
+        let opened = Job::open(saved).unwrap();
+        assert!(bits(&opened) == bits(job), "{:?}", job.sheet.counts());
+        assert!(opened.save().unwrap() == file, "{:?}", job.sheet.counts());
+    }
 }
 
 /// The refusal of a file.
@@ -33,19 +42,31 @@ fn refused(file: &[u8]) -> Refusal {
 }
 
 #[test]
-fn the_cube_has_378_bytes() {
+fn the_cube_has_386_bytes() {
     assert_eq!(cube_job().save().unwrap(), CUBE);
-    let trailer = [0x40, 0, 0, 0, 0, 1, 0, 0, 0x60, 1, 0, 0, 0x66, 1, 0, 0, 0x14, 0, 0, 0];
-    assert_eq!(CUBE[358..], trailer);
+    let starts = [0x40, 0, 0, 0, 0, 1, 0, 0, 0x60, 1, 0, 0, 0x66, 1, 0, 0];
+    assert_eq!((&CUBE[358..374], &CUBE[374..]), (&starts[..], &[8, 0, 0, 0, 0, 0, 0, 0, 28, 0, 0, 0][..]));
     assert_eq!(Job::open(CUBE), Ok(cube_job()));
 }
 
 #[test]
-fn the_sheet_of_nothing_has_84_bytes() {
+fn the_cube_of_378_bytes_opens_and_is_saved_with_386() {
+    let trailer = [0x40, 0, 0, 0, 0, 1, 0, 0, 0x60, 1, 0, 0, 0x66, 1, 0, 0, 0x14, 0, 0, 0];
+    assert_eq!(OLD_CUBE[358..], trailer);
+    let job = Job::open(OLD_CUBE).unwrap();
+    assert_eq!((&job, job.save()), (&cube_job(), Ok(CUBE.to_vec())));
+    assert_eq!((&OLD_CUBE[..374], without_sum(CUBE)), (&CUBE[..374], OLD_CUBE.to_vec()));
+}
+
+#[test]
+fn the_sheet_of_nothing_has_92_bytes() {
     let file = Job::default().save().unwrap();
-    assert_eq!((file.len(), &file[..64]), (84, &[0; 64][..]));
-    assert_eq!(file[64..], [64, 0, 0, 0, 64, 0, 0, 0, 64, 0, 0, 0, 64, 0, 0, 0, 20, 0, 0, 0]);
+    assert_eq!((file.len(), &file[..64]), (92, &[0; 64][..]));
+    let trailer = [64, 0, 0, 0, 64, 0, 0, 0, 64, 0, 0, 0, 64, 0, 0, 0, 0, 0, 0, 0, 0, 0, 0, 0, 28, 0, 0, 0];
+    assert_eq!(file[64..], trailer);
     assert_eq!(Job::open(&file), Ok(Job::default()));
+    let old = without_sum(&file);
+    assert_eq!((old.len(), Job::open(&old)), (84, Ok(Job::default())));
 }
 
 #[test]
@@ -123,55 +144,117 @@ fn nothing_is_asked_of_a_sheet() {
 
 #[test]
 fn a_file_that_is_cut_is_refused() {
-    for bytes in 0..CUBE.len() {
-        assert_eq!(refused(&CUBE[..bytes]), Refusal::Trailer, "{bytes} bytes");
+    for file in CUBES {
+        for bytes in 0..file.len() {
+            assert_eq!(refused(&file[..bytes]), Refusal::Trailer, "{bytes} bytes of {}", file.len());
+        }
     }
 }
 
 #[test]
-fn bytes_behind_the_trailer_are_refused() {
-    for bytes in 1..=30 {
-        for byte in [0, 1, 20, 64, 255] {
-            let file = [&CUBE[..], &vec![byte; bytes]].concat();
-            let expected = Cause::Trailer(TrailerFault::Behind { end: 378, bytes });
-            assert_eq!(Job::open(&file).unwrap_err().cause(), Some(expected), "{bytes} bytes of {byte}");
-        }
+fn a_file_of_the_sum_20_has_its_older_file_in_front() {
+    let mut sheet = cube();
+    sheet.quads.pop();
+    let file = Job { sheet, ..Job::default() }.save().unwrap();
+    assert_eq!(Job::sum(&file), Ok(Some(20)));
+    for bytes in (0..file.len()).filter(|&bytes| bytes != file.len() - 8) {
+        assert_eq!(refused(&file[..bytes]), Refusal::Trailer, "{bytes} bytes of {}", file.len());
     }
-    assert_eq!(refused(&[&CUBE[..], &CUBE[358..]].concat()), Refusal::Trailer);
-    assert_eq!(refused(&[&CUBE[..], CUBE].concat()), Refusal::Trailer);
+    let older = &file[..file.len() - 8];
+    assert_eq!((Job::sum(older), Job::open(older)), (Ok(None), Job::open(&file)));
+}
+
+/// Asserts that a file with such bytes behind it is refused, and that they are told.
+fn assert_behind(file: &[u8], byte: u8, bytes: usize) {
+    let longer = [file, &vec![byte; bytes]].concat();
+    let expected = Cause::Trailer(TrailerFault::Behind { end: file.len(), bytes });
+    assert_eq!(Job::open(&longer).unwrap_err().cause(), Some(expected), "{bytes} bytes of {byte}");
+}
+
+#[test]
+fn bytes_behind_the_trailer_are_refused() {
+    for file in CUBES {
+        for byte in [0, 1, 20, 28, 64, 255] {
+            (1..=30).for_each(|bytes| assert_behind(file, byte, bytes));
+        }
+        assert_eq!(refused(&[file, &file[358..]].concat()), Refusal::Trailer);
+        assert_eq!(refused(&[file, file].concat()), Refusal::Trailer);
+    }
+    assert_eq!(refused(&[CUBE, &OLD_CUBE[358..]].concat()), Refusal::Trailer);
+    assert_eq!(refused(&[&OLD_CUBE[..], &CUBE[358..]].concat()), Refusal::Trailer);
+}
+
+/// Numbers near another, and far from it.
+fn others(start: u32) -> impl Iterator<Item = u32> {
+    let near = [1, 16, 24].into_iter().flat_map(move |step| [start - step, start + step]);
+    near.chain([0, u32::MAX - 23, u32::MAX])
 }
 
 #[test]
 fn a_changed_start_is_refused() {
     for (place, start) in [64, 256, 352, 358_u32].into_iter().enumerate() {
-        let near = [1, 16, 24].into_iter().flat_map(|step| [start - step, start + step]);
-        for number in near.chain([0, u32::MAX - 23, u32::MAX]) {
-            let file = with_number(CUBE, place, number);
-            if (place, number) == (2, 336) {
-                let counts = Counts { points: 8, quads: 5, labels: 22 };
-                assert_eq!(Job::open(&file).map(|job| job.sheet.counts()), Ok(counts));
-            } else {
-                assert_eq!(refused(&file), Refusal::Trailer, "number {place} is {number}");
-            }
+        for number in others(start).filter(|&number| (place, number) != (2, 336)) {
+            let numbers = CUBES.map(|file| refused(&with_number(file, place, number)));
+            assert_eq!(numbers, [Refusal::Trailer; 2], "number {place} is {number}");
         }
     }
 }
 
 #[test]
+fn a_quad_that_becomes_labels_is_seen_by_the_sum_alone() {
+    let opened = Job::open(&with_number(OLD_CUBE, 2, 336)).map(|job| job.sheet.counts());
+    assert_eq!(opened, Ok(Counts { points: 8, quads: 5, labels: 22 }));
+    let refused = Job::open(&with_number(CUBE, 2, 336)).unwrap_err();
+    assert_eq!((refused.refusal(), refused.cause()), (Refusal::Sum, Some(Cause::Sum { written: 8, sheet: 20 })));
+}
+
+#[test]
 fn starts_that_change_places_are_refused() {
-    let numbers: [u32; 5] = [64, 256, 352, 358, 20];
-    for (i, j) in (0..5).flat_map(|i| (i + 1..5).map(move |j| (i, j))) {
-        let file = with_number(&with_number(CUBE, i, numbers[j]), j, numbers[i]);
-        assert_eq!(refused(&file), Refusal::Trailer, "numbers {i} and {j}");
+    for (file, length) in CUBES.into_iter().zip([20, 28]) {
+        let numbers: [u32; 5] = [64, 256, 352, 358, length];
+        for (i, j) in (0..5).flat_map(|i| (i + 1..5).map(move |j| (i, j))) {
+            let file = with_number(&with_number(file, i, numbers[j]), j, numbers[i]);
+            assert_eq!(refused(&file), Refusal::Trailer, "numbers {i} and {j} of {length}");
+        }
     }
 }
 
 #[test]
 fn another_length_of_the_trailer_is_refused() {
-    for length in [0, 16, 19, 21, 24, 28, 32, 20 + 256, 20 + 65536, u32::MAX] {
-        let refused = Job::open(&with_number(CUBE, 4, length)).unwrap_err();
-        assert_eq!(refused.cause(), Some(Cause::Trailer(TrailerFault::Length(length))));
+    for length in [0, 16, 19, 21, 24, 27, 29, 32, 36, 20 + 256, 28 + 256, 20 + 65536, u32::MAX] {
+        let causes = CUBES.map(|file| Job::open(&with_number(file, 4, length)).unwrap_err().cause());
+        assert_eq!(causes, [Some(Cause::Trailer(TrailerFault::Length(length))); 2]);
     }
+}
+
+#[test]
+fn a_trailer_of_another_length_is_refused_where_all_else_fits() {
+    for bytes in (0..60).filter(|bytes| ![0, 8].contains(bytes)) {
+        let length = 20 + bytes as u32;
+        let file = [&CUBE[..374], &vec![0; bytes], &length.to_le_bytes()].concat();
+        let expected = Some(Cause::Trailer(TrailerFault::Length(length)));
+        assert_eq!(Job::open(&file).unwrap_err().cause(), expected);
+        assert_eq!(Job::sum(&file).unwrap_err().cause(), expected);
+    }
+}
+
+#[test]
+fn the_length_of_the_other_trailer_is_refused() {
+    let cause = |file: &[u8]| Job::open(file).unwrap_err().cause();
+    let start = |number| Some(Cause::Trailer(TrailerFault::Start(number)));
+    assert_eq!(cause(&with_number(OLD_CUBE, 4, 28)), start(0x0302_0000));
+    assert_eq!(cause(&with_number(CUBE, 4, 20)), start(352));
+}
+
+#[test]
+fn a_trailer_of_28_bytes_needs_92() {
+    let nothing = Job::default().save().unwrap();
+    for bytes in 84..92 {
+        let file = &nothing[92 - bytes..];
+        assert_eq!(Job::open(file).unwrap_err().cause(), Some(Cause::Trailer(TrailerFault::Short(bytes))));
+        assert_eq!(Job::sum(file).unwrap_err().cause(), Some(Cause::Trailer(TrailerFault::Short(bytes))));
+    }
+    assert!(Job::open(&nothing).is_ok());
 }
 
 /// Asserts that a sheet of so many elements, each taking so many bytes, is saved and opened up to the limit.
@@ -179,13 +262,13 @@ fn assert_limited(element: usize, sheet: impl Fn(usize) -> Sheet) {
     let job = |n: usize| Job { sheet: sheet(n), ..Job::default() };
     let most = job(LIMIT);
     let file = most.save().unwrap();
-    assert!(file.len() == 84 + element * LIMIT && file == file_of(&most));
-    assert!(Job::open(&file).unwrap() == most);
-    let more = job(LIMIT + 1);
+    assert!(file.len() == 92 + element * LIMIT && file == file_of(&most));
+    assert!(Job::open(&file).unwrap() == most && Job::open(&without_sum(&file)).unwrap() == most);
+    let (more, file) = (job(LIMIT + 1), file_of(&job(LIMIT + 1)));
     let saved = more.save().unwrap_err();
-    let opened = Job::open(&file_of(&more)).unwrap_err();
+    let [opened, old] = [&file, &without_sum(&file)].map(|file| Job::open(file).unwrap_err());
     let cause = Some(Cause::Large(more.sheet.counts()));
-    assert_eq!([saved, opened].map(|refused| (refused.refusal(), refused.cause())), [(Refusal::Large, cause); 2]);
+    assert_eq!([saved, opened, old].map(|refused| (refused.refusal(), refused.cause())), [(Refusal::Large, cause); 3]);
 }
 
 #[test]
@@ -214,7 +297,11 @@ fn a_start_that_wraps_round_is_refused() {
         return;
     }
     let mut file = vec![0; bytes];
-    file[bytes - 20..].copy_from_slice(&CUBE[358..]);
-    let refused = Job::open(&file).unwrap_err();
-    assert_eq!(refused.cause(), Some(Cause::Trailer(TrailerFault::End { start: 358, bytes })));
+    file[bytes - 28..].copy_from_slice(&CUBE[358..]);
+    let cause = |length, bytes| Some(Cause::Trailer(TrailerFault::End { start: 358, length, bytes }));
+    assert_eq!(Job::open(&file).unwrap_err().cause(), cause(28, bytes));
+    assert_eq!(Job::sum(&file).unwrap_err().cause(), cause(28, bytes));
+    file.truncate(bytes - 8);
+    file[bytes - 28..].copy_from_slice(&OLD_CUBE[358..]);
+    assert_eq!(Job::open(&file).unwrap_err().cause(), cause(20, bytes - 8));
 }

@@ -1,6 +1,6 @@
 //! Each refusal by the smallest sheet that shows it, with the text of its cause. A refusal leaves the sheet as it came.
 mod common;
-use common::{counts, cube, file_of, shell, unit_box, with_number};
+use common::{counts, cube, file_of, shell, unit_box, with_number, with_sum, without_sum};
 use quads::{Band, Cause, Field, Job, LIMIT, Ratio, Refusal, Refused, Sheet};
 
 /// A band of a ball around the middle of the unit box.
@@ -259,6 +259,7 @@ fn large_12() {
     let job = Job::new(&unit_box(), sheet);
     told(job.save(), Refusal::Large, text);
     told(Job::open(&file_of(&job)), Refusal::Large, text);
+    told(Job::open(&without_sum(&file_of(&job))), Refusal::Large, text);
 }
 
 #[test]
@@ -276,21 +277,37 @@ fn trailer_14() {
     opened(&file[..1], "the file has 1 byte, and a job file has 84 or more");
     let refused = opened(&file[..83], "the file has 83 bytes, and a job file has 84 or more");
     assert_eq!(refused.advice(), "give a job file as it was saved, whole and unaltered");
-    let behind = opened(&[&file[..], &[0; 2]].concat(), "a job file ends at byte 378, and 2 bytes are behind it");
+    let short = "the file has 91 bytes, and a job file whose trailer has 28 bytes has 92 or more";
+    opened(&file[file.len() - 91..], short);
+    let behind = opened(&[&file[..], &[0; 2]].concat(), "a job file ends at byte 386, and 2 bytes are behind it");
     assert_eq!(behind.advice(), "take away the bytes behind the trailer");
-    opened(&[&file[..], &[0]].concat(), "a job file ends at byte 378, and 1 byte is behind it");
+    opened(&[&file[..], &[0]].concat(), "a job file ends at byte 386, and 1 byte is behind it");
     for (place, number, cause) in [
-        (4, 28, "its last number, the length of the trailer, is 28 and not 20"),
+        (4, 24, "its last number, the length of the trailer, is 24 and neither 28 nor 20"),
         (0, 0, "its points start at byte 0 and not at byte 64"),
         (1, 40, "its quads start at byte 40, before the points at byte 64"),
         (1, 257, "its points take 193 bytes, which is no multiple of 24"),
         (2, 255, "its labels start at byte 255, before the quads at byte 256"),
         (2, 257, "its quads take 1 byte, which is no multiple of 16"),
         (3, 351, "its trailer starts at byte 351, before the labels at byte 352"),
-        (3, 360, "its trailer is said to start at byte 360, and the last 20 bytes start at byte 358"),
     ] {
         opened(&with_number(&file, place, number), cause);
+        opened(&with_number(&without_sum(&file), place, number), cause);
     }
+    let cause = "its trailer is said to start at byte 360, and the last 28 bytes start at byte 358";
+    opened(&with_number(&file, 3, 360), cause);
+    let cause = "its trailer is said to start at byte 360, and the last 20 bytes start at byte 358";
+    opened(&with_number(&without_sum(&file), 3, 360), cause);
+}
+
+#[test]
+fn sum_17() {
+    let file = Job::new(&unit_box(), cube()).save().unwrap();
+    let text = "its trailer says the sum 9, and the sum of its sheet is 8";
+    let refused = told(Job::open(&with_sum(&file, 9)), Refusal::Sum, text);
+    assert_eq!(refused.advice(), "give the job file as it was saved: its quads or its trailer were altered since");
+    let reason = "17 sum: the squared sum in the trailer of the job file is not that of its sheet";
+    assert_eq!(refused.to_string(), format!("{reason}: {text}"));
 }
 
 #[test]

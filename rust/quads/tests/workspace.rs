@@ -1,7 +1,7 @@
 //! One workspace for many calls: each call answers as if it had one of its own.
 mod common;
 use common::{bowl, cube, shell, unit_box};
-use quads::{Band, Sheet, Workspace};
+use quads::{Band, Job, Sheet, Workspace};
 
 /// The sheet after a clean-up in a workspace, which is that of a clean-up in new ones.
 fn cleaned(workspace: &mut Workspace, sheet: &Sheet, band: &Band) -> Sheet {
@@ -13,7 +13,15 @@ fn cleaned(workspace: &mut Workspace, sheet: &Sheet, band: &Band) -> Sheet {
     assert_eq!(workspace.quality(&kept, band), fresh.quality(band));
     assert_eq!(workspace.corners_per_point(&kept, band), fresh.corners_per_point(band));
     assert_eq!(workspace.page(&kept, band), fresh.page(band));
+    assert_put_away(workspace, &Job::new(band, kept.clone()));
     kept
+}
+
+/// Asserts that a job is saved and opened in a workspace as in new ones.
+fn assert_put_away(workspace: &mut Workspace, job: &Job) {
+    let file = workspace.save(job).unwrap();
+    assert_eq!(job.save().as_ref(), Ok(&file));
+    assert_eq!((workspace.open(&file).as_ref(), Job::open(&file).as_ref()), (Ok(job), Ok(job)));
 }
 
 #[test]
@@ -41,6 +49,9 @@ fn a_refusal_leaves_it_fit_for_the_next_call() {
         assert_eq!(workspace.corners_per_point(&open, &unit_box()), open.corners_per_point(&unit_box()));
         assert!(workspace.page(&Sheet::default(), &unit_box()).is_err());
         assert_eq!(workspace.page(&open, &unit_box()), open.page(&unit_box()));
+        assert_eq!(workspace.open(&[28; 92]), Job::open(&[28; 92]));
+        assert!(workspace.open(&[28; 92]).is_err());
+        assert_put_away(&mut workspace, &Job::new(&unit_box(), cube()));
         assert_eq!(workspace.extract_candidate(&shell(), 3), Sheet::extract_candidate(&shell(), 3));
         assert_eq!(workspace.subdivide(&cube(), &unit_box()), cube().subdivide(&unit_box()));
     }

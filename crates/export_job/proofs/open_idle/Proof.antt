@@ -28,6 +28,12 @@ slice-relend-prefix-open-4 c = search needs
 slice-aggregate-open-4 : tie.Need-slice-aggregate-open-4
 slice-aggregate-open-4 c = search needs
 
+slice-relend-prefix-open-5 : tie.Need-slice-relend-prefix-open-5
+slice-relend-prefix-open-5 c = search needs
+
+slice-aggregate-open-5 : tie.Need-slice-aggregate-open-5
+slice-aggregate-open-5 c = search needs
+
 open-requires : tie.Need-open-requires
 open-requires c κs = search needs
 
@@ -43,6 +49,9 @@ clear-requires c κs = search needs
 clear-u8-requires : tie.Need-clear-u8-requires
 clear-u8-requires c κs = search needs
 
+clear-requires-2 : tie.Need-clear-requires-2
+clear-requires-2 c κs = search needs
+
 same-length : tie.Need-same-length
 same-length c = search needs
 
@@ -55,11 +64,17 @@ same-length-3 c = search needs
 same-length-4 : tie.Need-same-length-4
 same-length-4 c = search needs
 
+same-length-5 : tie.Need-same-length-5
+same-length-5 c = search needs
+
 returns : tie.Need-returns
 returns c =
-    let a = c .before .before .before .before .before .before .before .before .before .before .before .before .before .before .before .before .before .before .before .before .before .before .before .before .before .before .before .before .before .before .before .before .before .before .args in
-    idle-opens (a .file .now) (a .header .now) (a .points .now) (a .quads .now) (a .labels .now) (c .before .before .before .before .before .before .before .before .before .before .before .before .before .before .before .before .before .before .before .before .before .before .before .before .«open» .ensures)
-    (c .before .before .before .before .before .before .before .before .before .before .before .before .before .before .clear-u64 .ensures, (c .before .before .before .before .before .before .before .before .before .before .clear-u642 .ensures, (c .before .before .before .before .before .before .clear .ensures, c .before .before .clear-u8 .ensures)))
+    let a = c .before .before .before .before .before .before .before .before .before .before .before .before .before .before .before .before .before .before .before .before .before .before .before .before .before .before .before .before .before .before .before .before .before .before .before .before .before .before .before .before .before .before .args in
+    let o = c .before .before .before .before .before .before .before .before .before .before .before .before .before .before .before .before .before .before .before .before .before .before .before .before .before .before .before .before .before .before .«open» .ensures in (
+      idle-opens (a .file .now) (a .header .now) (a .points .now) (a .quads .now) (a .labels .now) (a .work .now) (o .0)
+          (c .before .before .before .before .before .before .before .before .before .before .before .before .before .before .before .before .before .before .clear-u64 .ensures, (c .before .before .before .before .before .before .before .before .before .before .before .before .before .before .clear-u642 .ensures, (c .before .before .before .before .before .before .before .before .before .before .clear .ensures, c .before .before .before .before .before .before .clear-u8 .ensures))),
+      rw (o .1) at (c .before .before .clear2 .ensures),
+    )
 
 pub open-idle-spec : {M : Type 1} → statement M
 open-idle-spec =
@@ -73,13 +88,17 @@ open-idle-spec =
     slice-aggregate-open-3
     slice-relend-prefix-open-4
     slice-aggregate-open-4
+    slice-relend-prefix-open-5
+    slice-aggregate-open-5
     open-requires
     clear-u64-requires
     clear-u64-requires-2
     clear-requires
     clear-u8-requires
+    clear-requires-2
     same-length
     same-length-2
     same-length-3
     same-length-4
+    same-length-5
     returns)

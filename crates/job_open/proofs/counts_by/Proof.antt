@@ -29,29 +29,25 @@ returns-6 : tie.Need-returns-6
 unfolding countsBy goodStarts
 returns-6 c = search tests
 
+add-if7 : tie.Need-add-if7
+add-if7 c = search needs
+
 returns-7 : tie.Need-returns-7
 unfolding countsBy goodStarts
 returns-7 c = search tests
 
-add-if8 : tie.Need-add-if8
-add-if8 c = search needs
+cast-t13 : tie.Need-cast-t13
+cast-t13 c = search needs
+
+cast-t12 : tie.Need-cast-t12
+cast-t12 c = search needs
+
+cast-t17 : tie.Need-cast-t17
+cast-t17 c = search needs
 
 returns-8 : tie.Need-returns-8
 unfolding countsBy goodStarts
 returns-8 c = search tests
-
-cast-t11 : tie.Need-cast-t11
-cast-t11 c = search needs
-
-cast-t10 : tie.Need-cast-t10
-cast-t10 c = search needs
-
-cast-t15 : tie.Need-cast-t15
-cast-t15 c = search needs
-
-returns-9 : tie.Need-returns-9
-unfolding countsBy goodStarts
-returns-9 c = search tests
 
 pub counts-by-spec : {M : Type 1} → statement M
 counts-by-spec =
@@ -63,10 +59,9 @@ counts-by-spec =
     returns-4
     returns-5
     returns-6
+    add-if7
     returns-7
-    add-if8
-    returns-8
-    cast-t11
-    cast-t10
-    cast-t15
-    returns-9)
+    cast-t13
+    cast-t12
+    cast-t17
+    returns-8)

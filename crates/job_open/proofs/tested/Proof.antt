@@ -19,11 +19,11 @@ is-short-requires c κs = few-of _ (sym (c .before .is-large .ensures) ∙ c .if
 
 returns-2 : tie.Need-returns-2
 unfolding beforeVerdict isShortJob
-returns-2 c = simp (← c .before .before .before .is-large .ensures, c .before .before .if1 .left, ← c .before .is-short .ensures, c .if2 .taken)
+returns-2 c = simp (← c .before .before .before .before .is-large .ensures, c .before .before .before .if1 .left, ← c .before .before .is-short .ensures, c .if2 .taken)
 
 returns-3 : tie.Need-returns-3
 unfolding beforeVerdict isShortJob
-returns-3 c = simp (← c .before .before .before .is-large .ensures, c .before .before .if1 .left, ← c .before .is-short .ensures, c .if2 .left)
+returns-3 c = simp (← c .before .before .before .before .is-large .ensures, c .before .before .before .if1 .left, ← c .before .before .is-short .ensures, c .if2 .left)
 
 pub tested-spec : {M : Type 1} → statement M
 tested-spec = tie.close (tie.spec is-large-requires returns is-short-requires returns-2 returns-3)

@@ -46,7 +46,7 @@ returns : tie.Need-returns
 returns c =
     let t = c .before .before .before .before .before .before .before .before .before .before .before .before .before .before .before .before .before .before .before .before .before .before .before .before .before .before .before .before .before in
     let a = t .args in
-    put-five (jobOf (a .c) (a .header .now) (a .points .now) (a .quads .now) (a .labels .now)) (a .file .now) (t .pre .0) (t .pre .1)
+    put-five (jobOf (a .c) (a .header .now) (a .points .now) (a .quads .now) (a .labels .now)) (a .sum) (a .file .now) (t .pre .0) (t .pre .1)
     (c .before .before .before .before .before .before .before .before .before .before .before .before .before .before .before .before .before .before .before .before .put-u64s .ensures) (c .before .before .before .before .before .before .before .before .before .before .before .before .before .before .before .put-u64s2 .ensures) (c .before .before .before .before .before .before .before .before .before .before .put-u32s .ensures) (c .before .before .before .before .before .before .copy-bytes .ensures) (c .before .before .put-trailer .ensures)
 
 pub put-job-spec : {M : Type 1} → statement M

@@ -18,15 +18,15 @@ is-short-requires : tie.Need-is-short-requires
 is-short-requires c κs = few-of _ (sym (c .before .is-large .ensures) ∙ c .if1 .left)
 
 size-of-requires : tie.Need-size-of-requires
-size-of-requires c κs = few-of _ (sym (c .before .before .is-large .ensures) ∙ c .before .if1 .left)
+size-of-requires c κs = few-of _ (sym (c .before .before .before .is-large .ensures) ∙ c .before .before .if1 .left)
 
 returns-2 : tie.Need-returns-2
 unfolding beforeVerdict isShortJob
-returns-2 c = simp (← c .before .before .before .before .is-large .ensures, c .before .before .before .if1 .left, ← c .before .before .is-short .ensures, ← c .before .size-of .ensures, c .if2 .taken)
+returns-2 c = simp (← c .before .before .before .before .before .is-large .ensures, c .before .before .before .before .if1 .left, ← c .before .before .before .is-short .ensures, ← c .before .size-of .ensures, c .if2 .taken)
 
 returns-3 : tie.Need-returns-3
 unfolding beforeVerdict isShortJob
-returns-3 c = simp (← c .before .before .before .before .is-large .ensures, c .before .before .before .if1 .left, ← c .before .before .is-short .ensures, ← c .before .size-of .ensures, c .if2 .left)
+returns-3 c = simp (← c .before .before .before .before .before .is-large .ensures, c .before .before .before .before .if1 .left, ← c .before .before .before .is-short .ensures, ← c .before .size-of .ensures, c .if2 .left)
 
 pub tested-spec : {M : Type 1} → statement M
 tested-spec = tie.close (tie.spec is-large-requires returns is-short-requires size-of-requires returns-2 returns-3)

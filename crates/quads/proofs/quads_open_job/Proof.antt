@@ -25,8 +25,13 @@ same-length-4 c = search needs
 same-length-5 : tie.Need-same-length-5
 same-length-5 c = search needs
 
+same-length-6 : tie.Need-same-length-6
+same-length-6 c = search needs
+
 returns : tie.Need-returns
-returns c = opened-shows (c .before .before .before .before .before .before .before .before .before .before .before .before .open-after .ensures) (c .before .before .put-answer .ensures)
+returns c =
+    let o = c .before .before .before .before .before .before .before .before .before .before .before .before .before .before .open-after .ensures in
+    (opened-shows (o .0) (c .before .before .put-answer .ensures), o .1)
 
 pub quads-open-job-spec : {M : Type 1} → statement M
 quads-open-job-spec =
@@ -39,4 +44,5 @@ quads-open-job-spec =
     same-length-3
     same-length-4
     same-length-5
+    same-length-6
     returns)

@@ -23,12 +23,16 @@ same-length c = search needs
 same-length-2 : tie.Need-same-length-2
 same-length-2 c = search needs
 
+same-length-3 : tie.Need-same-length-3
+same-length-3 c = search needs
+
 returns : tie.Need-returns
 returns c =
-    let a = c .before .before .before .before .before .before .before .before .before .before .before .before .before .before .before .args in
+    let a = c .before .before .before .before .before .before .before .before .before .before .before .before .before .before .before .before .before .before .before .args in
     let n : Counts = record { points = a .np; quads = a .nq; labels = a .nl } in
     let x = jobOf n (a .header .now) (a .points .now) (a .quads .now) (a .labels .now) in
-    answer-saves n (saveRule x (length (a .file .now))) (c .before .before .before .before .before .before .before .before .answer-verdict .ensures) (c .before .before .before .before .before .before .save-after .ensures) (c .before .before .put-answer .ensures)
+    let s = c .before .before .before .before .before .before .before .before .save-after .ensures in
+    (answer-saves n (saveRule x (length (a .work .now)) (length (a .file .now))) (c .before .before .before .before .before .before .before .before .before .before .before .answer-verdict .ensures) (s .0) (c .before .before .put-answer .ensures), s .1)
 
 pub quads-save-job-spec : {M : Type 1} → statement M
 quads-save-job-spec =
@@ -39,4 +43,5 @@ quads-save-job-spec =
     put-answer-requires
     same-length
     same-length-2
+    same-length-3
     returns)

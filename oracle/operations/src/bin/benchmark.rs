@@ -3,7 +3,8 @@
 //! best of several runs, taken in turns; growth is the library's time over that at half as many cells or quads. The
 //! original is timed by its own operation alone. It has no corners per point and no page: its figures there are those
 //! of its tests and of its `quality`, each with the oracle's model. It saves and opens no jobs: its figures there are
-//! those of the oracle's writer and reader.
+//! those of the oracle's writer and reader, with the squared sum. To read the sum of a file takes no time to speak of,
+//! and is not timed.
 use operations::jobs::JobLent;
 use operations::library::{self, Lent};
 use oracle::bands::UNIT;

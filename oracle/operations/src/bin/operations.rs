@@ -1,7 +1,7 @@
 //! operations [CALLS] [SEED] [OPERATION]: the library's operations and the original on the same random sheets, every
 //! bit compared: single calls, lists of calls on one sheet, and drawings; with the name of an operation, single calls
 //! of it alone. The library's result and work slices are filled before, and must hold the result and zeros after. Saved
-//! and opened jobs are compared with a second writer and a second reader.
+//! and opened jobs, and the sums of job files, are compared with a second writer and a second reader.
 use operations::faults::Faults;
 use operations::job_faults::{self, JobFaults};
 use operations::{draws, lists};
@@ -11,7 +11,7 @@ use oracle::operation::Operation;
 use std::process::ExitCode;
 
 /// The operations that are compared by single calls, each with its share of 100 calls.
-const SHARES: [(Operation, u64); 11] = [
+const SHARES: [(Operation, u64); 12] = [
     (Operation::Refine, 5),
     (Operation::Subdivide, 14),
     (Operation::Regularize, 10),
@@ -21,8 +21,9 @@ const SHARES: [(Operation, u64); 11] = [
     (Operation::Quality, 10),
     (Operation::Corners, 5),
     (Operation::Page, 5),
-    (Operation::Save, 5),
-    (Operation::Open, 5),
+    (Operation::Save, 4),
+    (Operation::Open, 4),
+    (Operation::Sum, 2),
 ];
 
 /// How many calls a run has at least in which jobs at the limit are saved and opened too.
@@ -105,7 +106,8 @@ mod tests {
     fn operations_are_found_by_their_names() {
         assert_eq!(named("corners_per_point"), Ok(Operation::Corners));
         assert_eq!(named("page"), Ok(Operation::Page));
-        assert_eq!([named("save"), named("open")], [Ok(Operation::Save), Ok(Operation::Open)]);
+        let jobs = [Operation::Save, Operation::Open, Operation::Sum].map(Ok);
+        assert_eq!(["save", "open", "sum"].map(named), jobs);
         assert_eq!(named("extract_candidate"), Ok(Operation::Extract));
         for wrong in ["corners", "sqrt", "8", ""] {
             assert_eq!(named(wrong), Err(format!("{wrong} is no operation")));

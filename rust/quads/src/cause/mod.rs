@@ -162,6 +162,13 @@ pub enum Cause {
     Large(Counts),
     /// 14: what is wrong with a job file.
     Trailer(TrailerFault),
+    /// 17: two sums that differ.
+    Sum {
+        /// The squared sum that the trailer says.
+        written: u64,
+        /// The squared sum of the sheet.
+        sheet: u64,
+    },
 }
 
 /// A point of the finer sheet, by what it comes from.
@@ -190,7 +197,8 @@ pub enum Miss {
 #[derive(Clone, Copy, Debug, PartialEq, Eq)]
 #[non_exhaustive]
 pub enum TrailerFault {
-    /// The file has so many bytes, too few for the 64 in front of the points and a trailer.
+    /// The file has so many bytes, too few for the 64 in front of the points and a trailer: fewer than 84, or than 92
+    /// where its last number says that the trailer has 28.
     Short(usize),
     /// A good trailer does not end the file.
     Behind {
@@ -199,7 +207,7 @@ pub enum TrailerFault {
         /// How many bytes are behind it.
         bytes: usize,
     },
-    /// The last number, the length of the trailer, is this one and not 20.
+    /// The last number, the length of the trailer, is this one and neither 28 nor 20.
     Length(u32),
     /// The points start here and not at 64.
     Start(u32),
@@ -219,10 +227,12 @@ pub enum TrailerFault {
         /// How many bytes it has.
         bytes: u32,
     },
-    /// The trailer is not where it is said to start, 20 bytes before the end.
+    /// The trailer is not where it is said to start, as many bytes before the end as its length says.
     End {
         /// Where it is said to start.
         start: u32,
+        /// Its length, 28 or 20.
+        length: u32,
         /// How many bytes the file has.
         bytes: usize,
     },
@@ -268,6 +278,7 @@ impl Cause {
             Cause::Normal { .. } => Refusal::Normal,
             Cause::Large(_) => Refusal::Large,
             Cause::Trailer(_) => Refusal::Trailer,
+            Cause::Sum { .. } => Refusal::Sum,
         }
     }
 

@@ -38,14 +38,13 @@ impl fmt::Display for Cause {
                 write!(f, "the edge from point {a} to point {b} has {}", Of(quads, "quad"))
             }
             Cause::Astray { origin, miss } => write!(f, "{origin} {miss}"),
-            Cause::Row { point, label } => {
-                write!(f, "the copy of point {point} on the {label} (label {})", label.number())
-            }
+            Cause::Row { point, label } => f.write_str(&copy(point, label)),
             Cause::Normal { quad, gradient } => {
                 write!(f, "at the centre of quad {quad} the gradient is {}", At(gradient))
             }
             Cause::Large(counts) => f.write_str(&large(counts)),
             Cause::Trailer(fault) => fault.fmt(f),
+            Cause::Sum { written, sheet } => f.write_str(&sums(written, sheet)),
         }
     }
 }
@@ -54,14 +53,17 @@ impl fmt::Display for Cause {
 impl fmt::Display for TrailerFault {
     fn fmt(&self, f: &mut fmt::Formatter<'_>) -> fmt::Result {
         match *self {
-            TrailerFault::Short(bytes) => {
+            TrailerFault::Short(bytes) if bytes < 84 => {
                 write!(f, "the file has {}, and a job file has 84 or more", Of(bytes, "byte"))
+            }
+            TrailerFault::Short(bytes) => {
+                write!(f, "the file has {bytes} bytes, and a job file whose trailer has 28 bytes has 92 or more")
             }
             TrailerFault::Behind { end, bytes } => {
                 write!(f, "a job file ends at byte {end}, and {} behind it", Are(bytes, "byte"))
             }
             TrailerFault::Length(length) => {
-                write!(f, "its last number, the length of the trailer, is {length} and not 20")
+                write!(f, "its last number, the length of the trailer, is {length} and neither 28 nor 20")
             }
             TrailerFault::Start(start) => write!(f, "its points start at byte {start} and not at byte 64"),
             TrailerFault::Order { section, from, to } => {
@@ -71,9 +73,10 @@ impl fmt::Display for TrailerFault {
                 let size = section.element();
                 write!(f, "its {section} take {}, which is no multiple of {size}", Of(bytes as usize, "byte"))
             }
-            TrailerFault::End { start, bytes } => {
-                let end = bytes.saturating_sub(20);
-                write!(f, "its trailer is said to start at byte {start}, and the last 20 bytes start at byte {end}")
+            TrailerFault::End { start, length, bytes } => {
+                let end = bytes.saturating_sub(length as usize);
+                let last = format!("the last {length} bytes start at byte {end}");
+                write!(f, "its trailer is said to start at byte {start}, and {last}")
             }
         }
     }
@@ -97,6 +100,16 @@ fn behind(section: Section) -> &'static str {
         Section::Quads => "its labels start",
         Section::Labels => "its trailer starts",
     }
+}
+
+/// The copy of a point in the patch of a label.
+fn copy(point: usize, label: Label) -> String {
+    format!("the copy of point {point} on the {label} (label {})", label.number())
+}
+
+/// The sum that a trailer says, and that of the sheet.
+fn sums(written: u64, sheet: u64) -> String {
+    format!("its trailer says the sum {written}, and the sum of its sheet is {sheet}")
 }
 
 /// What a sheet has.

@@ -41,11 +41,12 @@ pub(crate) fn saving(refusal: Refusal, sheet: &Sheet) -> Option<Cause> {
     (refusal == Refusal::Large).then(|| Cause::Large(sheet.counts()))
 }
 
-/// Why opening refused a file.
+/// Why opening refused a file, or reading its sum.
 pub(crate) fn opening(refusal: Refusal, file: &[u8]) -> Option<Cause> {
     match refusal {
         Refusal::Trailer => job::trailer(file),
         Refusal::Large => job::large(file),
+        Refusal::Sum => job::sum(file),
         _ => None,
     }
 }

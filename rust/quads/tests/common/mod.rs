@@ -73,15 +73,35 @@ pub fn file_of(job: &Job) -> Vec<u8> {
     file.extend(sheet.quads.as_flattened().iter().flat_map(|corner| corner.to_le_bytes()));
     trailer.push(file.len());
     file.extend(&sheet.labels);
-    trailer.extend([file.len(), 20]);
+    trailer.push(file.len());
     file.extend(trailer.into_iter().flat_map(|n| u32::try_from(n).unwrap().to_le_bytes()));
+    file.extend(squared_sum(sheet).to_le_bytes());
+    file.extend(28_u32.to_le_bytes());
     file
 }
 
-/// A file with another number in its trailer, of which the first is number 0.
+/// A file as it was saved before the sum was in it: a trailer of 20 bytes in place of one of 28.
+pub fn without_sum(file: &[u8]) -> Vec<u8> {
+    [&file[..file.len() - 12], &20_u32.to_le_bytes()].concat()
+}
+
+/// Where a number of a trailer stands: 0 to 3 are the starts of points, quads, labels and trailer, 4 is its length.
+pub fn place_of(file: &[u8], place: usize) -> usize {
+    let from_end = if file.ends_with(&28_u32.to_le_bytes()) { [28, 24, 20, 16, 4] } else { [20, 16, 12, 8, 4] };
+    file.len() - from_end[place]
+}
+
+/// A file with another of these numbers in its trailer.
 pub fn with_number(file: &[u8], place: usize, number: u32) -> Vec<u8> {
-    let (mut file, at) = (file.to_vec(), file.len() - 20 + 4 * place);
+    let (mut file, at) = (file.to_vec(), place_of(file, place));
     file[at..at + 4].copy_from_slice(&number.to_le_bytes());
+    file
+}
+
+/// A file with another sum in its trailer.
+pub fn with_sum(file: &[u8], sum: u64) -> Vec<u8> {
+    let (mut file, at) = (file.to_vec(), file.len() - 12);
+    file[at..at + 8].copy_from_slice(&sum.to_le_bytes());
     file
 }
 
@@ -102,11 +122,11 @@ pub fn euler(sheet: &Sheet) -> i64 {
     sheet.points.len() as i64 - edges(sheet).len() as i64 + sheet.quads.len() as i64
 }
 
-/// The sum of (quads at a point minus 4) squared.
+/// The sum of (quads at a point minus 4) squared. A corner that names no point counts nowhere.
 pub fn squared_sum(sheet: &Sheet) -> i64 {
     let mut quads = vec![0_i64; sheet.points.len()];
     for &corner in sheet.quads.as_flattened() {
-        quads[corner as usize] += 1;
+        quads.get_mut(corner as usize).into_iter().for_each(|n| *n += 1);
     }
     quads.iter().map(|n| (n - 4).pow(2)).sum()
 }

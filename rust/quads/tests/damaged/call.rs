@@ -1,4 +1,5 @@
 //! One call of the face, between margins, and what it must leave.
+use crate::common::without_sum;
 use crate::guarded::{Bits, Guarded, is_zero, same};
 use crate::inputs::Input;
 use crate::lent_job::{JobLent, job_file};
@@ -20,10 +21,11 @@ pub enum Operation {
     Page,
     Save,
     Open,
+    Sum,
 }
 
 /// All of them.
-pub const OPERATIONS: [Operation; 12] = [
+pub const OPERATIONS: [Operation; 13] = [
     Operation::Extract,
     Operation::Refine,
     Operation::Subdivide,
@@ -36,6 +38,7 @@ pub const OPERATIONS: [Operation; 12] = [
     Operation::Page,
     Operation::Save,
     Operation::Open,
+    Operation::Sum,
 ];
 
 impl Operation {
@@ -50,14 +53,19 @@ impl Operation {
         matches!(self, Operation::Regularize | Operation::ImproveLayout | Operation::Coarsen)
     }
 
-    /// Whether it measures or saves the lent sheet, and neither makes nor alters one.
+    /// Whether it measures or saves the lent sheet, or reads a sum, and neither makes nor alters a sheet.
     fn only_reads(self) -> bool {
-        matches!(self, Operation::Quality | Operation::Corners | Operation::Page | Operation::Save)
+        matches!(self, Operation::Quality | Operation::Corners | Operation::Page | Operation::Save | Operation::Sum)
     }
 
-    /// Whether it saves or opens a job, and takes neither a band nor work.
+    /// Whether it saves or opens a job, or reads the sum of one, and takes neither a band nor floats of work.
     pub fn is_of_a_job(self) -> bool {
-        matches!(self, Operation::Save | Operation::Open)
+        matches!(self, Operation::Save | Operation::Open | Operation::Sum)
+    }
+
+    /// Whether it reads a job file.
+    pub fn reads_file(self) -> bool {
+        matches!(self, Operation::Open | Operation::Sum)
     }
 
     /// Whether it takes a band.
@@ -69,7 +77,7 @@ impl Operation {
     fn answers(self) -> usize {
         match self {
             Operation::Quality => 10,
-            Operation::Corners => 2,
+            Operation::Corners | Operation::Sum => 2,
             Operation::Page => 0,
             _ => 4,
         }
@@ -87,7 +95,7 @@ pub struct Lent {
     new_points: Guarded<f64>,
     new_quads: Guarded<u32>,
     new_labels: Guarded<u8>,
-    work: Guarded<u32>,
+    pub work: Guarded<u32>,
     floats: Guarded<f64>,
     pub answer: Guarded<u64>,
     pub measures: Guarded<f64>,
@@ -134,8 +142,13 @@ impl Lent {
             Operation::Quality => ffi::quality(read, band, work, answer, self.measures.list_mut()),
             Operation::Corners => ffi::corners_per_point(read, band, work, answer),
             Operation::Page => ffi::page(read, band, work, self.page.list_mut()),
-            Operation::Save => ffi::save_job(self.job.header.list(), read, self.job.file.list_mut(), answer),
-            Operation::Open => ffi::open_job(self.job.saved.list(), self.job.new_header.list_mut(), made, answer),
+            Operation::Save => {
+                ffi::save_job(self.job.header.list(), read, work.wholes, self.job.file.list_mut(), answer)
+            }
+            Operation::Open => {
+                ffi::open_job(self.job.saved.list(), self.job.new_header.list_mut(), made, work.wholes, answer)
+            }
+            Operation::Sum => ffi::job_sum(self.job.saved.list(), answer),
             Operation::Regularize => {
                 ffi::regularize(SheetMut { points, quads, labels, counts }, band, argument, work, answer)
             }
@@ -174,6 +187,7 @@ impl Lent {
             (operation != Operation::Page || self.page_fits(accepted), "the page is not as promised"),
             (operation != Operation::Save || self.save_fits(accepted), "the file is not as promised"),
             (operation != Operation::Open || self.open_fits(accepted), "the job is not as promised"),
+            (operation != Operation::Sum || !accepted || self.sum_fits(), "the sum is not as promised"),
             (!accepted || operation.only_reads() || self.sheet_fits(operation), "the sheet has something behind it"),
             (accepted || !operation.makes() || self.made_is_zero(), "a refusal leaves something"),
             (self.short_is_told(operation, number), "a slice that is too short is not refused in its place"),
@@ -191,12 +205,12 @@ impl Lent {
             && self.job.is_intact()
     }
 
-    /// Whether the work slices are zero; those of an operation that takes none are as they came.
+    /// Whether the work slices that an operation takes are zero; those that it does not take are as they came.
     fn work_fits(&self, before: &Lent, operation: Operation) -> bool {
-        if operation.is_of_a_job() {
-            return same(self.work.list(), before.work.list()) && same(self.floats.list(), before.floats.list());
-        }
-        is_zero(self.work.list()) && is_zero(self.floats.list())
+        let (wholes, floats) = (operation != Operation::Sum, !operation.is_of_a_job());
+        let kept = (wholes || same(self.work.list(), before.work.list()))
+            && (floats || same(self.floats.list(), before.floats.list()));
+        kept && (!wholes || is_zero(self.work.list())) && (!floats || is_zero(self.floats.list()))
     }
 
     /// Whether everything that the operation does not write, or was refused to, is as it was.
@@ -220,18 +234,20 @@ impl Lent {
     }
 
     /// Whether a short list is refused in its place: a band's with nothing before it but 12, an answer's, a page, a
-    /// header and a file so too, but where a sheet is drawn also behind 1, 2 and 3, where a job is opened behind 14.
+    /// header, a file and the work of a job so too, but where a sheet is drawn also behind 1, 2 and 3, where a job file
+    /// is read behind 14.
     fn short_is_told(&self, operation: Operation, number: u32) -> bool {
         let draws = operation == Operation::Extract;
         let band = operation.takes_band() && (self.numbers.list().len() < 10 || self.bounds.list().len() < 6);
         let measures = operation == Operation::Quality && self.measures.list().len() < 4;
         let page = operation == Operation::Page && self.page.list().len() < PAGE;
-        let job = self.job.is_short(operation);
+        let job = self.job.is_short(operation, self.work.list().len());
         let mute = self.answer.list().len() < operation.answers() || measures || page || job;
         match (band, mute) {
             (true, _) if draws => number == 13,
             (_, true) if draws => matches!(number, 1 | 2 | 3 | 13),
-            (_, true) if operation == Operation::Open => matches!(number, 12..=14),
+            (_, true) if operation == Operation::Sum => matches!(number, 13 | 14),
+            (_, true) if operation.reads_file() => matches!(number, 12..=14),
             (true, _) | (_, true) => matches!(number, 12 | 13),
             (false, false) => true,
         }
@@ -273,15 +289,25 @@ impl Lent {
         saved == file && is_zero(behind) && self.told() == Some(Answer { count: file.len(), sheet: counts })
     }
 
-    /// Whether what was opened is, laid out again, the file that was lent, with zeros behind the header; after a
-    /// refusal, whether all of the header is zero.
+    /// Whether what was opened is, laid out again, the file that was lent, or that without the sum, with zeros behind
+    /// the header; after a refusal, whether all of the header is zero.
     fn open_fits(&self, accepted: bool) -> bool {
-        let header = &self.job.new_header;
+        let (header, saved) = (&self.job.new_header, self.job.saved.list());
         let Some(Answer { count: 0, sheet }) = self.told().filter(|_| accepted) else {
             return !accepted && is_zero(header.list());
         };
-        let file = job_file(header, (&self.new_points, &self.new_quads, &self.new_labels), sheet);
-        file.as_deref() == Some(self.job.saved.list()) && is_zero(&header.list()[8..])
+        let lists = (&self.new_points, &self.new_quads, &self.new_labels);
+        let Some(file) = job_file(header, lists, sheet) else { return false };
+        (file == saved || without_sum(&file) == saved) && is_zero(&header.list()[8..])
+    }
+
+    /// Whether the answer tells the sum that stands in the trailer, or that there is none.
+    fn sum_fits(&self) -> bool {
+        let expected = match self.job.saved.list() {
+            [front @ .., 28, 0, 0, 0] => [1, front.last_chunk().map_or(0, |bytes| u64::from_le_bytes(*bytes))],
+            _ => [0, 0],
+        };
+        self.answer.list().starts_with(&expected)
     }
 
     /// What the answer slice tells; none of one that is too short.

@@ -1,7 +1,9 @@
 //! Calls that are right, and the damage done to them.
-use crate::common::{bowl, cube, file_of, shell, unit_box, with_number};
+use crate::call::Operation;
+use crate::common::{bowl, cube, file_of, shell, unit_box, with_number, with_sum, without_sum};
 use crate::random::Random;
-use quads::{Band, Counts, Field, Job, LIMIT, PAGE, Sheet, sizes};
+use quads::sizes::{self, WorkSize};
+use quads::{Band, Counts, Field, Job, LIMIT, PAGE, Sheet};
 
 /// Everything that a call may be lent.
 #[derive(Clone)]
@@ -54,12 +56,22 @@ fn field(field: Field) -> (u32, Vec<f64>) {
     }
 }
 
-/// A call that is lent what it needs, its written slices full of what must go.
-pub fn right(random: &mut Random, (sheet, band): &(Sheet, Band), draws: bool) -> Input {
-    let counts = sheet.counts();
+/// The work of an operation on a sheet of these counts, or for drawing with so many cells; of a job with floats that
+/// must stay.
+fn work(operation: Operation, counts: Counts, cells: usize) -> WorkSize {
+    match operation {
+        Operation::Extract => sizes::draw_work(cells),
+        Operation::Save | Operation::Open | Operation::Sum => WorkSize { floats: 3, ..sizes::job_work(counts) },
+        _ => sizes::sheet_work(counts),
+    }
+}
+
+/// A call of an operation that is lent what it needs, its written slices full of what must go.
+pub fn right(random: &mut Random, (sheet, band): &(Sheet, Band), operation: Operation) -> Input {
+    let (counts, draws) = (sheet.counts(), operation == Operation::Extract);
     let (kind, numbers) = field(band.field);
     let cells: usize = random.pick(&[4, 5, 6]);
-    let work = if draws { sizes::draw_work(cells) } else { sizes::sheet_work(counts) };
+    let work = work(operation, counts, cells);
     let n = if draws { 500 } else { 5 * counts.quads };
     Input {
         points: sheet.points.as_flattened().to_vec(),
@@ -76,7 +88,7 @@ pub fn right(random: &mut Random, (sheet, band): &(Sheet, Band), draws: bool) ->
         new_labels: vec![255; n],
         work: vec![u32::MAX; work.wholes],
         floats: vec![f64::NAN; work.floats],
-        answer: vec![u64::MAX; 10],
+        answer: vec![u64::MAX; if operation == Operation::Sum { 2 } else { 10 }],
         measures: vec![f64::NAN; 4],
         page: vec![255; PAGE],
         header: [&band.low[..], &band.high, &[band.lower, band.upper]].concat(),
@@ -113,16 +125,19 @@ fn poke<T: Copy>(random: &mut Random, list: &mut [T], value: T) {
     }
 }
 
-/// Damages one length or one number of a job.
+/// Damages one length or one number of a job, or gives a file as it was saved before the sum was in it.
 fn damage_job(random: &mut Random, input: &mut Input) {
     let x = extreme(random);
-    match random.below(8) {
+    match random.below(12) {
         0 => stretch(random, &mut input.header, 1.0),
         1 => stretch(random, &mut input.file, 255),
         2 => stretch(random, &mut input.saved, 0),
         3 => stretch(random, &mut input.new_header, f64::NAN),
         4 => poke(random, &mut input.header, f64::from_bits(x.to_bits() ^ 0xdead_beef)),
         5 => poke(random, &mut input.saved, (x.to_bits() >> 56) as u8),
+        _ if input.saved.len() < 28 => {}
+        6 | 7 => input.saved = with_sum(&input.saved, random.pick(&[0, 7, 8, 16, 1 << 32, u64::MAX])),
+        8 | 9 => input.saved = without_sum(&input.saved),
         _ => damage_trailer(random, &mut input.saved),
     }
 }
@@ -130,9 +145,7 @@ fn damage_job(random: &mut Random, input: &mut Input) {
 /// Another number in the trailer of a file that has one.
 fn damage_trailer(random: &mut Random, file: &mut Vec<u8>) {
     let words = [0, 16, 19, 20, 21, 24, 28, 63, 64, 65, 88, 256, u32::MAX - 23, u32::MAX];
-    if file.len() >= 20 {
-        *file = with_number(file, random.below(5), random.pick(&words));
-    }
+    *file = with_number(file, random.below(5), random.pick(&words));
 }
 
 /// Damages one length, count or number.

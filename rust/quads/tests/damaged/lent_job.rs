@@ -1,6 +1,6 @@
 //! What saving and opening a job is lent beside a sheet, between margins.
 use crate::call::Operation;
-use crate::common::file_of;
+use crate::common::{file_of, place_of};
 use crate::guarded::{Guarded, same};
 use crate::inputs::Input;
 use quads::{Counts, Job, Sheet, sizes};
@@ -51,13 +51,23 @@ impl JobLent {
             && (operation == Operation::Open || same(self.new_header.list(), before.new_header.list()))
     }
 
-    /// Whether the header, or the slice for the file, is too short for the operation.
-    pub fn is_short(&self, operation: Operation) -> bool {
+    /// Whether the header, the slice for the file, or this work is too short for the operation.
+    pub fn is_short(&self, operation: Operation, work: usize) -> bool {
         match operation {
-            Operation::Save => self.header.list().len() < 8 || self.file.list().len() < sizes::job_bytes(self.counts),
-            Operation::Open => self.new_header.list().len() < 8,
+            Operation::Save => {
+                let needed = sizes::job_bytes(self.counts);
+                self.header.list().len() < 8 || self.file.list().len() < needed || work < self.counts.points
+            }
+            Operation::Open => self.new_header.list().len() < 8 || self.points().is_some_and(|points| work < points),
             _ => false,
         }
+    }
+
+    /// How many points the file has that is opened, where its trailer says that they end behind their start.
+    fn points(&self) -> Option<usize> {
+        let file = Some(self.saved.list()).filter(|file| file.len() >= 84)?;
+        let quads = file[place_of(file, 1)..].first_chunk().map(|bytes| u32::from_le_bytes(*bytes))?;
+        Some((quads as usize).checked_sub(64)? / 24)
     }
 }
 

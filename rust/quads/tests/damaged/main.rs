@@ -25,7 +25,7 @@ fn number(name: &str, default: u64) -> u64 {
 fn one(random: &mut Random, sheets: &[(quads::Sheet, quads::Band)]) -> (Operation, u32, Vec<&'static str>) {
     let operation = random.pick(&OPERATIONS);
     let from = random.below(sheets.len());
-    let mut input = inputs::right(random, &sheets[from], operation == Operation::Extract);
+    let mut input = inputs::right(random, &sheets[from], operation);
     for _ in 0..random.pick(&[0, 1, 1, 2, 3]) {
         inputs::damage(random, &mut input);
     }
@@ -59,7 +59,8 @@ fn damaged_calls_are_answered() {
         println!("{operation:?}: calls by the number they answered: {numbers:?}");
         let is_met = |number| numbers.contains_key(&number);
         assert!(is_met(0) && is_met(13), "{operation:?} was not called both rightly and wrongly");
-        assert!(is_met(14) == (operation == Operation::Open), "{operation:?} and trailers do not fit");
+        assert!(is_met(14) == operation.reads_file(), "{operation:?} and trailers do not fit");
+        assert!(is_met(17) == (operation == Operation::Open), "{operation:?} and sums do not fit");
     }
     println!("{calls} calls, seed {seed}, 0 broken");
 }

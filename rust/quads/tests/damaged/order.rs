@@ -17,7 +17,7 @@ fn banded() -> impl Iterator<Item = Operation> {
 fn call(operation: Operation, faults: &[Fault]) -> (u32, Lent) {
     let draws = operation == Operation::Extract;
     let from = if draws { (cube(), shell()) } else { (cube(), unit_box()) };
-    let mut input = inputs::right(&mut Random(1), &from, draws);
+    let mut input = inputs::right(&mut Random(1), &from, operation);
     input.argument = if draws { input.argument } else { 1 };
     for fault in faults {
         fault(&mut input);

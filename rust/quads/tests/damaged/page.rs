@@ -13,7 +13,7 @@ const SHORT: [usize; 4] = [0, 1, 41, 327];
 
 /// Asks for the cube's page in a slice of this length, right but for the faults: the number, and the slice after it.
 fn page(length: usize, faults: &[Fault]) -> (u32, Vec<u8>) {
-    let mut input = inputs::right(&mut Random(1), &(cube(), unit_box()), false);
+    let mut input = inputs::right(&mut Random(1), &(cube(), unit_box()), Operation::Page);
     input.page.resize(length, 255);
     for fault in faults {
         fault(&mut input);
