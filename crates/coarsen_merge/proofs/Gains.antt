@@ -1,18 +1,11 @@
 -- The squares of a gain, within what a usize holds. Assumes nothing.
-use mathlib.Core.Path.{_≡_}
 use Prim.Native.Nat.{ℕ, _+_, _-_, _*_, _≤_, _<_}
 use mathlib.Core.Logic.{⊎-elim}
 use native.Mathlib.Omega.{arith}
 use native.Mathlib.Nat.{mul-le-mul}
 use Rattle.lists.proofs.Laws.{lt-or-le}
 use Rattle.rule_sheet.specs.Squared.{sq}
-
--- below 4 one of the two squares is 0, else the other
-pub sq-low : (k : ℕ) → k < 4 → (4 - k) * (4 - k) ≡ sq k
-sq-low k h = let e : k - 4 ≡ 0 = omega arith in rw e (omega arith)
-
-pub sq-high : (k : ℕ) → 4 ≤ k → (k - 4) * (k - 4) ≡ sq k
-sq-high k h = let e : 4 - k ≡ 0 = omega arith in rw e (omega arith)
+use Rattle.rule_sheet.proofs.Weigh.{sq-low, sq-high}
 
 -- the squares of numbers of at most 2 ^ 24
 pub square-le : (d : ℕ) → d ≤ 16777216 → d * d ≤ 281474976710656

@@ -1,5 +1,5 @@
 -- How large the squared sum of any quads is. Assumes nothing.
-use Prim.Native.Nat.{ℕ, zero, suc, _+_, _-_, _*_, _≤_, _<_}
+use Prim.Native.Nat.{ℕ, zero, suc, _+_, _*_, _≤_, _<_}
 use mathlib.Core.Path.{_≡_}
 use mathlib.Core.Bool.{Bool, true, false, cond}
 use mathlib.Core.Logic.{⊎-elim}
@@ -18,13 +18,6 @@ use Rattle.rule_sheet.proofs.Sums.{upto, sum-tab}
 use Rattle.rule_sheet.proofs.Weigh.{sq-suc}
 
 -- ---- one point
-
--- below 4 one of the two squares is 0, else the other
-pub sq-low : (k : ℕ) → k < 4 → (4 - k) * (4 - k) ≡ sq k
-sq-low k h = let e : k - 4 ≡ 0 = omega arith in rw e (omega arith)
-
-pub sq-high : (k : ℕ) → 4 ≤ k → (k - 4) * (k - 4) ≡ sq k
-sq-high k h = let e : 4 - k ≡ 0 = omega arith in rw e (omega arith)
 
 sq-plus : (k : ℕ) → sq k + 8 * k ≡ k * k + 16
 sq-plus zero = omega arith

@@ -100,6 +100,13 @@ sq-suc (suc (suc (suc (suc m)))) = go _ _ _ _ (omega arith) (omega arith) (omega
     go : (a b c d : ℕ) → a ≡ suc m → b ≡ 0 → c ≡ m → d ≡ 0 → (a * a + b * b) + 7 ≡ (c * c + d * d) + 2 * suc (suc (suc (suc m)))
     go a b c d p q r s = rw (p, q, r, s) (omega (arith, suc-mul m (suc m), mul-suc m m))
 
+-- below 4 one of the two squares is 0, else the other
+pub sq-low : (k : ℕ) → k < 4 → (4 - k) * (4 - k) ≡ sq k
+sq-low k h = let e : k - 4 ≡ 0 = omega arith in rw e (omega arith)
+
+pub sq-high : (k : ℕ) → 4 ≤ k → (k - 4) * (k - 4) ≡ sq k
+sq-high k h = let e : 4 - k ≡ 0 = omega arith in rw e (omega arith)
+
 -- Sums over points.
 abbrev pub mask : ℕ → (ℕ → ℕ) → ℕ → ℕ
 mask a f v = cond (eqb v a) 0 (f v)

@@ -2,7 +2,8 @@
 use Prim.Native.Nat.{_-_}
 use native.Mathlib.Omega.{arith}
 use borrow.Author.Needs.{needs}
-use Rattle.coarsen_merge.proofs.Gains.{sq-low, sq-high, square-le}
+use Rattle.rule_sheet.proofs.Weigh.{sq-low, sq-high}
+use Rattle.coarsen_merge.proofs.Gains.{square-le}
 use Rattle.coarsen_merge.proofs.square.Statement.{statement}
 use Rattle.coarsen_merge.proofs.square.Tie as tie
 

@@ -3,7 +3,7 @@ use Prim.Native.Nat.{_-_, _≤_}
 use native.Mathlib.Omega.{arith}
 use native.Mathlib.Nat.{mul-le-mul}
 use borrow.Author.Needs.{needs}
-use Rattle.job_sum.proofs.Bound.{sq-low, sq-high}
+use Rattle.rule_sheet.proofs.Weigh.{sq-low, sq-high}
 use Rattle.job_sum.proofs.square.Statement.{statement}
 use Rattle.job_sum.proofs.square.Tie as tie
 
