@@ -18,6 +18,9 @@
  *   QUADS_BALL     numbers cx, cy, cz, r:    (x - cx)^2 + (y - cy)^2 + (z - cz)^2 - r
  *   QUADS_QUADRIC  numbers k0 to k9:         k0*x*x + k1*y*y + k2*z*z + k3*x*y + k4*y*z + k5*z*x + k6*x + k7*y + k8*z + k9
  * A plane and a ball use the first four numbers; the others are not looked at.
+ * Both levels are finite, the lower below the upper. quads_quality, quads_corners_per_point and quads_page, which
+ * measure, take a lower level of minus infinity too, so that old sheets can be measured; every other function that
+ * tests a band refuses it with QUADS_BOX. quads_coarsen with no pass tests no band.
  *
  * WORK is two slices, `work` and `floats`. For a lent sheet they hold at least QUADS_WORK(np, nq) and QUADS_FLOATS(np, nq) elements, for
  * drawing QUADS_DRAW_WORK(cells) and QUADS_DRAW_FLOATS(cells). What is in them does not matter. After every call all of both is zero.
@@ -62,6 +65,9 @@
  * OLDER CALLERS. quads_save_job and quads_open_job take `work` since the sum is in the file, and QUADS_JOB_BYTES is
  * eight more. A caller that was written for an older header must lend the work and be compiled again with this one; an
  * object file that was compiled with the older one still links, and must not be used.
+ * A lower level of minus infinity was accepted by every function but quads_extract_candidate, which returned
+ * QUADS_BOTTOMLESS. Now every function that tests a band, but for the three that measure, returns QUADS_BOX, and none
+ * returns QUADS_BOTTOMLESS.
  *
  * THE MACHINE. The library is compiled for x86-64. A call needs the floating-point environment that a C program starts with: rounding to
  * nearest, subnormal numbers kept (no flush to zero, no denormals are zero); it changes nothing in it. It uses no more than 64 KiB of stack.
@@ -101,8 +107,9 @@ extern "C" {
 /* What a call returns. */
 enum {
     QUADS_ACCEPTED = 0,
-    QUADS_BOX = 1,        /* box: the levels are not in order, the upper not finite, or the box not finite or empty */
-    QUADS_BOTTOMLESS = 2, /* bottomless: drawing with a lower level that is not finite */
+    QUADS_BOX = 1,        /* box: a level not finite, the levels not in order, or the box not finite or empty; in
+                             quality, corners per point and page the lower level may be minus infinity */
+    QUADS_BOTTOMLESS = 2, /* bottomless: no longer returned; a lower level that is not finite is QUADS_BOX */
     QUADS_CELLS = 3,      /* cells: drawing with other than 4 to 128 cells */
     QUADS_SAMPLES = 4,    /* samples: a sample of the grid is not finite */
     QUADS_BARE = 5,       /* bare: no point, no quad, not one label a quad, or a point not finite; refine: the labels only */
@@ -122,8 +129,8 @@ enum {
  * Draws the sheet around a band, over a grid of `cells` cells a side, into the three slices for a new sheet. How many points and quads it has
  * is known once it is drawn: at most four points and three quads for each of the (cells + 2)^3 cells, and never more than QUADS_LIMIT; slices for
  * QUADS_LIMIT points, quads and labels always suffice.
- * Refusals: SHORT (numbers or bounds: without them there is no band), BOX, BOTTOMLESS, CELLS, SHORT (work or answer), SAMPLES, SHORT (result),
- * BARE, CLASH.
+ * Refusals: SHORT (numbers or bounds: without them there is no band), BOX, CELLS, SHORT (work or answer), SAMPLES,
+ * SHORT (result), BARE, CLASH.
  */
 uint32_t quads_extract_candidate(
     uint32_t kind, const double *numbers, size_t numbers_len, const double *bounds, size_t bounds_len,
@@ -225,6 +232,7 @@ uint32_t quads_coarsen(
  *   measures[1]  the score, shape times size, below which one quad in twenty lies
  *   measures[2]  the mean score
  *   measures[3]  the least Jacobian, sampled at 5 by 5 places of each quad
+ * The lower level may be minus infinity.
  * Refusals: LARGE, SHORT (lent), BOX, BARE, CORNER, CLASH, NORMAL.
  */
 uint32_t quads_quality(
@@ -241,7 +249,8 @@ uint32_t quads_quality(
  * The answer slice has at least two elements; a refusal leaves zeros there.
  *   answer[0]    the quotient
  *   answer[1]    the remainder
- * It is refused as quality is, apart from NORMAL: a sheet that quality refuses with NORMAL is answered.
+ * It is refused as quality is, apart from NORMAL: a sheet that quality refuses with NORMAL is answered. The lower level
+ * may be minus infinity, as there.
  * Refusals: LARGE, SHORT (lent), BOX, BARE, CORNER, CLASH.
  */
 uint32_t quads_corners_per_point(
@@ -266,7 +275,8 @@ uint32_t quads_corners_per_point(
  * The page slice has at least QUADS_PAGE elements. After success the page is in front, and all behind it is zero; after
  * a refusal all of the slice is zero, also of one that is too short.
  * It shows exactly the counts that quads_quality gives for the sheet and the band, and is refused exactly as that is: a
- * page slice that is too short is a SHORT (lent), as an answer or measures slice is there.
+ * page slice that is too short is a SHORT (lent), as an answer or measures slice is there. The lower level may be minus
+ * infinity, as there.
  * Refusals: LARGE, SHORT (lent), BOX, BARE, CORNER, CLASH, NORMAL.
  */
 uint32_t quads_page(
@@ -279,7 +289,8 @@ uint32_t quads_page(
 /*
  * Writes the job file of a header and a sheet. The header is at least eight doubles: low x, y, z, high x, y, z, lower
  * level, upper level. Nothing is asked of the numbers: every double, a NaN too, passes as its 64 bits, and neither the
- * band nor the sheet is tested. header, points, quads and labels are only read.
+ * band nor the sheet is tested: a lower level of minus infinity is saved as any other. header, points, quads and labels
+ * are only read.
  * The work slice has at least np elements. What is in them does not matter. After every call all of the slice is zero,
  * also of one that is too short.
  * The file slice has at least QUADS_JOB_BYTES(np, nq, nl) elements. After success the file is in front, its trailer of
@@ -300,7 +311,8 @@ uint32_t quads_save_job(
  * Opens a job file: its eight doubles go to the header slice, its sheet to the three slices for a new sheet, each double
  * as its 64 bits. What quads_save_job wrote opens to the same bits, and a file with a trailer of 28 bytes that opens is
  * saved again byte for byte. One with a trailer of 20 bytes is saved again with the same bytes in front of its trailer,
- * and the trailer of 28.
+ * and the trailer of 28. Neither the band nor the sheet is tested: a file with a lower level of minus infinity opens as
+ * any other, and what it holds can be measured.
  * All of the file slice is the file, and its last bytes are the trailer: of a slice that quads_save_job wrote, lend the
  * first answer[0] bytes.
  * The header slice has at least eight elements, the other three as many as the file's sheet needs, and the work slice

@@ -10,7 +10,7 @@ ghost use Rattle.setting.specs.Settings.{domainOf, settingOf};
 ghost use Rattle.rule_sheet.specs.Flat.{quadsOf};
 ghost use Rattle.rule_sheet.specs.Sheet.{sheetOf, sheetVerdict};
 ghost use Rattle.rule_sheet.specs.Lent.{lentOf, workWith};
-ghost use Rattle.rule_admission.specs.Admission.{domainVerdict, admitsAfter, admits, measurable};
+ghost use Rattle.rule_admission.specs.Admission.{domainVerdict, measurableVerdict, admitsAfter, admits, measurable};
 ghost use Rattle.sheet.specs.Sheet.{masksOf, LentSheet};
 ghost use Rattle.admission.specs.Contracts.{MasksAt};
 
@@ -22,6 +22,16 @@ pub fn band_verdict(b: Band) -> Verdict
     ensures { λ r. ⌜ r ≡ domainVerdict (domainOf b) ⌝ }
 {
     if band::validate(b) {
+        return Verdict::Accepted;
+    }
+    Verdict::Refused(BOX)
+}
+
+// 1, of a band by which a sheet is only measured.
+pub fn measurable_band_verdict(b: Band) -> Verdict
+    ensures { λ r. ⌜ r ≡ measurableVerdict (domainOf b) ⌝ }
+{
+    if band::measurable(b) {
         return Verdict::Accepted;
     }
     Verdict::Refused(BOX)
@@ -95,8 +105,8 @@ pub fn admit(
     admit_after(brought, c, points, quads, labels, masks, w, floats)
 }
 
-// The tests of a call that only measures: `quality`, and the corners per point. The work slice behind it may hold
-// anything.
+// The tests of a call that only measures: `quality`, and the corners per point. The lower level may be minus infinity.
+// The work slice behind it may hold anything.
 pub fn measure_verdict(
     b: Band,
     c: Counts,
@@ -109,6 +119,6 @@ pub fn measure_verdict(
     ensures { λ r. ⌜ r ≡ measurable (domainOf b) (lentOf c (now (points .entry)) (now (quads .entry))
         (now (labels .entry))) (workWith (length (now (w .entry))) floats) ⌝ }
 {
-    let brought = band_verdict(b);
+    let brought = measurable_band_verdict(b);
     admit_after(brought, c, points, quads, labels, 0, w, floats)
 }

@@ -1,4 +1,4 @@
--- The band: its length, gradient, normal, and the test of its figures.
+-- The band: its length, gradient, normal, and the two tests of its figures.
 use Prim.Native.Nat.{ℕ, _%_}
 use mathlib.Core.Bool.{Bool, not, _&&_, _||_, cond}
 use lib.Dec.{eqb, ltb}
@@ -67,19 +67,31 @@ normalWith f len p l = cond (ltb l 2) (mulP (unitP (gradientWith f len p)) (leve
 unfoldable pub normalOf : Band → Point → ℕ → Point
 normalOf b p l = normalWith (b .field) (lengthOf b) p l
 
--- ---- the test of a band
+-- ---- the two tests of a band
 
 -- the bounds of one axis are finite and in order
 unfoldable pub axisValidOf : Float → Float → Bool
 axisValidOf lo hi = finiteOf lo && finiteOf hi && lt lo hi
 
--- the upper level is finite, the lower one finite or minus infinity, and they are in order
+-- the box has finite bounds in order, and a length that is finite and not 0
+unfoldable pub boxValidOf : Band → Bool
+boxValidOf b =
+    axisValidOf (b .low .x) (b .high .x) && axisValidOf (b .low .y) (b .high .y)
+    && axisValidOf (b .low .z) (b .high .z) && finiteOf (lengthOf b) && not (le (lengthOf b) zeroF)
+
+-- both levels are finite, and they are in order
 unfoldable pub levelsValidOf : Float → Float → Bool
-levelsValidOf lower upper =
+levelsValidOf lower upper = finiteOf lower && finiteOf upper && lt lower upper
+
+-- the upper level is finite, the lower one finite or minus infinity, and they are in order
+unfoldable pub measurableLevelsOf : Float → Float → Bool
+measurableLevelsOf lower upper =
     (finiteOf lower || eq lower (div binary64 (neg one) zeroF)) && finiteOf upper && lt lower upper
 
--- levels, bounds and length pass `validate`
+-- levels and box pass `validate`, and "a lower level that is not finite" is refused (document 02, Point 12)
 unfoldable pub validOf : Band → Bool
-validOf b =
-    levelsValidOf (b .lower) (b .upper) && axisValidOf (b .low .x) (b .high .x) && axisValidOf (b .low .y) (b .high .y)
-    && axisValidOf (b .low .z) (b .high .z) && finiteOf (lengthOf b) && not (le (lengthOf b) zeroF)
+validOf b = levelsValidOf (b .lower) (b .upper) && boxValidOf b
+
+-- "the old rule", by which a sheet is measured: levels and box pass `validate` as it is in 000
+unfoldable pub measurableOf : Band → Bool
+measurableOf b = measurableLevelsOf (b .lower) (b .upper) && boxValidOf b

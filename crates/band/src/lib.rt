@@ -1,11 +1,13 @@
-// A band of a field between two levels, clipped by a box: its length, gradient, normal, and the test of its figures.
+// A band of a field between two levels, clipped by a box: its length, gradient, normal, and the two tests of its
+// figures.
 
 use field::Field;
 use field::FieldGradient;
 use points::Point;
 ghost use mathlib.Core.Path.{_≡_};
 ghost use Rattle.band.specs.Bands.{lengthOf, differenceOf, centralOf, gradientWith, sideOf, levelSignOf};
-ghost use Rattle.band.specs.Bands.{faceNormalOf, normalWith, axisValidOf, levelsValidOf, validOf};
+ghost use Rattle.band.specs.Bands.{faceNormalOf, normalWith, axisValidOf, boxValidOf, levelsValidOf};
+ghost use Rattle.band.specs.Bands.{measurableLevelsOf, validOf, measurableOf};
 
 // The box from low to high, the levels lower and upper, and the field.
 pub struct Band {
@@ -140,24 +142,44 @@ pub fn axis_valid(lo: f64, hi: f64) -> bool
     numeric::is_finite(lo) & numeric::is_finite(hi) & (lo < hi)
 }
 
-// Whether the upper level is finite, the lower one finite or minus infinity, and they are in order.
+// Whether the bounds are finite and in order, and the length is finite and not 0.
+pub fn box_valid(b: Band) -> bool
+    ensures { λ r. ⌜ r ≡ boxValidOf b ⌝ }
+{
+    let l = length(b);
+    axis_valid(b.low.x, b.high.x)
+        & axis_valid(b.low.y, b.high.y)
+        & axis_valid(b.low.z, b.high.z)
+        & numeric::is_finite(l)
+        & !(l <= 0.0)
+}
+
+// Whether both levels are finite and in order.
 pub fn levels_valid(lower: f64, upper: f64) -> bool
     ensures { λ r. ⌜ r ≡ levelsValidOf lower upper ⌝ }
+{
+    numeric::is_finite(lower) & numeric::is_finite(upper) & (lower < upper)
+}
+
+// Whether the upper level is finite, the lower one finite or minus infinity, and they are in order.
+pub fn measurable_levels(lower: f64, upper: f64) -> bool
+    ensures { λ r. ⌜ r ≡ measurableLevelsOf lower upper ⌝ }
 {
     (numeric::is_finite(lower) | (lower == -1.0 / 0.0))
         & numeric::is_finite(upper)
         & (lower < upper)
 }
 
-// Whether levels, bounds and length are fit for use.
+// Whether levels and box are fit for an operation.
 pub fn validate(b: Band) -> bool
     ensures { λ r. ⌜ r ≡ validOf b ⌝ }
 {
-    let l = length(b);
-    levels_valid(b.lower, b.upper)
-        & axis_valid(b.low.x, b.high.x)
-        & axis_valid(b.low.y, b.high.y)
-        & axis_valid(b.low.z, b.high.z)
-        & numeric::is_finite(l)
-        & !(l <= 0.0)
+    levels_valid(b.lower, b.upper) & box_valid(b)
+}
+
+// Whether levels and box are fit for measuring a sheet by them.
+pub fn measurable(b: Band) -> bool
+    ensures { λ r. ⌜ r ≡ measurableOf b ⌝ }
+{
+    measurable_levels(b.lower, b.upper) & box_valid(b)
 }

@@ -1,6 +1,6 @@
 -- The cases that document 01 marks with *, "proved of the definitions together, by a table and one theorem about it",
--- and those of tight, of the corners per point, of the page and of job files. A row says what is asked of the rules and
--- what they must answer.
+-- and those of tight, of the corners per point, of the page, of job files and of a band without a lower level. A row
+-- says what is asked of the rules and what they must answer.
 use Prim.Native.Nat.{ℕ, _+_, _-_, _*_}
 use Prim.Native.String.{String}
 use mathlib.Core.Path.{_≡_}
@@ -8,7 +8,7 @@ use mathlib.Core.Bool.{Bool, true, false}
 use mathlib.Core.List.{List, [], _∷_, _++_, map}
 use lib.IntN.{ℤ, pos, negsuc, _+ℤ_, _-ℤ_}
 use lib.ListN.{length, drop, replicate}
-use lib.Ieee.{Float, fin, toBits, binary64}
+use lib.Ieee.{Float, fin, inf, toBits, binary64}
 use Rattle.numeric.specs.Num.{zeroF, half}
 use Rattle.numeric.specs.Root.{sqrtOf}
 use Rattle.points.specs.declared.Point.{Point}
@@ -16,6 +16,7 @@ use Rattle.points.specs.Points.{one, origin}
 use Rattle.field.specs.declared.Field.the-variants.{Plane}
 use Rattle.setting.specs.Settings.{Setting, domainIn, settingOf}
 use Rattle.rule_sheet.specs.declared.Verdict.the-variants.{Accepted}
+use Rattle.rule_sheet.specs.Numbers.{box}
 use Rattle.rule_sheet.specs.Quads.{Quad, quad, num, valence}
 use Rattle.rule_sheet.specs.Flat.{flatQuads}
 use Rattle.rule_sheet.specs.Edges.{joinOf}
@@ -29,6 +30,7 @@ use Rattle.rule_regularize.specs.Rule.{regularizeRule, improveRule}
 use Rattle.rule_coarsen.specs.Coarse.{mergeGain}
 use Rattle.rule_coarsen.specs.Rule.{coarsenRule}
 use Rattle.rule_finer.specs.Finer.{refineRule}
+use Rattle.rule_finer.specs.Subdivide.{subdivideRule}
 use Rattle.rule_rows.specs.Rows.{rowsRule}
 use Rattle.rule_quality.specs.Census.{isClosed}
 use Rattle.rule_quality.specs.declared.report.Quality.{Quality}
@@ -45,15 +47,23 @@ use Rattle.rule_job.specs.Jobs.{sumNumber, JobRoom, roomIn, saveRule, openRule}
 abbrev pub point : Float → Float → Float → Point
 point a b c = record { x = a; y = b; z = c }
 
--- the unit box; the levels and the field, a plane, matter to no row
-abbrev pub unitBox : Setting
-unitBox = settingOf (record {
+-- the unit box with this lower level
+abbrev pub boxFrom : Float → Setting
+boxFrom lower = settingOf (record {
   low = origin;
   high = point one one one;
-  lower = zeroF;
+  lower = lower;
   upper = one;
   field = Plane zeroF zeroF one zeroF;
 })
+
+-- the unit box, between the levels 0 and 1; the field, a plane, matters to no row
+abbrev pub unitBox : Setting
+unitBox = boxFrom zeroF
+
+-- the unit box with a lower level of minus infinity
+abbrev pub bottomlessBox : Setting
+bottomlessBox = boxFrom (inf true)
 
 -- a sheet in slices that just hold it
 abbrev pub lentSheet : Sheet → Lent
@@ -177,6 +187,9 @@ pub data Case : Type 0 where
   finerCornersCase : (s : Sheet) (points quads quotient remainder : ℕ) → Case
   -- the page of a record with these eight counts: its lines, without their ends
   pageCase : (counts : List ℕ) (lines : List String) → Case
+  -- a sheet in a band without a lower level: `quality` tells whether it is tight, `corners_per_point` gives these two
+  -- numbers, and the five operations that take a sheet and its band are refused; `coarsen` is not without a pass
+  bottomlessCase : (s : Sheet) (tight : Bool) (quotient remainder : ℕ) → Case
   -- the job of a sheet: how many bytes its file has, and its trailer; the file opens to the job
   jobCase : (s : Sheet) (size : ℕ) (trailer : List ℕ) → Case
   -- the same of the file without a sum
@@ -188,10 +201,10 @@ pub data Case : Type 0 where
   -- a square root
   rootCase : (of is : Float) → Case
 
--- `corners_per_point` of a sheet gives these two numbers
-abbrev pub HasCorners : Sheet → ℕ → ℕ → Type 0
-HasCorners s quotient remainder =
-    Gives (cornersRule (domainIn unitBox) (lentSheet s) (workFor s))
+-- `corners_per_point` of a sheet in a band gives these two numbers
+abbrev pub HasCorners : Setting → Sheet → ℕ → ℕ → Type 0
+HasCorners b s quotient remainder =
+    Gives (cornersRule (domainIn b) (lentSheet s) (workFor s))
     (λ q. (q .quotient ≡ quotient) × (q .remainder ≡ remainder))
 
 -- what a row says: the answers of the rules
@@ -218,11 +231,20 @@ Holds (qualityCase s closed links tight) =
     (isClosed (length (s .points)) (s .quads) ≡ closed)
     × Gives (qualityRule (domainIn unitBox) (lentSheet s) (workFor s))
     (λ a. (a .quality .«bad_vertex_links» ≡ links) × (a .isTight ≡ tight))
-Holds (cornersCase s quotient remainder) = HasCorners s quotient remainder
+Holds (cornersCase s quotient remainder) = HasCorners unitBox s quotient remainder
 Holds (finerCornersCase s points quads quotient remainder) =
-    Gives (refineRule (lentSheet s) (workFor s) (roomFor points quads)) (λ t. HasCorners t quotient remainder)
+    Gives (refineRule (lentSheet s) (workFor s) (roomFor points quads)) (λ t. HasCorners unitBox t quotient remainder)
 Holds (pageCase counts lines) =
     (q : Quality) → eightCounts q ≡ counts → pageOf q ≡ joinOf (λ l. bytesOf l ++ (lineEnd ∷ [])) lines
+Holds (bottomlessCase s tight quotient remainder) =
+    Gives (qualityRule (domainIn bottomlessBox) (lentSheet s) (workFor s)) (λ a. a .isTight ≡ tight)
+    × HasCorners bottomlessBox s quotient remainder
+    × (regularizeRule bottomlessBox 0 (lentSheet s) (workFor s) ≡ refuses box)
+    × (improveRule bottomlessBox 0 (lentSheet s) (workFor s) ≡ refuses box)
+    × (subdivideRule bottomlessBox (lentSheet s) (workFor s) (roomFor 0 0) ≡ refuses box)
+    × (rowsRule bottomlessBox (lentSheet s) (workFor s) (roomFor 0 0) ≡ refuses box)
+    × (coarsenRule bottomlessBox 1 (lentSheet s) (workFor s) ≡ refuses box)
+    × Gives (coarsenRule bottomlessBox 0 (lentSheet s) (workFor s)) (λ e. e .count ≡ 0)
 Holds (jobCase s size trailer) =
     Gives (saveRule (jobFor s) (length (s .points)) size) (λ j. IsFile (fileOf j) (jobFor s) size trailer)
 Holds (olderJobCase s size trailer) = IsFile (fileWith Missing (jobFor s)) (jobFor s) size trailer
@@ -311,4 +333,7 @@ cases =
     sumCase 2 2 (0 ∷ 0 ∷ 0 ∷ 0 ∷ 0 ∷ 0 ∷ 0 ∷ 0 ∷ []) 32 ∷
     sumCase 3 1 (3 ∷ 4 ∷ 3 ∷ 4294967295 ∷ []) 48 ∷
     sumCase 0 1 (0 ∷ 1 ∷ 2 ∷ 3 ∷ []) 0 ∷
+    -- Document 02, Point 12: "refuses a lower level that is not finite as box, number 1 .. Only quality, and with it ..
+    -- the corners per point, keeps the old rule"
+    bottomlessCase cube true 3 0 ∷
     []

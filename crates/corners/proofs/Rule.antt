@@ -4,7 +4,7 @@ use mathlib.Core.Path.{_≡_}
 use Rattle.setting.specs.Settings.{Domain}
 use Rattle.rule_sheet.specs.declared.Verdict.the-variants as verdict
 use Rattle.rule_sheet.specs.Lent.{Lent, Work, held, limit}
-use Rattle.rule_admission.specs.Admission.{domainVerdict, measurable}
+use Rattle.rule_admission.specs.Admission.{measurableVerdict, measurable}
 use Rattle.sheet.proofs.Tests.{length-points, tested, whole-of}
 use Rattle.admission.proofs.Admitted.{admitted}
 use Rattle.admission.proofs.Accepted.{counts-held}
@@ -16,7 +16,7 @@ module _ (d : Domain) (x : Lent) (w : Work) where
   -- an admitted sheet has a point, and no more quads than the limit
   pub divisible : measurable d x w ≡ verdict.Accepted → (0 < x .counts .points) × (x .counts .quads ≤ limit)
   divisible e =
-      let A = admitted (domainVerdict d) x w e in
+      let A = admitted (measurableVerdict d) x w e in
       (rw (length-points (x .counts .points) (x .points)) at (whole-of (held x) (tested (held x) (A .accepted) .not-bare) .some-points), A .sheet .few .quads≤)
 
   -- 12, 13, 1, 5, 6 or 7
@@ -27,4 +27,4 @@ module _ (d : Domain) (x : Lent) (w : Work) where
   -- the two numbers
   pub rule-divided : {q : Ratio} → measurable d x w ≡ verdict.Accepted → q ≡ ratioOf (x .counts) → Done q ≡ dividedOf (cornersRule d x w)
   unfolding cornersRule
-  rule-divided e g = rw (e, counts-held x (admitted (domainVerdict d) x w e .sheet), g)
+  rule-divided e g = rw (e, counts-held x (admitted (measurableVerdict d) x w e .sheet), g)

@@ -1,5 +1,5 @@
 -- Every answer of `corners_per_point` is exact. Assumes nothing.
-use Prim.Native.Nat.{ℕ, _+_, _*_, _/_, _%_, _<_}
+use Prim.Native.Nat.{ℕ, _*_, _/_, _%_, _<_}
 use mathlib.Core.Path.{_≡_, refl, ap, _∙_}
 use native.Mathlib.Omega.{arith}
 use native.Mathlib.Nat.{div-add-mod', mod-lt, mod-eq-of-lt, div-eq-of-lt, mul-add-div-right, mul-add-mod-self-right}
@@ -13,7 +13,7 @@ use Rattle.rule_sheet.specs.Lent.{held}
 use Rattle.rule_sheet.specs.Outcomes.{Outcome, refuses, gives, afterTest}
 use Rattle.rule_sheet.specs.Sound.{AcceptedSheet}
 use Rattle.rule_sheet.proofs.Sums.{sum-tab}
-use Rattle.rule_admission.specs.Admission.{domainVerdict, measurable}
+use Rattle.rule_admission.specs.Admission.{measurableVerdict, measurable}
 use Rattle.sheet.proofs.Tests.{whole-of}
 use Rattle.admission.proofs.Accepted.{lent-accepted}
 use Rattle.safety_rules.proofs.Finer.{handshake}
@@ -65,5 +65,5 @@ unfolding EveryAnswer cornersRule
 every-answer d x w q e = go (measurable d x w) refl e
   where
     go : (v : Verdict) → measurable d x w ≡ v → afterTest v (gives (ratioOf (countsOf (held x)))) ≡ gives q → PerPoint (held x) q
-    go Accepted ev h = let r : ratioOf (countsOf (held x)) ≡ q = ap (givenOr q) h in rw r at (per-point (held x) (lent-accepted (domainVerdict d) x w ev))
+    go Accepted ev h = let r : ratioOf (countsOf (held x)) ≡ q = ap (givenOr q) h in rw r at (per-point (held x) (lent-accepted (measurableVerdict d) x w ev))
     go (Refused n) ev h = absurd (let z : _≡_ {A = ℕ} 0 1 = cc in omega arith)

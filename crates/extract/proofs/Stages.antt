@@ -168,7 +168,7 @@ module _ (g : Grid) (n : ℕ) (room : Room) (A : List Float) (B D : List ℕ) wh
   unfolding sampledOr
   sampled-drawn r e F = rw e F
 
--- ---- 1, 2, 3 and 13
+-- ---- 1, 3 and 13
 
 pub few-cells : (cells : ℕ) → goodCells cells ≡ true → cells ≤ 128
 few-cells cells h = leb-true cells 128 (and-right (leb 4 cells) (leb cells 128) h)
@@ -202,22 +202,17 @@ module _ (d : Domain) (cells : ℕ) (w : Work) (room : Room) (A : List Float) (B
   rule-box e = rw e (refused-fills 1 A B D)
 
   module _ (e : validOf (bandIn d) ≡ true) where
-    pub rule-bottomless : finiteOf (bandIn d .lower) ≡ false → Fills Rule (Refused 2) A B D
+    pub rule-cells : goodCells cells ≡ false → Fills Rule (Refused 3) A B D
     unfolding extractRule
-    rule-bottomless i = rw (e, i) (refused-fills 2 A B D)
+    rule-cells h = rw (e, h) (refused-fills 3 A B D)
 
-    module _ (i : finiteOf (bandIn d .lower) ≡ true) where
-      pub rule-cells : goodCells cells ≡ false → Fills Rule (Refused 3) A B D
+    module _ (h : goodCells cells ≡ true) where
+      pub rule-short : shortWork cells w ≡ true → Fills Rule (Refused 13) A B D
       unfolding extractRule
-      rule-cells h = rw (e, i, h) (refused-fills 3 A B D)
+      rule-short k = rw (e, h, k) (refused-fills 13 A B D)
 
-      module _ (h : goodCells cells ≡ true) where
-        pub rule-short : shortWork cells w ≡ true → Fills Rule (Refused 13) A B D
-        unfolding extractRule
-        rule-short k = rw (e, i, h, k) (refused-fills 13 A B D)
-
-        pub rule-sampled : {g : Grid} (r : Answer) → shortWork cells w ≡ false → g ≡ gridOf d cells → Fills (sampledOr g (cells + 2) room) r A B D → Fills Rule r A B D
-        unfolding extractRule sampledOr
-        rule-sampled r k eg F =
-            let z : cells + 2 + 1 ≡ cells + 3 = omega arith in
-            rw (e, i, h, k) (rw (eg, z) at F)
+      pub rule-sampled : {g : Grid} (r : Answer) → shortWork cells w ≡ false → g ≡ gridOf d cells → Fills (sampledOr g (cells + 2) room) r A B D → Fills Rule r A B D
+      unfolding extractRule sampledOr
+      rule-sampled r k eg F =
+          let z : cells + 2 + 1 ≡ cells + 3 = omega arith in
+          rw (e, h, k) (rw (eg, z) at F)

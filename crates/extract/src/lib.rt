@@ -22,10 +22,7 @@ ghost use Rattle.extract_grid.specs.Lattice.{Samples};
 ghost use Rattle.rule_extract.specs.Drawing.{goodCells, shortWork, drawnSheet, drawnOr, extractRule};
 ghost use Rattle.extract.specs.Stages.{testedOr, sampledOr};
 
-// The numbers of refusals: a lower level that is not finite, a number of cells out of range, and a sample that is
-// not finite.
-pub const BOTTOMLESS: u32 = 2;
-
+// The numbers of refusals: a number of cells out of range, and a sample that is not finite.
 pub const CELLS: u32 = 3;
 
 pub const SAMPLES: u32 = 4;
@@ -190,9 +187,6 @@ fn extract_or_refusal(
 {
     if !band::validate(b) {
         return Answer::Refused(admission::BOX);
-    }
-    if !numeric::is_finite(b.lower) {
-        return Answer::Refused(BOTTOMLESS);
     }
     if !good_cells(cells) {
         return Answer::Refused(CELLS);

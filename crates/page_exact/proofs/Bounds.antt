@@ -17,7 +17,7 @@ use Rattle.rule_sheet.specs.Tests.{proper}
 use Rattle.rule_sheet.specs.Sheet.{Sheet}
 use Rattle.rule_sheet.specs.Lent.{Lent, Work, held, limit}
 use Rattle.rule_sheet.specs.Edges.{boundaryEdges, nonmanifoldEdges, orientationErrors}
-use Rattle.rule_admission.specs.Admission.{domainVerdict}
+use Rattle.rule_admission.specs.Admission.{measurableVerdict}
 use Rattle.sheet.proofs.Flat.{length-quads}
 use Rattle.admission.proofs.Admitted.{admitted}
 use Rattle.incidence.specs.Corners.{Cornered, edgeOrder}
@@ -109,7 +109,7 @@ module _ (d : Domain) (x : Lent) (w : Work) (q : Quality) (t : Bool) where
   unfolding qualityOf
   counts-fit e =
       let T = told d x w q t e in
-      let few = admitted (domainVerdict d) x w (T .admitted) .sheet .few in
+      let few = admitted (measurableVerdict d) x w (T .admitted) .sheet .few in
       let C = accepted d x w (T .admitted) .counts in
       let np = x .counts .points in
       let nq = x .counts .quads in

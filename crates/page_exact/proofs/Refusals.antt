@@ -11,7 +11,7 @@ use Rattle.rule_sheet.specs.Numbers.{large, short}
 use Rattle.rule_sheet.specs.Sheet.{sheetVerdict}
 use Rattle.rule_sheet.specs.Lent.{held, roomIn, isLarge, isShort, isShortWork, lentVerdict, beforeVerdict}
 use Rattle.rule_sheet.specs.Outcomes.{Outcome, refuses, afterTest}
-use Rattle.rule_admission.specs.Admission.{andThen, domainVerdict, admitsAfter}
+use Rattle.rule_admission.specs.Admission.{andThen, measurableVerdict, admitsAfter}
 use Rattle.rule_quality.specs.Measure.{measureRule}
 use Rattle.rule_quality.specs.Quality.{Assessment, withCounts, qualityRule}
 use Rattle.rule_page.specs.Page.{pageOutcome, pageRule}
@@ -33,6 +33,6 @@ unfolding EveryRefusal pageRule qualityRule beforeVerdict admitsAfter lentVerdic
 every-refusal d x w n =
     let c = x .counts in
     let o = withCounts (length (held x .points)) (held x .quads) (measureRule d (held x)) in (
-      (λ h. rw (le-ltb n 328 h) (same-refusal (isLarge c) (isShort c (roomIn x)) (isShortWork c w) (andThen (domainVerdict d) (sheetVerdict (held x))) o)),
+      (λ h. rw (le-ltb n 328 h) (same-refusal (isLarge c) (isShort c (roomIn x)) (isShortWork c w) (andThen (measurableVerdict d) (sheetVerdict (held x))) o)),
       (λ h. rw (lt-ltb n 328 h) (short-refusal (isLarge c) (pageOutcome (qualityRule d x w)))),
     )

@@ -12,7 +12,7 @@ use Rattle.rule_sheet.specs.Quads.{all}
 use Rattle.rule_sheet.specs.Flat.{quadAt, quadsOf}
 use Rattle.rule_sheet.specs.Tests.{proper, goodCorners}
 use Rattle.rule_sheet.specs.Lent.{Lent, Work, held}
-use Rattle.rule_admission.specs.Admission.{domainVerdict, measurable}
+use Rattle.rule_admission.specs.Admission.{measurableVerdict, measurable}
 use Rattle.sheet.proofs.Tests.{length-points, bare-is, labels-match, all-tab, tested, some-quad, proper-of}
 use Rattle.admission.proofs.Admitted.{admitted}
 use Rattle.incidence.proofs.Corners.{cornered}
@@ -32,7 +32,7 @@ four-points n nq Q e h = four-below (four-of n _ _ _ _ (every-at (λ q. proper n
 
 pub accepted : (d : Domain) (x : Lent) (w : Work) → measurable d x w ≡ Accepted → Measuring (x .counts) (length (x .points)) (x .quads) (length (x .labels)) (w .numbers) (w .floats)
 accepted d x w e =
-    let A = admitted (domainVerdict d) x w e in
+    let A = admitted (measurableVerdict d) x w e in
     let F = tested (held x) (A .accepted) in
     let c = x .counts in
     let b = bare-is c (x .points) (x .quads) (x .labels) (A .sheet .labels) ∙ F .not-bare in

@@ -1,4 +1,4 @@
-// Replays the stored answers of the Rust original through the proved functions, and writes for each operation and
+// Replays the stored answers through the proved functions, and writes for each operation and
 // number how many agree. Standard input holds the records; docs/ORACLE.md has their layout.
 mod record;
 mod table;

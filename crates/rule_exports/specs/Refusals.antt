@@ -1,6 +1,6 @@
 -- The table of document 01, "Numbers a setter may read", with the numbers of document 02, Points 1 and 9: every number
--- that an operation refuses with. Not a rule: each stands with the rule that gives it. The law that they differ is in
--- rule_exports/proofs/Refusals.
+-- that an operation refuses with, and 2, which keeps its place. Not a rule: each stands with the rule that gives it.
+-- The law that they differ is in rule_exports/proofs/Refusals.
 use Prim.Native.Nat.{ℕ}
 use mathlib.Core.List.{List, [], _∷_}
 pub use Rattle.rule_sheet.specs.Numbers.{box, bare, cornerNumber, clash, edgeNumber, large, short}

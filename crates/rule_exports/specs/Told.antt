@@ -74,7 +74,7 @@ abbrev pub byTold : {A : Type 0} → Counts → Bool → Told → (Setting → O
 byTold c few t rule = afterTest (beforeVerdict c (few || isShortTold t)) (rule (settingOf (bandOf t)))
 
 -- extraction by what its export is told: without numbers and bounds there is no band, so their 13 comes first; then
--- "1, 2, 3, 13 (work)", where a short answer slice counts as no work
+-- "1, 2, 3, 13 (work)", of which 2 never occurs, where a short answer slice counts as no work
 abbrev pub drawnByTold : {A : Type 0} → Bool → Told → Work → (Setting → Work → Outcome A) → Outcome A
 drawnByTold few t w rule =
     afterTest (cond (isShortTold t) (Refused short) Accepted)

@@ -135,7 +135,7 @@ drawnSheet g n = record {
   labels = joinTo (labelIf g n) (innerCount n);
 }
 
--- 2, bottomless; 3, cells; 4, samples
+-- 2, bottomless, with which no operation refuses since document 02, Point 12; 3, cells; 4, samples
 abbrev pub bottomless : ℕ
 bottomless = 2
 
@@ -168,12 +168,12 @@ drawnOr s room =
     withRoom (countsOf s) room (cond (isBare s) (refuses bare)
     (cond (goodMasks (length (s .points)) (s .quads) (s .labels)) (gives s) (refuses clash)))
 
--- `extract_candidate` into result slices: "1, 2, 3, 13 (work), 4, 13 (result), 5, 7"
+-- `extract_candidate` into result slices: "1, 2, 3, 13 (work), 4, 13 (result), 5, 7", and since document 02, Point 12
+-- "number 2 never occurs"
 unfoldable pub extractRule : Domain → ℕ → Work → Room → Outcome Sheet
 extractRule d cells w room =
     cond (not (validOf (bandIn d))) (refuses box)
-    (cond (not (finiteOf (bandIn d .lower))) (refuses bottomless)
     (cond (not (goodCells cells)) (refuses cellsNumber)
     (cond (shortWork cells w) (refuses short)
     (cond (not (finiteSamples (gridOf d cells) (cells + 3))) (refuses samplesNumber)
-    (drawnOr (drawnSheet (gridOf d cells) (cells + 2)) room)))))
+    (drawnOr (drawnSheet (gridOf d cells) (cells + 2)) room))))

@@ -3,7 +3,7 @@ use mathlib.Core.Bool.{Bool, true}
 use mathlib.Core.Path.{_≡_, refl, sym}
 use Rattle.rule_sheet.specs.Lent.{Lent, held}
 use Rattle.rule_sheet.specs.Sound.{AcceptedSheet, Sound}
-use Rattle.rule_admission.specs.Admission.{domainVerdict}
+use Rattle.rule_admission.specs.Admission.{measurableVerdict}
 use Rattle.rule_quality.specs.declared.report.Quality.{Quality}
 use Rattle.rule_quality.specs.declared.report.Assessed.the-variants.{Done}
 use Rattle.rule_quality.specs.Quality.{qualityRule, assessedOf}
@@ -20,7 +20,7 @@ module _ (x : Lent) (q : Quality) (t : Bool) (A : Assesses x (Done q t)) where
   answered = sym (A .answer)
 
   held-accepted : AcceptedSheet (held x)
-  held-accepted = lent-accepted (domainVerdict (A .domain)) x (A .work) (told (A .domain) x (A .work) q t answered .admitted)
+  held-accepted = lent-accepted (measurableVerdict (A .domain)) x (A .work) (told (A .domain) x (A .work) q t answered .admitted)
 
   yes-sound : t ≡ true → Sound (held x)
   yes-sound y =

@@ -1,5 +1,5 @@
-//! A sheet that goes through several calls, in both: as the original has it, and in the slices that the library was
-//! last lent or wrote.
+//! A sheet that goes through several calls, in both: as the original has it, or the model where it is not asked, and in
+//! the slices that the library was last lent or wrote.
 use crate::flat::Flat;
 use crate::library::{self, Lent};
 use oracle::call::{Answer, Call};
@@ -21,7 +21,7 @@ impl Chain {
         Chain { slices: Flat::with_tails(&sheet), sheet }
     }
 
-    /// The sheet so far, as the original has it.
+    /// The sheet so far, as it is expected.
     pub fn sheet(&self) -> &QuadMesh {
         &self.sheet
     }

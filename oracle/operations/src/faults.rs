@@ -1,14 +1,16 @@
 //! Faults of lending: counts above the limit, slices that are too short and kinds that are none, up to two in a call.
-//! The original knows none of them, so what is expected is a list of tests, and behind it what the original answers:
-//! the faults meet one another, and those of random sheets and bands.
+//! The original knows none of them, so what is expected is a list of tests, and behind it what is expected without
+//! them: the faults meet one another, and those of random sheets and bands.
+use crate::flat::Flat;
 use crate::library::{self, Lent};
 use oracle::call::{Answer, Call};
 use oracle::driver::Answers;
 use oracle::operation::Operation;
 use oracle::random::Random;
 use quads::Counts;
+use std::ops::Range;
 
-/// The operations of which some calls have faults.
+/// The operations of which some calls have faults in a run of all operations, or of one.
 const FAULTY: [Operation; 3] = [Operation::Quality, Operation::Corners, Operation::Page];
 
 /// One of their calls in so many has.
@@ -48,6 +50,9 @@ enum Fault {
     FewMeasures,
     /// A page slice of this length, too short.
     ShortPage(usize),
+    /// Slices for a new sheet that hold less than any sheet has. Their 13 comes behind 1, and every call with this fault
+    /// has a level that is refused with 1, so no list below asks for it.
+    FewRoom,
 }
 
 /// Puts a value into a place; that is a fault.
@@ -62,8 +67,16 @@ pub fn cut<T>(list: &mut Vec<T>, needed: usize) -> bool {
     list.len() < needed
 }
 
+/// Leaves less room than any sheet needs.
+fn shrink(room: &mut Flat) -> bool {
+    room.points.truncate(5);
+    room.quads.truncate(3);
+    room.labels.clear();
+    true
+}
+
 impl Fault {
-    /// A fault of a kind, by its number, for a call of an operation; the last is of `quality` alone: it has measures.
+    /// A fault of a kind, by its number, for a call of an operation.
     fn of(r: &mut Random, kind: usize, operation: Operation) -> Fault {
         let many = r.pick(&[MOST + 1, usize::MAX]);
         match kind {
@@ -79,7 +92,8 @@ impl Fault {
             9 => Fault::FewBounds,
             10 => Fault::Kind(r.pick(&[3, u32::MAX])),
             11 => Fault::short_answer(r, operation),
-            _ => Fault::FewMeasures,
+            _ if operation == Operation::Quality => Fault::FewMeasures,
+            _ => Fault::FewRoom,
         }
     }
 
@@ -88,12 +102,13 @@ impl Fault {
         match operation {
             Operation::Quality => Fault::FewAnswers(9),
             Operation::Page => Fault::ShortPage(r.pick(&[0, 1, 41, 327])),
-            _ => Fault::FewAnswers(r.below(2)),
+            Operation::Corners => Fault::FewAnswers(r.below(2)),
+            _ => Fault::FewAnswers(r.below(4)),
         }
     }
 
-    /// Makes it in what is lent with a sheet of these counts; whether it is a fault there.
-    fn make(self, lent: &mut Lent, Counts { points, quads, labels }: Counts) -> bool {
+    /// Makes it in what is lent with a sheet of these counts, and this work; whether it is a fault there.
+    fn make(self, lent: &mut Lent, Counts { points, quads, labels }: Counts, [wholes, floats]: [usize; 2]) -> bool {
         match self {
             Fault::ManyPoints(count) => set(&mut lent.sheet.counts.points, count),
             Fault::ManyQuads(count) => set(&mut lent.sheet.counts.quads, count),
@@ -101,33 +116,64 @@ impl Fault {
             Fault::FewPoints => cut(&mut lent.sheet.points, 3 * points),
             Fault::FewQuads => cut(&mut lent.sheet.quads, 4 * quads),
             Fault::FewLabels => cut(&mut lent.sheet.labels, labels),
-            Fault::FewWholes => cut(&mut lent.work.wholes, 64 * (points + quads)),
-            Fault::FewFloats => cut(&mut lent.work.floats, 16 * (points + quads)),
+            Fault::FewWholes => cut(&mut lent.work.wholes, wholes),
+            Fault::FewFloats => cut(&mut lent.work.floats, floats),
             Fault::FewNumbers => cut(&mut lent.band.numbers, 10),
             Fault::FewBounds => cut(&mut lent.band.bounds, 6),
             Fault::Kind(kind) => set(&mut lent.band.kind, kind),
             Fault::FewAnswers(length) => cut(&mut lent.answer, length + 1),
             Fault::FewMeasures => cut(&mut lent.measures, 4),
             Fault::ShortPage(length) => cut(&mut lent.page, length + 1),
+            Fault::FewRoom => shrink(&mut lent.result),
         }
     }
 }
 
-/// How many kinds of faults a call of an operation can have.
-fn kinds(operation: Operation) -> usize {
-    if operation == Operation::Quality { 13 } else { 12 }
+/// The kinds of faults that a call of an operation can have, by their numbers: the first six are of a lent sheet, the
+/// last is of measures or of room for a new sheet.
+fn kinds(operation: Operation) -> Range<usize> {
+    match operation {
+        Operation::Extract => 6..13,
+        Operation::Quality | Operation::Subdivide | Operation::Rows => 0..13,
+        _ => 0..12,
+    }
+}
+
+/// The elements of the two work slices that a drawing needs. Cells that are not allowed need none.
+fn drawing_work(cells: usize) -> [usize; 2] {
+    match cells {
+        4..=128 => [12 * (cells + 2).pow(3), (cells + 3).pow(3)],
+        _ => [0; 2],
+    }
+}
+
+/// The elements of the two work slices that a sheet of these counts needs.
+fn sheet_work(Counts { points, quads, .. }: Counts) -> [usize; 2] {
+    [64 * (points + quads), 16 * (points + quads)]
 }
 
 /// How many answers, measures and bytes of a page an operation needs room for.
 fn needed(operation: Operation) -> (usize, usize, usize) {
     match operation {
         Operation::Quality => (10, 4, 0),
+        Operation::Corners => (2, 0, 0),
         Operation::Page => (0, 0, 328),
-        _ => (2, 0, 0),
+        _ => (4, 0, 0),
     }
 }
 
-/// The number with which what is lent is refused, whatever the sheet and the band are; none where it is enough.
+/// Whether a work slice is shorter than these two must be.
+fn has_little_work(lent: &Lent, [wholes, floats]: [usize; 2]) -> bool {
+    lent.work.wholes.len() < wholes || lent.work.floats.len() < floats
+}
+
+/// Whether numbers or bounds are missing.
+fn has_no_band(lent: &Lent) -> bool {
+    lent.band.numbers.len() < 10 || lent.band.bounds.len() < 6
+}
+
+/// The number with which what is lent with a sheet is refused, whatever the sheet, the box and the levels are; none
+/// where it is enough. `coarsen` without a pass looks at no band.
 fn refusal(lent: &Lent, operation: Operation) -> Option<u8> {
     let Counts { points, quads, labels } = lent.sheet.counts;
     if points > MOST || quads > MOST || labels > MOST {
@@ -137,17 +183,43 @@ fn refusal(lent: &Lent, operation: Operation) -> Option<u8> {
     let short = lent.sheet.points.len() < 3 * points
         || lent.sheet.quads.len() < 4 * quads
         || lent.sheet.labels.len() < labels
-        || lent.work.wholes.len() < 64 * (points + quads)
-        || lent.work.floats.len() < 16 * (points + quads)
-        || lent.band.numbers.len() < 10
-        || lent.band.bounds.len() < 6
+        || has_little_work(lent, sheet_work(lent.sheet.counts))
+        || has_no_band(lent)
         || lent.answer.len() < answers
         || lent.measures.len() < measures
         || lent.page.len() < page;
     if short {
         return Some(13);
     }
+    if operation == Operation::Coarsen && lent.argument == 0 {
+        return None;
+    }
     (lent.band.kind > 2).then_some(1)
+}
+
+/// The number with which a drawing is refused by what it is lent, where enough would be answered with `number`; none
+/// where it is lent enough. Numbers and bounds come first, then the band, the cells, and the work and the answer; in a
+/// run every drawing with faults has a level that is not finite, and the cells are met by the tests below.
+fn drawing_refusal(lent: &Lent, number: u8) -> Option<u8> {
+    if has_no_band(lent) {
+        return Some(13);
+    }
+    if lent.band.kind > 2 || number == 1 {
+        return Some(1);
+    }
+    if number == 3 {
+        return Some(3);
+    }
+    (has_little_work(lent, drawing_work(lent.argument)) || lent.answer.len() < 4).then_some(13)
+}
+
+/// What is expected of a call with what is lent, where `without` is expected of it when enough is lent.
+fn expected(lent: &Lent, operation: Operation, without: Answer) -> Answer {
+    let number = match operation {
+        Operation::Extract => drawing_refusal(lent, without.number),
+        _ => refusal(lent, operation),
+    };
+    number.map_or(without, Answer::refused)
 }
 
 /// What a call lends with these faults, and how many of them are faults there.
@@ -155,7 +227,9 @@ fn lend(call: &Call, faults: &[Fault]) -> (Lent, usize) {
     let mut made = 0;
     let lent = Lent::of(call).changed(|lent| {
         let sheet = lent.sheet.counts;
-        made = faults.iter().filter(|fault| fault.make(lent, sheet)).count();
+        let drawing = call.operation == Operation::Extract;
+        let work = if drawing { drawing_work(lent.argument) } else { sheet_work(sheet) };
+        made = faults.iter().filter(|fault| fault.make(lent, sheet, work)).count();
     });
     (lent, made)
 }
@@ -166,8 +240,10 @@ fn answered(mut lent: Lent, operation: Operation) -> Option<Answer> {
     lent.answer(operation, number)
 }
 
-/// Calls, some of them with faults, and how many had one, had two, and are refused by the original too.
+/// Calls, some of them with faults, and how many had one, had two, and are refused without them too.
 pub struct Faults {
+    operations: &'static [Operation],
+    one_in: usize,
     random: Random,
     one: u64,
     two: u64,
@@ -177,19 +253,24 @@ pub struct Faults {
 impl Faults {
     /// None yet; those of a seed.
     pub fn new(seed: u64) -> Faults {
-        Faults { random: Random::new(!seed), one: 0, two: 0, refused: 0 }
+        Faults::among(&FAULTY, ONE_IN, seed)
+    }
+
+    /// None yet; those of a seed, in one call in so many of these operations.
+    pub fn among(operations: &'static [Operation], one_in: usize, seed: u64) -> Faults {
+        Faults { operations, one_in, random: Random::new(!seed), one: 0, two: 0, refused: 0 }
     }
 
     /// What is expected of a call, and what the library answers; some calls have faults.
     pub fn ask(&mut self, call: &Call) -> Answers {
-        if !FAULTY.contains(&call.operation) || !self.random.one_in(ONE_IN) {
+        if !self.operations.contains(&call.operation) || !self.random.one_in(self.one_in) {
             return (library::expected(call), library::answer(call));
         }
         let faults = self.draw(call.operation);
         let (lent, made) = lend(call, &faults);
         let without = library::expected(call);
         self.count(made, without.number);
-        let expected = refusal(&lent, call.operation).map_or(without, Answer::refused);
+        let expected = expected(&lent, call.operation, without);
         let got = answered(lent, call.operation);
         if !got.as_ref().is_some_and(|got| expected.same(got, call.operation)) {
             println!("a call with the faults {faults:?} differs");
@@ -200,26 +281,26 @@ impl Faults {
     /// One fault or two of different kinds.
     fn draw(&mut self, operation: Operation) -> Vec<Fault> {
         let (r, kinds) = (&mut self.random, kinds(operation));
-        let first = r.below(kinds);
-        let second = (first + 1 + r.below(kinds - 1)) % kinds;
+        let first = r.below(kinds.len());
+        let second = (first + 1 + r.below(kinds.len() - 1)) % kinds.len();
         let count = 1 + r.below(2);
-        [first, second].into_iter().take(count).map(|kind| Fault::of(r, kind, operation)).collect()
+        let chosen = [first, second].into_iter().take(count);
+        chosen.map(|place| Fault::of(r, kinds.start + place, operation)).collect()
     }
 
-    /// Counts a call with so many faults, to which the original answers with this number.
+    /// Counts a call with so many faults, of which this number is expected without them.
     fn count(&mut self, made: usize, number: u8) {
         self.one += u64::from(made == 1);
         self.two += u64::from(made == 2);
         self.refused += u64::from(made > 0 && number != 0);
     }
 
-    /// Prints how many calls had faults, if any had.
-    pub fn print(&self) {
+    /// Prints how many calls had faults, if any had, with a word in front.
+    pub fn print(&self, front: &str) {
         let Faults { one, two, refused, .. } = self;
         if one + two > 0 {
-            println!(
-                "{one} calls with one fault of lending, {two} with two; {refused} of them the original refuses too"
-            );
+            let calls = format!("{one} calls with one fault of lending, {two} with two");
+            println!("{front}{calls}; {refused} of them are refused without it too");
         }
     }
 }
@@ -228,6 +309,7 @@ impl Faults {
 mod tests {
     use super::*;
     use oracle::bands::UNIT;
+    use oracle::field::BandNumbers;
     use oracle::{inputs, sheets};
 
     /// A call of corners per point on the cube.
@@ -276,12 +358,17 @@ mod tests {
         assert_eq!(faults.map(|fault| lend(&call, &[fault]).1), [0, 0, 0, 1]);
     }
 
+    /// All two kinds of faults of an operation.
+    fn pairs(operation: Operation) -> impl Iterator<Item = [usize; 2]> {
+        kinds(operation).flat_map(move |i| kinds(operation).map(move |j| [i, j]))
+    }
+
     #[test]
     fn every_two_faults_are_answered_as_expected() {
         let mut r = Random::new(1);
         for operation in FAULTY {
             let call = Call { operation, ..on_cube() };
-            for pair in (0..kinds(operation)).flat_map(|i| (0..kinds(operation)).map(move |j| [i, j])) {
+            for pair in pairs(operation) {
                 let faults = pair.map(|kind| Fault::of(&mut r, kind, operation));
                 let (lent, made) = lend(&call, &faults);
                 assert_eq!(made, 2);
@@ -289,6 +376,63 @@ mod tests {
                 assert_eq!(answered(lent, operation), expected, "{operation:?} {faults:?}");
             }
         }
+    }
+
+    /// The number of a call above minus infinity with faults of these kinds: 12 for counts, then 13, then 1.
+    fn above_minus_infinity(operation: Operation, pair: [usize; 2]) -> u8 {
+        let any = |kinds: &[usize]| pair.iter().any(|kind| kinds.contains(kind));
+        let short: &[usize] = match operation {
+            Operation::Extract => &[8, 9],
+            Operation::Quality => &[3, 4, 5, 6, 7, 8, 9, 11, 12],
+            _ => &[3, 4, 5, 6, 7, 8, 9, 11],
+        };
+        if any(&[0, 1, 2]) {
+            return 12;
+        }
+        if any(short) { 13 } else { 1 }
+    }
+
+    #[test]
+    fn every_two_faults_meet_a_lower_level_of_minus_infinity() {
+        let (mut r, band) = (Random::new(3), BandNumbers { levels: [f64::NEG_INFINITY, 0.16], ..UNIT });
+        for operation in crate::bottomless::OPERATIONS {
+            let call = Call { operation, argument: 4, band, ..on_cube() };
+            for pair in pairs(operation) {
+                let faults = pair.map(|kind| Fault::of(&mut r, kind, operation));
+                let (lent, made) = lend(&call, &faults);
+                assert_eq!(made, 2, "{operation:?} {faults:?}");
+                let answer = Answer::refused(above_minus_infinity(operation, pair));
+                assert_eq!(expected(&lent, operation, library::expected(&call)), answer, "{operation:?} {faults:?}");
+                assert_eq!(answered(lent, operation), Some(answer), "{operation:?} {faults:?}");
+            }
+        }
+    }
+
+    #[test]
+    fn coarsen_without_a_pass_looks_at_neither_kind_nor_levels() {
+        let band = BandNumbers { levels: [f64::NEG_INFINITY, 0.16], ..UNIT };
+        let call = Call { operation: Operation::Coarsen, band, ..on_cube() };
+        let (lent, _) = lend(&call, &[Fault::Kind(3)]);
+        assert_eq!(refusal(&lent, Operation::Coarsen), None);
+        assert_eq!(answered(lent, Operation::Coarsen), Some(Answer::sheet(0, &sheets::cube())));
+        let (lent, _) = lend(&call, &[Fault::Kind(3), Fault::FewBounds]);
+        assert_eq!(answered(lent, Operation::Coarsen), Some(Answer::refused(13)));
+    }
+
+    #[test]
+    fn a_drawing_is_refused_for_its_cells_before_its_work() {
+        let number = |argument, faults: &[Fault]| {
+            let call = Call { operation: Operation::Extract, argument, sheet: sheets::empty(), ..on_cube() };
+            let (lent, _) = lend(&call, faults);
+            let expected = expected(&lent, Operation::Extract, library::expected(&call));
+            assert_eq!(answered(lent, Operation::Extract).as_ref(), Some(&expected), "{argument} {faults:?}");
+            expected.number
+        };
+        for few in [Fault::FewWholes, Fault::FewFloats, Fault::FewAnswers(3)] {
+            assert_eq!([number(4, &[few]), number(4, &[few, Fault::Kind(3)])], [13, 1]);
+            assert_eq!([number(3, &[few]), number(3, &[few, Fault::FewNumbers])], [3, 13]);
+        }
+        assert_eq!([number(3, &[Fault::FewBounds]), number(3, &[Fault::Kind(3)]), number(4, &[])], [13, 1, 0]);
     }
 
     #[test]

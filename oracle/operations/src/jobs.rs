@@ -172,7 +172,7 @@ fn is_longer(file: &[u8], old: &[u8]) -> bool {
 #[cfg(test)]
 mod tests {
     use super::*;
-    use oracle::call::original;
+    use oracle::call::expected;
     use oracle::random::Random;
     use oracle::{files, inputs, sheets, summed};
     use std::collections::BTreeSet;
@@ -187,7 +187,7 @@ mod tests {
         let mut r = Random::new(1);
         for operation in [Operation::Save, Operation::Open, Operation::Sum].into_iter().cycle().take(9000) {
             let call = inputs::call(&mut r, operation);
-            assert_eq!(answer(&call), Some(original(&call)), "{call:?}");
+            assert_eq!(answer(&call), Some(expected(&call)), "{call:?}");
         }
     }
 
@@ -200,7 +200,7 @@ mod tests {
         let seen = |change: fn(&mut JobLent)| {
             let mut lent = lent.clone();
             change(&mut lent);
-            lent.answered(&came, Operation::Save, number).is_none_or(|answer| answer != original(&call))
+            lent.answered(&came, Operation::Save, number).is_none_or(|answer| answer != expected(&call))
         };
         assert!(!seen(|_| ()));
         assert!(seen(|lent| lent.file[399] = 1) && seen(|lent| lent.file[385] = 1) && seen(|lent| lent.answer[4] = 0));
@@ -218,7 +218,7 @@ mod tests {
         let seen = |change: fn(&mut JobLent)| {
             let mut lent = lent.clone();
             change(&mut lent);
-            lent.answered(&came, Operation::Sum, 0).is_none_or(|answer| answer != original(&call))
+            lent.answered(&came, Operation::Sum, 0).is_none_or(|answer| answer != expected(&call))
         };
         assert!(!seen(|_| ()));
         assert!(seen(|lent| lent.answer[0] = 2) && seen(|lent| lent.answer[1] = 9) && seen(|lent| lent.answer[2] = 0));

@@ -1,4 +1,5 @@
 //! The operations of the static library `quads`, as Rust calls them.
+pub mod bottomless;
 pub mod chain;
 pub mod closed;
 pub mod draws;

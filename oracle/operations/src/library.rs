@@ -1,7 +1,7 @@
 //! A call of the library: everything it is lent, and what it answers.
 use crate::flat::{Flat, FlatBand, Work};
 use crate::jobs;
-use oracle::call::{Answer, Call, original};
+use oracle::call::{self, Answer, Call};
 use oracle::operation::Operation;
 use oracle::quads::Quality;
 use quads::{Counts, LIMIT, Refusal, ffi, sizes};
@@ -13,10 +13,11 @@ pub struct Lent {
     /// The sheet as it came.
     came: Flat,
     /// Passes or cells.
-    argument: usize,
+    pub argument: usize,
     /// The band.
     pub band: FlatBand,
-    result: Flat,
+    /// Room for a sheet that is made.
+    pub result: Flat,
     /// The work.
     pub work: Work,
     /// The answer slice, one element longer than the longest answer.
@@ -238,9 +239,10 @@ impl Lent {
     }
 }
 
-/// What document 01 expects: what the original answers, but no room for a drawn sheet above the limit.
+/// What the documents expect: what the original answers, or a model where it is not asked, but no room for a drawn
+/// sheet above the limit.
 pub fn expected(call: &Call) -> Answer {
-    let answer = original(call);
+    let answer = call::expected(call);
     if call.operation == Operation::Extract && answer.counts.iter().any(|&n| n as usize > LIMIT) {
         return Answer::refused(Refusal::Short.number() as u8);
     }

@@ -2,7 +2,7 @@
 use crate::Point;
 use crate::field::{BandNumbers, Field};
 use crate::random::Random;
-use crate::{floats, inner};
+use crate::{floats, inner, levels};
 
 /// The unit box with a ball whose shell lies in it.
 pub const UNIT: BandNumbers =
@@ -60,10 +60,15 @@ pub fn hostile_band(r: &mut Random) -> BandNumbers {
     b
 }
 
-/// A band that `validate` accepts, ordinary or extreme, its field good or hostile.
+/// A band with finite levels that `validate` accepts, ordinary or extreme, its field good or hostile. The least float
+/// stands for a lower level of minus infinity; in place of a band with another level that is not finite an ordinary
+/// one is drawn.
 pub fn valid_band(r: &mut Random) -> BandNumbers {
     let mut b = if r.one_in(2) { band(r) } else { hostile_band(r) };
-    if inner::validate(&b.band()).is_err() {
+    if b.levels[0] == f64::NEG_INFINITY {
+        b.levels[0] = f64::MIN;
+    }
+    if !levels::are_finite(&b) || inner::validate(&b.band()).is_err() {
         b = band(r);
     }
     if r.one_in(8) {

@@ -1,10 +1,10 @@
-//! A call of an operation, and what the original answers.
+//! A call of an operation, and what is expected of it: what the original answers, or a model where it is not asked.
 use crate::field::{BandNumbers, Field};
 use crate::implicit::ScalarField;
 use crate::job::{self, Job, Room};
 use crate::operation::Operation;
 use crate::quads::{self, Band, QuadMesh, Quality};
-use crate::{MeshingError, Point, corners, inner, page, refusal, rings};
+use crate::{MeshingError, Point, corners, inner, levels, page, refusal, rings};
 
 /// The result is a digest of the sheet.
 pub const DIGEST: u8 = 1;
@@ -195,9 +195,15 @@ pub fn run(call: &Call, sheet: &mut QuadMesh) {
     }
 }
 
+/// What is expected of a call: what the original answers, which is asked with finite levels only, except for what
+/// measures a sheet.
+pub fn expected(call: &Call) -> Answer {
+    levels::judged(call).unwrap_or_else(|| original(call))
+}
+
 /// What the original answers, and where it has no operation, its tests or its `quality` and a model; `project` only on
 /// a band that `validate` accepts, `normal` only on labels up to 7.
-pub fn original(call: &Call) -> Answer {
+pub(crate) fn original(call: &Call) -> Answer {
     let band = &call.band.band();
     let sheet = &call.sheet;
     let point = sheet.points.first().copied().unwrap_or_default();

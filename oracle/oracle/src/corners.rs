@@ -20,7 +20,7 @@ pub fn dealt(sheet: &QuadMesh) -> [u64; 2] {
 mod tests {
     use super::*;
     use crate::bands::UNIT;
-    use crate::call::{Answer, Call, original};
+    use crate::call::{Answer, Call, expected};
     use crate::operation::Operation;
     use crate::quads;
     use crate::random::Random;
@@ -28,7 +28,7 @@ mod tests {
 
     /// The answer for a sheet in the unit box.
     fn asked(sheet: QuadMesh) -> Answer {
-        original(&Call { operation: Operation::Corners, argument: 0, band: UNIT, sheet })
+        expected(&Call { operation: Operation::Corners, argument: 0, band: UNIT, sheet })
     }
 
     /// The sum over the points of the quads at them.
@@ -61,8 +61,8 @@ mod tests {
         let (mut answered, mut normals) = (0, 0);
         for _ in 0..6000 {
             let call = inputs::call(&mut r, Operation::Quality);
-            let measured = original(&call);
-            let answer = original(&Call { operation: Operation::Corners, ..call.clone() });
+            let measured = expected(&call);
+            let answer = expected(&Call { operation: Operation::Corners, ..call.clone() });
             match measured.number {
                 0 | 11 => assert_exact(&call.sheet, &answer),
                 number => assert_eq!(answer, Answer::refused(number)),

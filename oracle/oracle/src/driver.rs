@@ -1,5 +1,5 @@
-//! Compares an implementation with the original: counts the calls and shows those that differ.
-use crate::call::{Answer, Call, original};
+//! Compares an implementation with what is expected: counts the calls and shows those that differ.
+use crate::call::{Answer, Call, expected};
 use crate::inputs;
 use crate::operation::Operation;
 use crate::random::Random;
@@ -92,15 +92,19 @@ impl Tallies {
     }
 }
 
-/// Compares random calls of all operations, each on a sheet of its own; prints a line for each operation.
-pub fn single_calls(shares: &Shares, calls: u64, seed: u64, mut ask: impl FnMut(&Call) -> Answers) -> Total {
-    let mut r = Random::new(seed);
+/// Compares calls of all operations as they are drawn, each on a sheet of its own; prints a line for each operation.
+pub fn single_calls(
+    shares: &Shares,
+    calls: u64,
+    mut draw: impl FnMut(Operation) -> Call,
+    mut ask: impl FnMut(&Call) -> Answers,
+) -> Total {
     let (mut share, mut total) = (0, Total::default());
     for &(operation, part) in shares {
         share += part;
         let mut tallies = Tallies::default();
         for _ in total.calls..calls * share / 100 {
-            let call = inputs::call(&mut r, operation);
+            let call = draw(operation);
             let (expected, got) = ask(&call);
             tallies.count(&call, &expected, got.as_ref());
         }
@@ -118,5 +122,7 @@ pub fn ends_well(total: Total) -> bool {
 
 /// Compares random single calls and prints all lines; whether none differs.
 pub fn run(shares: &Shares, calls: u64, seed: u64, answer: Implementation) -> bool {
-    ends_well(single_calls(shares, calls, seed, |call| (original(call), answer(call))))
+    let mut r = Random::new(seed);
+    let draw = |operation| inputs::call(&mut r, operation);
+    ends_well(single_calls(shares, calls, draw, |call| (expected(call), answer(call))))
 }

@@ -2,7 +2,7 @@
 use crate::call::{Call, lone};
 use crate::operation::Operation;
 use crate::random::Random;
-use crate::{bands, drawn, floats, sheets, summed};
+use crate::{bands, drawn, floats, levels, sheets, summed};
 
 /// A number to take the root of: hostile, or a square or nearly.
 pub fn radicand(r: &mut Random) -> f64 {
@@ -19,7 +19,7 @@ pub fn radicand(r: &mut Random) -> f64 {
     }
 }
 
-/// A call at a point of a band.
+/// A call at a point of a band, whose levels are finite.
 fn at_point(r: &mut Random, operation: Operation) -> Call {
     let valid = operation == Operation::Project;
     let band = if valid { bands::valid_band(r) } else { bands::any_band(r) };
@@ -29,7 +29,7 @@ fn at_point(r: &mut Random, operation: Operation) -> Call {
         Operation::Normal => r.below(8) as u64,
         _ => 0,
     };
-    Call { operation, argument, band, sheet: lone(point) }
+    Call { operation, argument, band: levels::finite(band), sheet: lone(point) }
 }
 
 /// A call on a sheet, its argument a number of passes.
@@ -75,13 +75,13 @@ pub fn call(r: &mut Random, operation: Operation) -> Call {
 #[cfg(test)]
 mod tests {
     use super::*;
-    use crate::call::original;
+    use crate::call::expected;
     use std::collections::BTreeSet;
 
     /// The numbers with which an operation answers 4,000 random calls.
     fn numbers(operation: Operation) -> BTreeSet<u8> {
         let mut r = Random::new(1);
-        (0..4000).map(|_| original(&call(&mut r, operation)).number).collect()
+        (0..4000).map(|_| expected(&call(&mut r, operation)).number).collect()
     }
 
     #[test]
@@ -105,7 +105,7 @@ mod tests {
     fn swaps_and_merges_are_made() {
         for operation in [Operation::Regularize, Operation::ImproveLayout, Operation::Coarsen] {
             let mut r = Random::new(4);
-            let counts: Vec<_> = (0..2000).map(|_| original(&call(&mut r, operation)).count).collect();
+            let counts: Vec<_> = (0..2000).map(|_| expected(&call(&mut r, operation)).count).collect();
             assert!(counts.iter().filter(|&&count| count > 0).count() > 100);
             assert!(counts.iter().any(|&count| count > 9));
         }

@@ -234,7 +234,7 @@ pub fn summed(file: &[u8]) -> Answer {
 #[cfg(test)]
 mod tests {
     use super::*;
-    use crate::call::original;
+    use crate::call::expected;
     use crate::random::Random;
     use crate::{inputs, sheets};
 
@@ -257,7 +257,7 @@ mod tests {
         assert_eq!(old, include_bytes!("../../../rust/quads/tests/cube.job"));
         assert_eq!(old[358..], [64, 0, 0, 0, 0, 1, 0, 0, 96, 1, 0, 0, 102, 1, 0, 0, 20, 0, 0, 0]);
         assert_eq!(file[374..], [8, 0, 0, 0, 0, 0, 0, 0, 28, 0, 0, 0]);
-        let answer = original(&save(cube(), 386));
+        let answer = expected(&save(cube(), 386));
         assert_eq!((answer.count, answer.counts, file_in(&answer)), (386, [8, 6, 6], file));
     }
 
@@ -268,7 +268,7 @@ mod tests {
         assert_eq!(old[64..], [64, 0, 0, 0, 64, 0, 0, 0, 64, 0, 0, 0, 64, 0, 0, 0, 20, 0, 0, 0]);
         assert_eq!((file.len(), &file[80..]), (92, &[0, 0, 0, 0, 0, 0, 0, 0, 28, 0, 0, 0][..]));
         for file in [file, old] {
-            assert_eq!(original(&open(file, 0)), Answer { words: vec![0; 8], ..Answer::default() });
+            assert_eq!(expected(&open(file, 0)), Answer { words: vec![0; 8], ..Answer::default() });
         }
     }
 
@@ -285,7 +285,7 @@ mod tests {
 
     #[test]
     fn large_short_and_trailer_have_their_order() {
-        let number = |call: Call| original(&call).number;
+        let number = |call: Call| expected(&call).number;
         assert_eq!([385, 386, 400].map(|lent| number(save(cube(), lent))), [SHORT, 0, 0]);
         let many = |labels| Job { sheet: QuadMesh { labels: vec![1; labels], ..sheets::empty() }, ..cube() };
         assert_eq!([MOST, MOST + 1].map(|n| number(save(many(n), 0))), [SHORT, LARGE]);
@@ -302,7 +302,7 @@ mod tests {
 
     #[test]
     fn a_sum_is_read_as_it_is_written_and_compared_behind_all_else() {
-        let answered = |file: &[u8], room| original(&open(file.to_vec(), room)).number;
+        let answered = |file: &[u8], room| expected(&open(file.to_vec(), room)).number;
         let mut file = write(&cube());
         assert_eq!((summed(&file), summed(&write_old(&cube()))), (Answer::sum(Some(8)), Answer::sum(None)));
         for byte in 374..382 {
@@ -351,7 +351,7 @@ mod tests {
             let call = inputs::call(&mut r, Operation::Save);
             let job = of(&call);
             let call = Call { argument: bytes(counts(&job.sheet)) as u64, ..call };
-            let again = original(&open(file_in(&original(&call)), 1000));
+            let again = expected(&open(file_in(&expected(&call)), 1000));
             assert_eq!(again, Answer::job(&job));
         }
     }

@@ -1,4 +1,5 @@
-//! The Rust original as the judge of the port: what it answers, inputs to ask it, and the record format of both.
+//! The Rust original as the judge of the port: what it answers, inputs to ask it, and the record format of both. What
+//! it does not have, or is not asked, has a model.
 include!(concat!(env!("OUT_DIR"), "/original.rs"));
 pub use error::MeshingError;
 
@@ -14,6 +15,7 @@ pub mod floats;
 pub mod inner;
 pub mod inputs;
 pub mod job;
+pub mod levels;
 pub mod operation;
 pub mod page;
 pub mod patches;

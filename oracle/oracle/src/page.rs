@@ -20,7 +20,7 @@ pub fn text(quality: &Quality) -> String {
 #[cfg(test)]
 mod tests {
     use crate::bands::UNIT;
-    use crate::call::{Answer, Call, original};
+    use crate::call::{Answer, Call, expected};
     use crate::operation::Operation;
     use crate::quads::{self, QuadMesh};
     use crate::random::Random;
@@ -33,7 +33,7 @@ mod tests {
 
     /// The page of a sheet in the unit box.
     fn page(sheet: QuadMesh) -> String {
-        let answer = original(&Call { operation: Operation::Page, argument: 0, band: UNIT, sheet });
+        let answer = expected(&Call { operation: Operation::Page, argument: 0, band: UNIT, sheet });
         String::from_utf8(bytes(&answer)).unwrap()
     }
 
@@ -74,8 +74,8 @@ mod tests {
         let (mut shown, mut refused) = (0, 0);
         for _ in 0..6000 {
             let call = inputs::call(&mut r, Operation::Quality);
-            let measured = original(&call);
-            let answer = original(&Call { operation: Operation::Page, ..call });
+            let measured = expected(&call);
+            let answer = expected(&Call { operation: Operation::Page, ..call });
             if measured.number != 0 {
                 assert_eq!(answer, Answer::refused(measured.number));
                 refused += 1;

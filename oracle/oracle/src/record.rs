@@ -155,7 +155,7 @@ pub fn read(bytes: &[u8]) -> Result<Vec<Record>, String> {
 #[cfg(test)]
 mod tests {
     use super::*;
-    use crate::call::original;
+    use crate::call::expected;
     use crate::inputs;
     use crate::random::Random;
 
@@ -164,7 +164,7 @@ mod tests {
         let mut r = Random::new(9);
         let calls = Operation::all().flat_map(|operation| [operation; 40]);
         let calls: Vec<Call> = calls.map(|operation| inputs::call(&mut r, operation)).collect();
-        calls.into_iter().map(|call| Record { answer: shortened(original(&call)), call }).collect()
+        calls.into_iter().map(|call| Record { answer: shortened(expected(&call)), call }).collect()
     }
 
     #[test]
@@ -197,16 +197,16 @@ mod tests {
     fn an_answer_gives_its_sheet_back() {
         use crate::{bands, job, sheets};
         let on = |operation, sheet| Call { operation, argument: 1, band: bands::UNIT, sheet };
-        let finer = original(&on(Operation::Refine, sheets::cube()));
+        let finer = expected(&on(Operation::Refine, sheets::cube()));
         assert_eq!(Answer::sheet(0, &sheet_in(&finer).unwrap()), finer);
-        assert!(sheet_in(&original(&on(Operation::Quality, sheets::cube()))).is_none());
-        assert!(sheet_in(&original(&on(Operation::Corners, sheets::cube()))).is_none());
-        assert!(sheet_in(&original(&on(Operation::Page, sheets::cube()))).is_none());
+        assert!(sheet_in(&expected(&on(Operation::Quality, sheets::cube()))).is_none());
+        assert!(sheet_in(&expected(&on(Operation::Corners, sheets::cube()))).is_none());
+        assert!(sheet_in(&expected(&on(Operation::Page, sheets::cube()))).is_none());
         let save = Call { argument: 386, ..on(Operation::Save, sheets::cube()) };
         let file = job::write(&job::of(&save));
-        assert!(sheet_in(&original(&save)).is_none() && sheet_in(&original(&job::open(file.clone(), 8))).is_none());
-        assert!(sheet_in(&original(&job::sum(file))).is_none());
-        assert!(sheet_in(&original(&on(Operation::Subdivide, sheets::empty()))).is_none());
+        assert!(sheet_in(&expected(&save)).is_none() && sheet_in(&expected(&job::open(file.clone(), 8))).is_none());
+        assert!(sheet_in(&expected(&job::sum(file))).is_none());
+        assert!(sheet_in(&expected(&on(Operation::Subdivide, sheets::empty()))).is_none());
     }
 
     #[test]

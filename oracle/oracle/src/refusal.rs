@@ -4,7 +4,7 @@ use crate::MeshingError;
 /// The number of a text that the table does not hold.
 pub const UNLISTED: u8 = 255;
 
-/// Every text with which an operation of the port refuses, and its number.
+/// Every text with which the original refuses in what is ported, and its number; the port itself never answers 2.
 pub const TEXTS: [(&str, u8); 17] = [
     ("Ordered levels with a finite upper bound and finite box bounds are required", 1),
     ("Box extent must have a finite positive length", 1),

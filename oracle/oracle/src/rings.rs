@@ -33,7 +33,7 @@ pub fn is_tight(sheet: &QuadMesh) -> bool {
 #[cfg(test)]
 mod tests {
     use super::*;
-    use crate::call::{TIGHT, original};
+    use crate::call::{TIGHT, expected};
     use crate::operation::Operation;
     use crate::random::Random;
     use crate::{inputs, sheets};
@@ -65,7 +65,7 @@ mod tests {
         let (mut tight, mut pinched) = (0, 0);
         for _ in 0..6000 {
             let call = inputs::call(&mut r, Operation::Quality);
-            let answer = original(&call);
+            let answer = expected(&call);
             if answer.number == 0 {
                 assert_eq!(answer.flags & TIGHT != 0, is_tight(&call.sheet), "{:?}", call.sheet);
                 tight += u32::from(is_tight(&call.sheet));

@@ -1,6 +1,6 @@
 //! The stored sample: fixed cases first, then random ones of a seed.
 use crate::bands::UNIT;
-use crate::call::{Call, lone, original};
+use crate::call::{Call, expected, lone};
 use crate::field::{BandNumbers, Field};
 use crate::job::{self, Job};
 use crate::operation::Operation;
@@ -81,9 +81,9 @@ const ROOTS: [f64; 20] = [
     1e-310,
 ];
 
-/// A call and what the original answers.
+/// A call and what is expected of it.
 fn record(call: Call) -> Record {
-    let answer = shortened(original(&call));
+    let answer = shortened(expected(&call));
     Record { call, answer }
 }
 
@@ -95,7 +95,7 @@ fn projection(band: BandNumbers, mask: u8, point: Point) -> Call {
 /// Projections by masks of every kind, onto a level, off the box, and where the field is flat.
 fn projections() -> Vec<Call> {
     let plane = |numbers| BandNumbers { field: Field::Plane(numbers), ..UNIT };
-    let bottomless = BandNumbers { levels: [f64::NEG_INFINITY, 0.16], ..UNIT };
+    let deep = BandNumbers { levels: [f64::MIN, 0.16], ..UNIT };
     let masks = [0, 1, 2, 3, 4, 8, 12, 16, 32, 64, 128, 192, 5, 10, 21, 85, 86, 170, 255];
     let mut calls: Vec<Call> = masks.iter().map(|&mask| projection(UNIT, mask, [0.6, 0.7, 0.55])).collect();
     calls.extend([
@@ -105,7 +105,7 @@ fn projections() -> Vec<Call> {
         projection(UNIT, 0, [1.0 + 2e-10, 0.5, 0.5]),
         projection(UNIT, 0, [f64::NAN, 0.5, 0.5]),
         projection(UNIT, 1, [0.5, f64::INFINITY, 0.5]),
-        projection(bottomless, 2, [0.6, 0.7, 0.55]),
+        projection(deep, 2, [0.6, 0.7, 0.55]),
         projection(plane([0.0, 0.0, 0.0, 0.0]), 1, [0.5; 3]),
         projection(plane([f64::NAN, 1.0, 0.0, 0.0]), 1, [0.5; 3]),
         projection(plane([1e-320, 0.0, 0.0, 0.0]), 1, [0.5; 3]),
@@ -155,16 +155,21 @@ fn changed(change: fn(&mut QuadMesh)) -> QuadMesh {
     sheet
 }
 
-/// Bands of which `validate` refuses all but the first two.
+/// Bands of which `validate` refuses all but the first; the second is taken where a sheet is measured.
 fn changed_bands() -> [BandNumbers; 6] {
     [
         UNIT,
-        BandNumbers { levels: [f64::NEG_INFINITY, 0.5], ..UNIT },
+        above_minus_infinity(0.5),
         BandNumbers { levels: [0.5, 0.5], ..UNIT },
         BandNumbers { levels: [0.1, f64::INFINITY], ..UNIT },
         BandNumbers { bounds: [[0.0; 3], [0.0, 1.0, 1.0]], ..UNIT },
         BandNumbers { bounds: [[-1e154; 3], [1e154; 3]], ..UNIT },
     ]
+}
+
+/// The band between minus infinity and this level.
+fn above_minus_infinity(upper: f64) -> BandNumbers {
+    BandNumbers { levels: [f64::NEG_INFINITY, upper], ..UNIT }
 }
 
 /// The tests of a lent sheet.
@@ -483,7 +488,94 @@ fn sums(seed: u64) -> Vec<Record> {
     calls.into_iter().map(record).collect()
 }
 
-/// The sample of a seed. What is new stands behind, so that the records before it stay as they are.
+/// Every operation that takes a band, and the two tests, on the cube above minus infinity: with passes and without,
+/// drawn with cells that are allowed and with some that are not. What measures takes it, and `coarsen` without a pass.
+fn on_bottomless_cube() -> [Call; 15] {
+    let calls = [
+        (Operation::Subdivide, 0),
+        (Operation::Rows, 0),
+        (Operation::Regularize, 0),
+        (Operation::Regularize, 1),
+        (Operation::ImproveLayout, 0),
+        (Operation::ImproveLayout, 1),
+        (Operation::Coarsen, 0),
+        (Operation::Coarsen, 1),
+        (Operation::Extract, 4),
+        (Operation::Extract, 3),
+        (Operation::Quality, 0),
+        (Operation::Corners, 0),
+        (Operation::Page, 0),
+        (Operation::Constraints, 0),
+        (Operation::Validate, 0),
+    ];
+    let band = above_minus_infinity(0.16);
+    calls.map(|(operation, argument)| Call { operation, argument, band, sheet: lent_to(operation, sheets::cube()) })
+}
+
+/// The sheet that is lent to an operation: none to one that draws, and none to the tests of a band.
+fn lent_to(operation: Operation, sheet: QuadMesh) -> QuadMesh {
+    match operation {
+        Operation::Extract | Operation::Validate => sheets::empty(),
+        _ => sheet,
+    }
+}
+
+/// Sheets that are refused with 5, 6 and 7, in a band above minus infinity, which is refused before them, but not by
+/// `quality`; and `coarsen` without a pass, which looks at neither.
+fn bottomless_and_damaged() -> Vec<Call> {
+    let operations = [
+        Operation::Subdivide,
+        Operation::Rows,
+        Operation::Regularize,
+        Operation::ImproveLayout,
+        Operation::Coarsen,
+        Operation::Constraints,
+        Operation::Quality,
+    ];
+    let damages: [fn(&mut QuadMesh); 3] = [|s| *s = sheets::empty(), |s| s.quads[5][3] = 8, |s| s.labels[2] = 3];
+    let on =
+        |operation, damage| Call { operation, argument: 1, band: above_minus_infinity(0.16), sheet: changed(damage) };
+    let mut calls: Vec<Call> =
+        operations.into_iter().flat_map(|operation| damages.map(|damage| on(operation, damage))).collect();
+    calls.push(Call { argument: 0, ..on(Operation::Coarsen, damages[1]) });
+    calls
+}
+
+/// Other levels that are not finite: a lower one that is a NaN or infinity, and an upper one.
+fn of_no_level() -> [Call; 7] {
+    let signals = f64::from_bits(0x7ff0_0000_0000_0001);
+    let calls = [
+        (Operation::Regularize, 1, [f64::NAN, 0.16]),
+        (Operation::Subdivide, 0, [f64::INFINITY, 0.16]),
+        (Operation::Rows, 0, [0.04, f64::INFINITY]),
+        (Operation::Extract, 4, [signals, 0.16]),
+        (Operation::Coarsen, 0, [f64::NAN, f64::NEG_INFINITY]),
+        (Operation::Quality, 0, [f64::INFINITY, 0.16]),
+        (Operation::Page, 0, [f64::NEG_INFINITY, f64::INFINITY]),
+    ];
+    calls.map(|(operation, argument, levels)| {
+        let sheet = lent_to(operation, sheets::cube());
+        Call { operation, argument, band: BandNumbers { levels, ..UNIT }, sheet }
+    })
+}
+
+/// The cube's job above minus infinity: saved, opened, and its sum read.
+fn bottomless_job() -> [Call; 3] {
+    let job = Job { header: job::header(&above_minus_infinity(0.16)), sheet: sheets::cube() };
+    let file = job::write(&job);
+    [job::save(job, file.len()), job::open(file.clone(), 0), job::sum(file)]
+}
+
+/// What came when levels that are not finite were refused.
+fn bottomless() -> Vec<Record> {
+    let mut calls = on_bottomless_cube().to_vec();
+    calls.extend(bottomless_and_damaged());
+    calls.extend(of_no_level());
+    calls.extend(bottomless_job());
+    calls.into_iter().map(record).collect()
+}
+
+/// The sample of a seed. What is new stands behind, so that the records before it keep their places.
 pub fn records(seed: u64) -> Vec<Record> {
     let mut records = leaves(seed);
     records.extend(constraints(seed));
@@ -494,6 +586,7 @@ pub fn records(seed: u64) -> Vec<Record> {
     records.extend(pages(seed));
     records.extend(jobs(seed));
     records.extend(sums(seed));
+    records.extend(bottomless());
     records
 }
 
@@ -501,7 +594,7 @@ pub fn records(seed: u64) -> Vec<Record> {
 mod tests {
     use super::*;
     use crate::call::{Answer, TIGHT};
-    use crate::{record, rings};
+    use crate::{levels, record, rings};
     use std::collections::BTreeSet;
 
     /// The operations and numbers that occur.
@@ -522,14 +615,14 @@ mod tests {
         let improve = [0, 1, 5, 6, 7].map(|number| (ImproveLayout, number));
         let coarsen = [0, 1, 5, 6, 7].map(|number| (Coarsen, number));
         let rows = [0, 1, 5, 6, 7, 8, 10].map(|number| (Rows, number));
-        let drawn = [0, 1, 2, 3, 4, 5, 7].map(|number| (Extract, number));
+        let drawn = [0, 1, 3, 4, 5, 7].map(|number| (Extract, number));
         let corners = [0, 1, 5, 6, 7].map(|number| (Corners, number));
         let pages = [0, 1, 5, 6, 7, 11].map(|number| (Page, number));
         let jobs = [(Save, 0), (Save, 13), (Open, 0), (Open, 13), (Open, 14), (Open, 17), (Sum, 0), (Sum, 14)];
         let measured = refine.into_iter().chain(subdivide).chain(quality).chain(corners).chain(pages);
         let cleaned = regularize.into_iter().chain(improve).chain(coarsen).chain(rows).chain(drawn);
-        let expected = leaf.into_iter().chain(tests).chain(sheet).chain(measured).chain(cleaned).chain(jobs).collect();
-        assert_eq!(seen(&records(SEED)), expected);
+        let occur = leaf.into_iter().chain(tests).chain(sheet).chain(measured).chain(cleaned).chain(jobs).collect();
+        assert_eq!(seen(&records(SEED)), occur);
     }
 
     /// Whether an answer of `quality` says tight, and its bad links.
@@ -539,7 +632,7 @@ mod tests {
 
     #[test]
     fn two_parts_at_one_point_are_not_tight() {
-        let answers = pinched().map(|call| tight_and_links(&original(&call)));
+        let answers = pinched().map(|call| tight_and_links(&expected(&call)));
         assert_eq!(answers, [(true, 0), (false, 1), (false, 1)]);
     }
 
@@ -572,8 +665,9 @@ mod tests {
     }
 
     #[test]
-    fn corners_per_point_then_pages_then_jobs_and_then_sums_stand_last() {
-        let (records, new) = (records(SEED), [corners(SEED), pages(SEED), jobs(SEED), sums(SEED)].concat());
+    fn corners_per_point_then_pages_then_jobs_then_sums_and_then_levels_stand_last() {
+        let new = [corners(SEED), pages(SEED), jobs(SEED), sums(SEED), bottomless()].concat();
+        let records = records(SEED);
         let (before, last) = records.split_at(records.len() - new.len());
         let operations = [Operation::Corners, Operation::Page, Operation::Save, Operation::Open, Operation::Sum];
         assert!(!before.iter().any(|record| operations.contains(&record.call.operation)));
@@ -610,6 +704,31 @@ mod tests {
     }
 
     #[test]
+    fn levels_that_are_not_finite_have_their_numbers() {
+        let numbers: Vec<u8> = bottomless().iter().map(|record| record.answer.number).collect();
+        assert_eq!(numbers[..15], [1, 1, 1, 1, 1, 1, 0, 1, 1, 1, 0, 0, 0, 1, 1]);
+        assert_eq!(numbers[15..37], [&[1; 18][..], &[5, 6, 7, 0]].concat());
+        assert_eq!(numbers[37..44], [1, 1, 1, 1, 0, 1, 1]);
+        assert_eq!(numbers[44..], [0, 0, 0]);
+    }
+
+    #[test]
+    fn no_record_at_a_point_has_a_level_that_is_not_finite() {
+        let at_point = [Operation::Project, Operation::Value, Operation::Gradient, Operation::Normal];
+        let records = records(SEED).into_iter().filter(|record| at_point.contains(&record.call.operation));
+        assert!(records.map(|record| record.call.band).all(|band| levels::are_finite(&band)));
+    }
+
+    #[test]
+    fn what_is_accepted_above_minus_infinity_is_as_above_a_finite_level() {
+        for Record { call, answer } in bottomless().into_iter().filter(|record| record.answer.number == 0) {
+            if !call.operation.is_of_a_job() {
+                assert_eq!(answer, expected(&Call { band: UNIT, ..call }));
+            }
+        }
+    }
+
+    #[test]
     fn sums_that_are_read_are_those_that_are_written() {
         let sums = sums(SEED).into_iter().filter(|record| record.call.operation == Operation::Sum);
         let read: Vec<(u64, [u32; 3])> = sums.map(|record| (record.answer.count, record.answer.counts)).collect();
@@ -620,7 +739,8 @@ mod tests {
 
     #[test]
     fn jobs_are_small_and_stored_whole() {
-        for Record { call, answer } in [jobs(SEED), sums(SEED)].concat() {
+        let saved = bottomless().into_iter().filter(|record| record.call.operation.is_of_a_job());
+        for Record { call, answer } in jobs(SEED).into_iter().chain(sums(SEED)).chain(saved) {
             let is_save = call.operation == Operation::Save;
             let bytes = if is_save { answer.count } else { call.sheet.labels.len() as u64 };
             assert!(bytes <= MOST_BYTES && answer.counts.iter().all(|&n| n <= 64) && answer.flags == 0);
@@ -630,12 +750,12 @@ mod tests {
 
     #[test]
     fn what_is_stored_as_saved_opens() {
-        let jobs = [jobs(SEED), sums(SEED)].concat();
+        let jobs = [jobs(SEED), sums(SEED), bottomless()].concat();
         let saved = jobs.into_iter().filter(|record| record.call.operation == Operation::Save);
         for Record { call, answer } in saved.filter(|record| record.answer.number == 0) {
             let mut file: Vec<u8> = answer.words.iter().flat_map(|word| word.to_le_bytes()).collect();
             file.truncate(answer.count as usize);
-            assert_eq!(original(&job::open(file, 0)), Answer::job(&job::of(&call)));
+            assert_eq!(expected(&job::open(file, 0)), Answer::job(&job::of(&call)));
         }
     }
 
@@ -673,6 +793,7 @@ mod tests {
 
     #[test]
     fn the_sample_is_small() {
-        assert!(record::file(&records(SEED)).len() < 1_350_000);
+        assert!(record::file(&bottomless()).len() < 40_000);
+        assert!(record::file(&records(SEED)).len() < 1_380_000);
     }
 }

@@ -169,7 +169,7 @@ pub fn summing(r: &mut Random) -> Call {
 #[cfg(test)]
 mod tests {
     use super::*;
-    use crate::call::original;
+    use crate::call::expected;
     use std::collections::BTreeMap;
 
     #[test]
@@ -189,7 +189,7 @@ mod tests {
     fn every_answer_occurs_often() {
         let (mut r, mut numbers) = (Random::new(2), BTreeMap::new());
         for _ in 0..6000 {
-            let number = original(&job::open(file(&mut r), 1 << 20)).number;
+            let number = expected(&job::open(file(&mut r), 1 << 20)).number;
             *numbers.entry(number).or_insert(0) += 1;
         }
         assert!(numbers.keys().eq(&[0, 14, 17]) && numbers.values().all(|&calls| calls > 600), "{numbers:?}");
@@ -201,7 +201,7 @@ mod tests {
         for _ in 0..6000 {
             let mut file = job::write(&job(&mut r));
             damage(&mut r, &mut file);
-            *numbers.entry(original(&job::open(file, 1 << 20)).number).or_insert(0) += 1;
+            *numbers.entry(expected(&job::open(file, 1 << 20)).number).or_insert(0) += 1;
         }
         assert!(numbers.keys().eq(&[0, 14, 17]) && numbers.values().all(|&calls| calls > 300), "{numbers:?}");
     }
@@ -222,7 +222,7 @@ mod tests {
     fn zeros_in_place_of_the_sum_are_a_sum_if_they_are_eight() {
         let job = Job { header: [0.5; 8], sheet: crate::sheets::torus(3, 3) };
         for bytes in 1..40 {
-            let number = original(&job::open(with_zeros(&job, bytes), 0)).number;
+            let number = expected(&job::open(with_zeros(&job, bytes), 0)).number;
             assert_eq!(number, if bytes == 8 { 0 } else { 14 }, "{bytes}");
         }
         assert_eq!((with_zeros(&job, 0), with_zeros(&job, 8)), (job::write_old(&job), job::write(&job)));
@@ -232,7 +232,7 @@ mod tests {
     fn sums_are_read_written_and_not() {
         let (mut r, mut seen) = (Random::new(5), BTreeMap::new());
         for _ in 0..4000 {
-            let answer = original(&summing(&mut r));
+            let answer = expected(&summing(&mut r));
             *seen.entry((answer.number, answer.counts[0])).or_insert(0) += 1;
         }
         assert!(seen.keys().eq(&[(0, 0), (0, 1), (14, 0)]) && seen.values().all(|&calls| calls > 400), "{seen:?}");

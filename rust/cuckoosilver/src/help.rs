@@ -55,7 +55,9 @@ options
   --quadric K0 .. K9      k0*x*x + k1*y*y + k2*z*z + k3*x*y + k4*y*z + k5*z*x
                           + k6*x + k7*y + k8*z + k9
   --box X Y Z X Y Z       the low corner of the box, then the high corner
-  --levels LOWER UPPER    the band is where the field is between the two
+  --levels LOWER UPPER    the band is where the field is between the two; both
+                          are finite, but where a sheet is measured (display,
+                          page, quality, corners, check) LOWER may be -inf
   --label N               the label, 0 to 7, of quads that are read with neither
                           a label nor a colour
   --ascii, --binary       how PLY files are written; binary where not given
@@ -69,7 +71,8 @@ needs no options. A job file has the box and the levels but no field: after open
 a step that asks for the band needs --plane, --ball or --quadric. What a file
 says of the band holds where no option gave it: with --box or --levels the
 option holds, also where the file says otherwise, and save saves the option's.
-A job file whose squared sum is not that of its sheet is refused by open.
+A job file whose squared sum is not that of its sheet is refused by open. One
+whose lower level is -inf opens, so that an old sheet can be measured and saved.
 A file that is there already is replaced once the new one is whole. After each
 step that brings or changes the sheet, a warning tells of bad points and of
 quads turned over or collapsed that were not there before.
@@ -87,7 +90,7 @@ exit codes
   0 all steps are done; 1 a step is refused, a sheet that is checked is not
   valid, or a file cannot be read or written; 2 the command line is wrong;
   141 nobody reads what is written. A refusal has a number and a word:
-   1 box     2 bottomless  3 cells   4 samples  5 bare    6 corner  7 clash
-   8 edge    9 astray     10 row    11 normal  12 large  13 short  14 trailer
+   1 box     3 cells   4 samples  5 bare    6 corner  7 clash   8 edge
+   9 astray 10 row    11 normal  12 large  13 short  14 trailer
   17 sum
 ";

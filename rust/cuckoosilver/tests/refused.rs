@@ -18,7 +18,13 @@ fn a_refusal_names_the_step_the_number_the_word_and_what_to_do() {
     ends(&format!("{SHELL} draw 3"), 1, &told);
     ends(&format!("{SHELL} draw 129"), 1, &["3 cells"]);
     ends(&format!("{SHELL} --levels 1 0 draw 8"), 1, &["1 box", ": the lower level 1.0 is not below 0.0\n"]);
-    ends(&format!("{SHELL} --levels -inf 0.5 draw 8"), 1, &["2 bottomless"]);
+    let told = [
+        "draw 8 is refused: 1 box: the levels are not finite or not in order, the box ",
+        ": the lower level is -inf\n",
+        "what to do: give finite levels, the lower below the upper\n",
+    ];
+    ends(&format!("{SHELL} --levels -inf 0.5 draw 8"), 1, &told);
+    ends(&format!("{SHELL} --levels -inf 0.5 draw 3"), 1, &["draw 3 is refused: 1 box: ", told[1], told[2]]);
     let told = ["4 samples", ": at place (0, 0, 0), the point (", ", the field is -inf\n", "use smaller numbers"];
     ends(&format!("{SHELL} --plane 1e308 1e308 1e308 0 --box -9 -9 -9 9 9 9 draw 8"), 1, &told);
     let told = ["4 samples", ": the field's number d is NaN\n", "what to do: give finite numbers for the field"];

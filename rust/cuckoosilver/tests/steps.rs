@@ -113,8 +113,9 @@ fn help_is_no_folder_of_the_example() {
 fn help_tells_all_refusals() {
     let help = prints("--help");
     let words: Vec<&str> = help.split("has a number and a word:").nth(1).unwrap().split_whitespace().collect();
+    let returned = quads::Refusal::all().filter(|refusal| *refusal != quads::Refusal::Bottomless);
     let refusals: Vec<String> =
-        quads::Refusal::all().flat_map(|refusal| [refusal.number().to_string(), refusal.word().to_string()]).collect();
+        returned.flat_map(|refusal| [refusal.number().to_string(), refusal.word().to_string()]).collect();
     assert_eq!(words, refusals);
 }
 

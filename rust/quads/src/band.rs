@@ -50,7 +50,9 @@ impl Field {
     }
 }
 
-/// A band of a field between two levels, cut by a box.
+/// A band of a field between two levels, cut by a box. Both levels are finite, the lower below the upper; where a sheet
+/// is measured, by [`quality`](crate::Sheet::quality), [`corners_per_point`](crate::Sheet::corners_per_point) or
+/// [`page`](crate::Sheet::page), the lower level may be minus infinity.
 #[derive(Clone, Copy, Debug, PartialEq)]
 pub struct Band {
     /// The field.
@@ -59,7 +61,7 @@ pub struct Band {
     pub low: [f64; 3],
     /// The high corner of the box.
     pub high: [f64; 3],
-    /// The lower level.
+    /// The lower level: finite, or minus infinity where a sheet is measured.
     pub lower: f64,
     /// The upper level.
     pub upper: f64,

@@ -11,9 +11,10 @@ use crate::workspace::Workspace;
 /// A sheet with the box and the levels of its band. The field is not in the file: who opens a job brings it.
 ///
 /// Saving and opening gives the same bits, those of a NaN too. Neither tests the sheet, the box or the levels: labels
-/// may be more or fewer than quads, and the box need not be one. The file also has the squared sum of the sheet, the
-/// sum over its points of (quads at the point minus 4) squared, which [`Job::sum`] reads without opening the sheet;
-/// opening asks that it is that of its quads.
+/// may be more or fewer than quads, and the box need not be one. A sheet whose lower level is minus infinity opens as
+/// any other, and can be measured. The file also has the squared sum of the sheet, the sum over its points of (quads at
+/// the point minus 4) squared, which [`Job::sum`] reads without opening the sheet; opening asks that it is that of its
+/// quads.
 ///
 /// ```
 /// use quads::{Band, Field, Job, Sheet};

@@ -28,15 +28,16 @@ type Making = fn(SheetRef, BandRef, SheetOut, WorkMut, &mut [u64]) -> u32;
 /// An export that alters a sheet.
 type Altering = fn(SheetMut, BandRef, usize, WorkMut, &mut [u64]) -> u32;
 
-/// The operations. They refuse by the numbers of [`Refusal`], the first in the order that is named at each.
+/// The operations. They refuse by the numbers of [`Refusal`], the first in the order that is named at each. A band of
+/// which a level is not finite is wrong (1); those that measure, `quality`, `corners_per_point` and `page`, take a
+/// lower level of minus infinity, so that old sheets can be measured.
 impl Sheet {
     /// Draws the sheet around a band, over a grid of 4 to 128 cells a side.
     ///
     /// # Errors
     ///
-    /// The band is wrong (1) or has no finite lower level (2), the number of cells is (3), the field is not finite on
-    /// the grid (4), the sheet would be above the limit (13), nothing is drawn (5), or the band is too thin for the
-    /// cells (7).
+    /// The band is wrong (1), the number of cells is (3), the field is not finite on the grid (4), the sheet would be
+    /// above the limit (13), nothing is drawn (5), or the band is too thin for the cells (7).
     pub fn extract_candidate(band: &Band, cells: usize) -> Result<Sheet, Refused> {
         Workspace::new().extract_candidate(band, cells)
     }
@@ -98,12 +99,12 @@ impl Sheet {
     ///
     /// # Errors
     ///
-    /// Those of [`regularize`](Sheet::regularize); with no pass only the first.
+    /// Those of [`regularize`](Sheet::regularize); with no pass only the first: the band is not looked at then.
     pub fn coarsen(&mut self, band: &Band, passes: usize) -> Result<usize, Refused> {
         Workspace::new().coarsen(self, band, passes)
     }
 
-    /// Measures the sheet.
+    /// Measures the sheet. The lower level may be minus infinity.
     ///
     /// # Errors
     ///
@@ -114,6 +115,7 @@ impl Sheet {
     }
 
     /// The corners per point, exactly: 4 × quads ÷ points as a whole number and the remainder. The cube has 3 and 0.
+    /// The lower level may be minus infinity.
     ///
     /// # Errors
     ///
@@ -123,7 +125,8 @@ impl Sheet {
     }
 
     /// The page: the eight counts of [`quality`](Sheet::quality) in the record's order, one to a line. A line is ASCII
-    /// text of 41 bytes, its name left in 24 columns, its count right in 16, then a line feed.
+    /// text of 41 bytes, its name left in 24 columns, its count right in 16, then a line feed. The lower level may be
+    /// minus infinity.
     ///
     /// # Errors
     ///
@@ -214,7 +217,7 @@ impl Workspace {
         let (flat, mut answer, mut measures) = (FlatBand::from(band), [0; 10], [0.0; 4]);
         let (lent, work) = (sheet.as_sheet_ref(), self.work_for(sheet));
         let number = ffi::quality(lent, flat.as_band_ref(), work, &mut answer, &mut measures);
-        accepted(number, |refusal| look::lent(refusal, sheet, band))?;
+        accepted(number, |refusal| look::measuring(refusal, sheet, band))?;
         Ok(Quality::new(answer, measures))
     }
 
@@ -227,7 +230,7 @@ impl Workspace {
         let (flat, mut answer) = (FlatBand::from(band), [0; 2]);
         let (lent, work) = (sheet.as_sheet_ref(), self.work_for(sheet));
         let number = ffi::corners_per_point(lent, flat.as_band_ref(), work, &mut answer);
-        accepted(number, |refusal| look::lent(refusal, sheet, band))?;
+        accepted(number, |refusal| look::measuring(refusal, sheet, band))?;
         Ok(Ratio::new(answer))
     }
 
@@ -240,7 +243,7 @@ impl Workspace {
         let (flat, mut page) = (FlatBand::from(band), [0; PAGE]);
         let (lent, work) = (sheet.as_sheet_ref(), self.work_for(sheet));
         let number = ffi::page(lent, flat.as_band_ref(), work, &mut page);
-        accepted(number, |refusal| look::lent(refusal, sheet, band))?;
+        accepted(number, |refusal| look::measuring(refusal, sheet, band))?;
         Ok(page)
     }
 

@@ -1,6 +1,7 @@
 //! The record of `quality`.
 
-/// What `quality` measures of a sheet.
+/// What `quality` measures of a sheet. The levels of its band are not in it: a lower level of minus infinity gives what
+/// a finite one gives.
 #[derive(Clone, Copy, Debug, PartialEq)]
 pub struct Quality {
     /// The quads.

@@ -7,9 +7,10 @@ use std::fmt;
 #[non_exhaustive]
 #[repr(u32)]
 pub enum Refusal {
-    /// The levels, the bounds or the length of the box.
+    /// The levels, the bounds or the length of the box. Where a sheet is measured, the lower level may be minus
+    /// infinity; else both levels are finite.
     Box = 1,
-    /// Drawing with a lower level that is not finite.
+    /// No longer returned: a lower level that is not finite is [`Refusal::Box`]. It was that of drawing with one.
     Bottomless = 2,
     /// Drawing with other than 4 to 128 cells.
     Cells = 3,
@@ -88,7 +89,9 @@ impl Refusal {
     /// What was found.
     pub fn reason(self) -> &'static str {
         match self {
-            Refusal::Box => "the levels are not in order, the box has no finite size, or the field is of no kind",
+            Refusal::Box => {
+                "the levels are not finite or not in order, the box has no finite size, or the field is of no kind"
+            }
             Refusal::Bottomless => "the lower level is not finite",
             Refusal::Cells => "the number of cells is not from 4 to 128",
             Refusal::Samples => "the field is not finite at a place of the grid",
@@ -112,9 +115,9 @@ impl Refusal {
     pub fn advice(self) -> &'static str {
         match self {
             Refusal::Box => {
-                "give a lower level below a finite upper one, and a box whose low corner is below its high corner"
+                "give finite levels, the lower below the upper, and a box whose low corner is below its high corner"
             }
-            Refusal::Bottomless => "give a finite lower level to draw",
+            Refusal::Bottomless => "give a finite lower level",
             Refusal::Cells => "draw with 4 to 128 cells",
             Refusal::Samples => "use smaller numbers in the field, the levels and the box",
             Refusal::Bare => "draw with more cells, or mend the sheet where it was made",
@@ -214,6 +217,13 @@ mod tests {
         for refusal in Refusal::all() {
             assert_eq!(Refusal::try_from(refusal.number()), Ok(refusal));
         }
+    }
+
+    #[test]
+    fn a_number_that_is_no_longer_returned_is_still_told() {
+        assert_eq!(accepted(2), Err(Refusal::Bottomless));
+        assert_eq!(Refusal::Bottomless.to_string(), "2 bottomless: the lower level is not finite");
+        assert_eq!(Refusal::Bottomless.advice(), "give a finite lower level");
     }
 
     #[test]

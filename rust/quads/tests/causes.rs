@@ -6,12 +6,12 @@ mod random;
 use common::{
     bowl, cube, edges, file_of, page_of, place_of, shell, squared_sum, unit_box, with_number, with_sum, without_sum,
 };
-use quads::{Band, Cause, Field, Job, Ratio, Refusal, Refused, Section, Sheet, TrailerFault, Workspace};
+use quads::{Band, Cause, Field, Job, Label, Ratio, Refusal, Refused, Section, Sheet, TrailerFault, Workspace};
 use random::Random;
 use std::collections::{BTreeMap, HashSet};
 
 /// Numbers that spoil a float.
-const FLOATS: [f64; 8] = [0.0, 0.5, -3.0, 1e-200, 1e200, 1.5e308, f64::NAN, f64::INFINITY];
+const FLOATS: [f64; 9] = [0.0, 0.5, -3.0, 1e-200, 1e200, 1.5e308, f64::NAN, f64::INFINITY, f64::NEG_INFINITY];
 
 /// Spoils one thing of a sheet.
 fn spoil_sheet(sheet: &mut Sheet, random: &mut Random) {
@@ -94,6 +94,61 @@ fn each_refusal_of_a_sheet_has_its_cause() {
         }
     }
     assert!(seen.into_keys().eq([1, 5, 6, 7, 8, 9, 10, 11]));
+}
+
+/// A lower level of minus infinity, told as a cause.
+const BOTTOMLESS: Cause = Cause::Level { level: Label::Lower, value: f64::NEG_INFINITY };
+
+#[test]
+fn a_lower_level_of_minus_infinity_is_the_first_cause() {
+    let (mut random, mut workspace) = (Random(6), Workspace::new());
+    for _ in 0..500 {
+        let (mut sheet, mut band) = (cube(), unit_box());
+        spoil_sheet(&mut sheet, &mut random);
+        spoil_band(&mut band, &mut random);
+        band.lower = f64::NEG_INFINITY;
+        let mut left = sheet.clone();
+        let causes = [
+            workspace.extract_candidate(&band, random.below(6)).err(),
+            workspace.subdivide(&sheet, &band).err(),
+            workspace.boundary_rows(&sheet, &band).err(),
+            workspace.regularize(&mut left, &band, random.below(2)).err(),
+            workspace.improve_layout(&mut left, &band, random.below(2)).err(),
+            workspace.coarsen(&mut left, &band, 1 + random.below(2)).err(),
+        ];
+        assert_eq!(causes.map(|refused| refused.unwrap().cause()), [Some(BOTTOMLESS); 6]);
+    }
+}
+
+#[test]
+fn a_lower_level_of_minus_infinity_is_no_cause_where_a_sheet_is_measured() {
+    let (mut random, mut workspace, mut seen) = (Random(7), Workspace::new(), BTreeMap::new());
+    for _ in 0..1500 {
+        let (mut sheet, mut band) = (cube(), unit_box());
+        spoil_sheet(&mut sheet, &mut random);
+        spoil_band(&mut band, &mut random);
+        band.lower = f64::NEG_INFINITY;
+        let measured = workspace.quality(&sheet, &band).err();
+        let others = [workspace.corners_per_point(&sheet, &band).err(), workspace.page(&sheet, &band).err()];
+        for refused in others.into_iter().chain([measured]).flatten() {
+            let cause = refused.cause().unwrap_or_else(|| panic!("{refused}: {sheet:?} {band:?}"));
+            assert!(cause != BOTTOMLESS && cause.refusal() == refused.refusal(), "{refused}: {band:?}");
+            *seen.entry(refused.refusal().number()).or_insert(0) += 1;
+        }
+    }
+    assert!(seen.into_keys().eq([1, 5, 6, 7, 11]));
+}
+
+#[test]
+fn above_minus_infinity_a_wrong_box_is_told_where_a_sheet_is_measured_and_the_level_elsewhere() {
+    let band = Band { lower: f64::NEG_INFINITY, low: [0.0, f64::NAN, 0.0], ..unit_box() };
+    let cause = |refused: Option<Refused>| format!("{:?}", refused.unwrap().cause().unwrap());
+    let bound = format!("{:?}", Cause::Bound { face: Label::LowY, value: f64::NAN });
+    assert_eq!(cause(cube().quality(&band).err()), bound);
+    assert_eq!(cause(cube().corners_per_point(&band).err()), bound);
+    assert_eq!(cause(cube().page(&band).err()), bound);
+    assert_eq!(cause(cube().regularize(&band, 1).err()), format!("{BOTTOMLESS:?}"));
+    assert_eq!(cause(cube().boundary_rows(&band).err()), format!("{BOTTOMLESS:?}"));
 }
 
 #[test]
@@ -235,8 +290,7 @@ fn each_refusal_to_draw_has_its_cause() {
         spoil_band(&mut band, &mut random);
         band.lower += 0.05 * random.below(10) as f64;
         let Err(refused) = workspace.extract_candidate(&band, 4 + random.below(3)) else { continue };
-        let is_plain = !matches!(refused.refusal(), Refusal::Bottomless | Refusal::Clash);
-        assert!(refused.cause().is_some() || !is_plain, "{refused}: {band:?}");
+        assert!(refused.cause().is_some() || refused.refusal() == Refusal::Clash, "{refused}: {band:?}");
         *seen.entry(refused.refusal().number()).or_insert(0) += 1;
     }
     assert!(seen.into_keys().eq([1, 4, 5, 7]));

@@ -1,5 +1,5 @@
 /* Refines the unit cube, measures it and two pillows at one point, gives corners per point, prints the cube's page,
-   saves and opens it, and reads the sum of its file, by include/quads.h. */
+   measures it above minus infinity, saves and opens the cube, and reads the sum of its file, by include/quads.h. */
 #include <quads.h>
 #include <stdio.h>
 #include <string.h>
@@ -78,6 +78,23 @@ static uint32_t page(double side)
     return number;
 }
 
+/* Divides the corners of the cube above minus infinity, and subdivides it there, which is refused: whether it is so. */
+static int bottomless(void)
+{
+    const double bounds[6] = {0, 0, 0, 1, 1, 1}, lower = -1.0 / 0.0;
+    uint64_t answer[4];
+    uint32_t measured = quads_corners_per_point(points, COUNT(points), quads, COUNT(quads), labels, COUNT(labels),
+        8, 6, 6, QUADS_PLANE, numbers, COUNT(numbers), bounds, COUNT(bounds), lower, 2,
+        work, COUNT(work), floats, COUNT(floats), answer, COUNT(answer));
+    printf("above minus infinity: corners %u: %llu per point, ", measured, (unsigned long long)answer[0]);
+    uint32_t made = quads_subdivide(points, COUNT(points), quads, COUNT(quads), labels, COUNT(labels), 8, 6, 6,
+        QUADS_PLANE, numbers, COUNT(numbers), bounds, COUNT(bounds), lower, 2,
+        finer_points, COUNT(finer_points), finer_quads, COUNT(finer_quads), finer_labels, COUNT(finer_labels),
+        work, COUNT(work), floats, COUNT(floats), answer, COUNT(answer));
+    printf("subdivide %u: %llu points\n", made, (unsigned long long)answer[1]);
+    return measured == QUADS_ACCEPTED && made == QUADS_BOX;
+}
+
 /* The box from 0 to 1 and two levels, of which the upper is no number. */
 static const double header[8] = {0, 0, 0, 1, 1, 1, -1, 0.0 / 0.0};
 
@@ -149,5 +166,5 @@ int main(void)
         && corners(points, 8, quads, labels, 6, 1) == QUADS_ACCEPTED
         && corners(finer_points, 26, finer_quads, finer_labels, 24, 1) == QUADS_ACCEPTED
         && corners(points, 8, quads, labels, 6, -1) == QUADS_BOX && page(1) == QUADS_ACCEPTED
-        && page(-1) == QUADS_BOX && jobs());
+        && page(-1) == QUADS_BOX && bottomless() && jobs());
 }

@@ -129,6 +129,7 @@ fn a_c_program_refines_measures_and_saves() {
          duplicates                             0\n\
          invalid                                0\n\
          page 1:\n\
+         above minus infinity: corners 0: 3 per point, subdivide 1: 0 points\n\
          save 13: 0 bytes, 0 points, 0 quads, 0 labels\n\
          save 13: 0 bytes, 0 points, 0 quads, 0 labels\n\
          save 0: 386 bytes, 8 points, 6 quads, 6 labels\n\

@@ -1,7 +1,7 @@
 //! The job file: saved and opened to the same bits, and every file that is none is refused.
 mod common;
 use common::{bowl, cube, file_of, shell, unit_box, with_number, without_sum};
-use quads::{Cause, Counts, Job, LIMIT, Refusal, Sheet, TrailerFault};
+use quads::{Band, Cause, Counts, Job, LIMIT, Label, Refusal, Sheet, TrailerFault};
 
 /// The cube's file, kept as it was saved before the sum was in it: later releases open it too.
 const OLD_CUBE: &[u8; 378] = include_bytes!("cube.job");
@@ -139,6 +139,28 @@ fn nothing_is_asked_of_a_sheet() {
     ];
     for sheet in sheets {
         assert_kept(&Job { low: [1.0; 3], high: [-1.0; 3], lower: f64::NAN, upper: f64::NEG_INFINITY, sheet });
+    }
+}
+
+#[test]
+fn a_job_above_minus_infinity_opens_and_is_measured() {
+    let band = Band { lower: f64::NEG_INFINITY, ..unit_box() };
+    let job = Job::new(&band, cube());
+    assert_kept(&job);
+    let file = job.save().unwrap();
+    assert_eq!((&file[48..56], Job::sum(&file)), (&f64::NEG_INFINITY.to_le_bytes()[..], Ok(Some(8))));
+    assert_eq!((&file[..48], &file[56..]), (&CUBE[..48], &CUBE[56..]));
+    for saved in [&file, &without_sum(&file)] {
+        let Job { sheet, lower, .. } = Job::open(saved).unwrap();
+        let opened = Job::open(saved).unwrap().band(band.field);
+        assert_eq!((lower.to_bits(), opened), (f64::NEG_INFINITY.to_bits(), band));
+        assert_eq!(sheet.quality(&opened), cube().quality(&unit_box()));
+        assert_eq!(sheet.page(&opened), cube().page(&unit_box()));
+        assert_eq!(sheet.corners_per_point(&opened), cube().corners_per_point(&unit_box()));
+        let mut left = sheet.clone();
+        let refused = left.regularize(&opened, 1).unwrap_err();
+        let cause = Cause::Level { level: Label::Lower, value: f64::NEG_INFINITY };
+        assert_eq!((refused.refusal(), refused.cause(), left), (Refusal::Box, Some(cause), sheet));
     }
 }
 

@@ -1,7 +1,8 @@
 //! Each refusal by the smallest sheet that shows it, with the text of its cause. A refusal leaves the sheet as it came.
 mod common;
-use common::{counts, cube, file_of, shell, unit_box, with_number, with_sum, without_sum};
+use common::{bowl, counts, cube, file_of, shell, unit_box, with_number, with_sum, without_sum};
 use quads::{Band, Cause, Field, Job, LIMIT, Ratio, Refusal, Refused, Sheet};
+use std::collections::BTreeSet;
 
 /// A band of a ball around the middle of the unit box.
 fn ball() -> Band {
@@ -39,18 +40,45 @@ fn told<T>(result: Result<T, Refused>, refusal: Refusal, cause: &str) -> Refused
     refused
 }
 
-/// Whether every operation on a lent sheet refuses it so, `refine` apart, and leaves it.
-fn refused(sheet: &Sheet, band: &Band, refusal: Refusal, cause: &str) {
+/// Whether every operation that makes or alters a sheet refuses one so, `refine` apart, and leaves it.
+fn not_changed(sheet: &Sheet, band: &Band, refusal: Refusal, cause: &str) {
     let mut left = sheet.clone();
     told(sheet.subdivide(band), refusal, cause);
     told(sheet.boundary_rows(band), refusal, cause);
-    told(sheet.quality(band), refusal, cause);
-    told(sheet.corners_per_point(band), refusal, cause);
-    told(sheet.page(band), refusal, cause);
     told(left.regularize(band, 2), refusal, cause);
+    told(left.regularize(band, 0), refusal, cause);
+    told(left.improve_layout(band, 1), refusal, cause);
     told(left.improve_layout(band, 0), refusal, cause);
     told(left.coarsen(band, 1), refusal, cause);
     assert_eq!(bits(&left), bits(sheet));
+}
+
+/// Whether every operation that measures a sheet refuses it so.
+fn not_measured(sheet: &Sheet, band: &Band, refusal: Refusal, cause: &str) {
+    told(sheet.quality(band), refusal, cause);
+    told(sheet.corners_per_point(band), refusal, cause);
+    told(sheet.page(band), refusal, cause);
+}
+
+/// Whether every operation on a lent sheet refuses it so, `refine` apart, and leaves it.
+fn refused(sheet: &Sheet, band: &Band, refusal: Refusal, cause: &str) {
+    not_changed(sheet, band, refusal, cause);
+    not_measured(sheet, band, refusal, cause);
+}
+
+/// A band with a lower level of minus infinity in place of its own.
+fn bottomless(band: Band) -> Band {
+    Band { lower: f64::NEG_INFINITY, ..band }
+}
+
+/// The text of that level.
+const BOTTOMLESS: &str = "the lower level is -inf";
+
+/// The cube with a corner that names no point.
+fn far() -> Sheet {
+    let mut sheet = cube();
+    sheet.quads[2] = [0, 1, 5, 8];
+    sheet
 }
 
 #[test]
@@ -70,10 +98,103 @@ fn box_1() {
 }
 
 #[test]
-fn bottomless_2() {
-    let band = Band { lower: f64::NEG_INFINITY, ..ball() };
-    told(Sheet::extract_candidate(&band, 8), Refusal::Bottomless, "");
-    assert!(cube().quality(&band).is_ok() && cube().corners_per_point(&band).is_ok() && cube().page(&band).is_ok());
+fn box_1_where_the_lower_level_is_minus_infinity() {
+    for sheet in [cube(), Sheet::default(), far(), labelled(1, 8), labelled(0, 5), all_labelled(0)] {
+        not_changed(&sheet, &bottomless(unit_box()), Refusal::Box, BOTTOMLESS);
+        not_changed(&sheet, &bottomless(flat()), Refusal::Box, BOTTOMLESS);
+    }
+    let boxed = Band { high: [1.0, -1.0, 1.0], ..bottomless(unit_box()) };
+    not_changed(&cube(), &boxed, Refusal::Box, BOTTOMLESS);
+    let endless = Band { upper: f64::INFINITY, ..bottomless(unit_box()) };
+    not_changed(&cube(), &endless, Refusal::Box, BOTTOMLESS);
+    let refused = told(cube().subdivide(&bottomless(unit_box())), Refusal::Box, BOTTOMLESS);
+    assert_eq!(refused.advice(), "give finite levels, the lower below the upper");
+}
+
+#[test]
+fn box_1_where_the_lower_level_of_a_drawing_is_minus_infinity() {
+    for cells in [0, 3, 4, 8, 129, usize::MAX] {
+        told(Sheet::extract_candidate(&bottomless(ball()), cells), Refusal::Box, BOTTOMLESS);
+    }
+    let field = Field::Plane { a: f64::NAN, b: 0.0, c: 0.0, d: 0.0 };
+    told(Sheet::extract_candidate(&Band { field, ..bottomless(ball()) }, 4), Refusal::Box, BOTTOMLESS);
+    told(Sheet::extract_candidate(&Band { upper: -10.0, ..bottomless(ball()) }, 4), Refusal::Box, BOTTOMLESS);
+}
+
+#[test]
+fn large_12_comes_before_a_lower_level_of_minus_infinity() {
+    let sheet = Sheet { points: vec![[0.0; 3]; LIMIT + 1], quads: vec![[0; 4]], labels: vec![] };
+    refused(&sheet, &bottomless(unit_box()), Refusal::Large, "it has 1048577 points, 1 quad and 0 labels");
+}
+
+#[test]
+fn coarsen_without_a_pass_looks_at_no_level() {
+    for lower in [f64::NEG_INFINITY, f64::NAN, f64::INFINITY] {
+        for sheet in [cube(), Sheet::default(), far(), labelled(0, 5)] {
+            let mut left = sheet.clone();
+            assert_eq!(left.coarsen(&Band { lower, ..unit_box() }, 0), Ok(0));
+            assert_eq!(bits(&left), bits(&sheet));
+        }
+    }
+}
+
+#[test]
+fn a_sheet_is_measured_above_minus_infinity_as_above_a_finite_level() {
+    let drawn = |band| (Sheet::extract_candidate(&band, 8).unwrap(), band);
+    for (sheet, band) in [(cube(), unit_box()), (cube().refine().unwrap(), unit_box()), drawn(shell()), drawn(bowl())] {
+        let old = bottomless(band);
+        assert!(sheet.quality(&old).is_ok_and(|quality| quality.tight));
+        assert_eq!(sheet.quality(&old), sheet.quality(&band));
+        assert_eq!(sheet.page(&old), sheet.page(&band));
+        assert_eq!(sheet.corners_per_point(&old), sheet.corners_per_point(&band));
+    }
+}
+
+#[test]
+fn where_a_sheet_is_measured_another_fault_is_told() {
+    let old = bottomless(unit_box());
+    not_measured(&Sheet::default(), &old, Refusal::Bare, "it has no point");
+    not_measured(&far(), &old, Refusal::Corner, "corner 3 of quad 2 is point 8, and there are 8 points");
+    let text = "point 0 lies on two opposite faces, the low y face and the high y face (labels 4 and 5)";
+    not_measured(&labelled(0, 5), &old, Refusal::Clash, text);
+    let text = "the low x face is at 2.0, the high x face at 1.0";
+    not_measured(&cube(), &Band { low: [2.0, 0.0, 0.0], ..old }, Refusal::Box, text);
+    for upper in [f64::INFINITY, f64::NEG_INFINITY] {
+        not_measured(&cube(), &Band { upper, ..old }, Refusal::Box, &format!("the upper level is {upper:?}"));
+    }
+    let text = "at the centre of quad 5 the gradient is (0.0, 0.0, 0.0)";
+    told(labelled(5, 0).quality(&bottomless(flat())), Refusal::Normal, text);
+    told(labelled(5, 0).page(&bottomless(flat())), Refusal::Normal, text);
+}
+
+/// What every operation that takes a band refuses of a sheet, or to draw.
+fn refusals(sheet: &Sheet, band: &Band, number: usize) -> impl Iterator<Item = Refusal> {
+    let mut left = sheet.clone();
+    let results = [
+        Sheet::extract_candidate(band, number).err(),
+        sheet.subdivide(band).err(),
+        sheet.boundary_rows(band).err(),
+        left.regularize(band, number).err(),
+        left.improve_layout(band, number).err(),
+        left.coarsen(band, number).err(),
+        sheet.quality(band).err(),
+        sheet.corners_per_point(band).err(),
+        sheet.page(band).err(),
+    ];
+    results.into_iter().flatten().map(|refused| refused.refusal())
+}
+
+#[test]
+fn bottomless_2_is_never_answered() {
+    const LEVELS: [f64; 7] = [f64::NEG_INFINITY, f64::INFINITY, f64::NAN, f64::MIN, -1.0, 2.0, f64::MAX];
+    let mut numbers = BTreeSet::new();
+    for levels in LEVELS.iter().flat_map(|&lower| LEVELS.map(|upper| [lower, upper])) {
+        for (sheet, number) in [(cube(), 1), (Sheet::default(), 0), (far(), 4), (labelled(0, 5), 3)] {
+            let band = Band { lower: levels[0], upper: levels[1], ..ball() };
+            numbers.extend(refusals(&sheet, &band, number).map(Refusal::number));
+        }
+    }
+    assert!(numbers.contains(&1) && numbers.contains(&3) && !numbers.contains(&2), "{numbers:?}");
 }
 
 #[test]

@@ -6,28 +6,24 @@ use Prim.Native.Nat.{_+_}
 use mathlib.Core.Path.{_≡_, sym, _∙_}
 use mathlib.Core.Bool.{true}
 use lib.Seq.{length-take-le}
-use Rattle.numeric.specs.Num.{finiteOf}
 use Rattle.band.specs.Bands.{validOf}
 use Rattle.rule_sheet.specs.Lent.{workOf}
 use Rattle.rule_extract.specs.Drawing.{goodCells}
-use Rattle.extract.proofs.Stages.{cube, rule-box, rule-bottomless, rule-cells, rule-short, rule-sampled, few-cells, CellsFit, cells-fit, sample-ready}
+use Rattle.extract.proofs.Stages.{cube, rule-box, rule-cells, rule-short, rule-sampled, few-cells, CellsFit, cells-fit, sample-ready}
 use Rattle.extract.proofs.extract_or_refusal.Statement.{statement}
 use Rattle.extract.proofs.extract_or_refusal.Tie as tie
 
 valid : (c : tie.Else1) → validOf (c .before .before .before .before .before .before .before .args .b) ≡ true
 valid c = sym (c .before .validate .ensures) ∙ not-false _ (c .if1 .left)
 
-finite : (c : tie.Else2) → finiteOf (c .before .before .before .before .before .before .before .before .before .args .b .lower) ≡ true
-finite c = sym (c .before .is-finite .ensures) ∙ not-false _ (c .if2 .left)
-
-good : (c : tie.Else3) → goodCells (c .before .before .before .before .before .before .before .before .before .before .before .args .cells) ≡ true
-good c = sym (c .before .good-cells .ensures) ∙ not-false _ (c .if3 .left)
+good : (c : tie.Else2) → goodCells (c .before .before .before .before .before .before .before .before .before .args .cells) ≡ true
+good c = sym (c .before .good-cells .ensures) ∙ not-false _ (c .if2 .left)
 
 abbrev begin : tie.After-grid-of → tie.Start
-begin c = c .before .before .before .before .before .before .before .before .before .before .before .before .before .before
+begin c = c .before .before .before .before .before .before .before .before .before .before .before .before
 
 fit : (c : tie.After-grid-of) → let a = begin c .args in CellsFit (a .cells) (workOf (a .w .now) (a .floats .now))
-fit c = cells-fit _ _ (good (c .before .before .before)) (sym (c .before .before .is-short-work .ensures) ∙ c .before .if4 .left)
+fit c = cells-fit _ _ (good (c .before .before .before)) (sym (c .before .before .is-short-work .ensures) ∙ c .before .if3 .left)
 
 validate-requires : tie.Need-validate-requires
 validate-requires c κs = search needs
@@ -35,23 +31,17 @@ validate-requires c κs = search needs
 returns : tie.Need-returns
 returns c = rule-box _ _ _ _ _ _ _ (sym (c .before .validate .ensures) ∙ not-true _ (c .if1 .taken))
 
-is-finite-requires : tie.Need-is-finite-requires
-is-finite-requires c κs = search needs
-
-returns-2 : tie.Need-returns-2
-returns-2 c = rule-bottomless _ _ _ _ _ _ _ (valid (c .before .before)) (sym (c .before .is-finite .ensures) ∙ not-true _ (c .if2 .taken))
-
 good-cells-requires : tie.Need-good-cells-requires
 good-cells-requires c κs = search needs
 
-returns-3 : tie.Need-returns-3
-returns-3 c = rule-cells _ _ _ _ _ _ _ (valid (c .before .before .before .before)) (finite (c .before .before)) (sym (c .before .good-cells .ensures) ∙ not-true _ (c .if3 .taken))
+returns-2 : tie.Need-returns-2
+returns-2 c = rule-cells _ _ _ _ _ _ _ (valid (c .before .before)) (sym (c .before .good-cells .ensures) ∙ not-true _ (c .if2 .taken))
 
 is-short-work-requires : tie.Need-is-short-work-requires
 is-short-work-requires c κs = few-cells _ (good c)
 
-returns-4 : tie.Need-returns-4
-returns-4 c = rule-short _ _ _ _ _ _ _ (valid (c .before .before .before .before .before .before)) (finite (c .before .before .before .before)) (good (c .before .before)) (sym (c .before .is-short-work .ensures) ∙ c .if4 .taken)
+returns-3 : tie.Need-returns-3
+returns-3 c = rule-short _ _ _ _ _ _ _ (valid (c .before .before .before .before)) (good (c .before .before)) (sym (c .before .is-short-work .ensures) ∙ c .if3 .taken)
 
 grid-of-requires : tie.Need-grid-of-requires
 grid-of-requires c κs = search needs
@@ -92,9 +82,9 @@ same-length-4 c = search needs
 same-length-5 : tie.Need-same-length-5
 same-length-5 c = search needs
 
-returns-5 : tie.Need-returns-5
-returns-5 c = let k = c .before .before .before .before .before .before .before .before .before .before .before .before .before .before .before .before in
-    rule-sampled _ _ _ _ _ _ _ (valid (k .before .before .before .before .before .before .before)) (finite (k .before .before .before .before .before)) (good (k .before .before .before)) _ (sym (k .before .before .is-short-work .ensures) ∙ k .before .if4 .left) (k .grid-of .ensures) (c .before .before .before .before .before .before .before .before .before .before .sample-or-refusal .ensures)
+returns-4 : tie.Need-returns-4
+returns-4 c = let k = c .before .before .before .before .before .before .before .before .before .before .before .before .before .before .before .before in
+    rule-sampled _ _ _ _ _ _ _ (valid (k .before .before .before .before .before)) (good (k .before .before .before)) _ (sym (k .before .before .is-short-work .ensures) ∙ k .before .if3 .left) (k .grid-of .ensures) (c .before .before .before .before .before .before .before .before .before .before .sample-or-refusal .ensures)
 
 pub extract-or-refusal-spec : {M : Type 1} → statement M
 extract-or-refusal-spec =
@@ -102,12 +92,10 @@ extract-or-refusal-spec =
     (tie.spec
     validate-requires
     returns
-    is-finite-requires
-    returns-2
     good-cells-requires
-    returns-3
+    returns-2
     is-short-work-requires
-    returns-4
+    returns-3
     grid-of-requires
     add-m
     mul-count
@@ -121,4 +109,4 @@ extract-or-refusal-spec =
     same-length-3
     same-length-4
     same-length-5
-    returns-5)
+    returns-4)

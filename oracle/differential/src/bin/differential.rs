@@ -1,5 +1,5 @@
 //! differential [CALLS] [SEED]: the library's leaf functions and the original on the same random inputs, every bit
-//! compared.
+//! compared; the tests of a band and of a sheet are compared with a model where a level is not finite.
 use differential::library;
 use oracle::operation::Operation;
 use oracle::{arguments, driver};

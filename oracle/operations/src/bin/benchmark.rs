@@ -8,7 +8,7 @@
 use operations::jobs::JobLent;
 use operations::library::{self, Lent};
 use oracle::bands::UNIT;
-use oracle::call::{self, Call, original};
+use oracle::call::{self, Call};
 use oracle::field::{BandNumbers, Field};
 use oracle::job;
 use oracle::operation::Operation;
@@ -120,7 +120,7 @@ fn best(call: &Call, with_original: bool) -> (f64, Option<f64>) {
 
 /// Whether both answer the same.
 fn agrees(call: &Call) -> bool {
-    library::answer(call).is_some_and(|answer| original(call).same(&answer, call.operation))
+    library::answer(call).is_some_and(|answer| call::expected(call).same(&answer, call.operation))
 }
 
 /// The time in milliseconds over that of the line before, if there was one.

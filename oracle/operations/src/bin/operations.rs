@@ -1,13 +1,17 @@
 //! operations [CALLS] [SEED] [OPERATION]: the library's operations and the original on the same random sheets, every
-//! bit compared: single calls, lists of calls on one sheet, and drawings; with the name of an operation, single calls
-//! of it alone. The library's result and work slices are filled before, and must hold the result and zeros after. Saved
-//! and opened jobs, and the sums of job files, are compared with a second writer and a second reader.
+//! bit compared: single calls, lists of calls on one sheet and drawings, CALLS of them, and behind these some calls with
+//! a level that is not finite. With the name of an operation, single calls of it alone; with the word bottomless, calls
+//! with such a level alone. The library's result and work slices are filled before, and must hold the result and zeros after. Saved and opened jobs,
+//! and the sums of job files, are compared with a second writer and a second reader; what makes, alters or draws a
+//! sheet is compared with a model where a level is not finite.
 use operations::faults::Faults;
 use operations::job_faults::{self, JobFaults};
-use operations::{draws, lists};
-use oracle::arguments;
+use operations::{bottomless, draws, lists};
 use oracle::driver::{self, Shares, Total};
+use oracle::levels::Lowering;
 use oracle::operation::Operation;
+use oracle::random::Random;
+use oracle::{arguments, inputs};
 use std::process::ExitCode;
 
 /// The operations that are compared by single calls, each with its share of 100 calls.
@@ -33,32 +37,59 @@ const LONG: u64 = 1000;
 const IN_LISTS: u64 = 12;
 const DRAWN: u64 = 2;
 
+/// How many calls with a level that is not finite there are for 100 others.
+const BOTTOMLESS: u64 = 2;
+
+/// Which calls are made.
+#[derive(Debug, PartialEq)]
+enum Calls {
+    /// Those of all operations.
+    All,
+    /// Single calls of one.
+    Of(Operation),
+    /// Those with a level that is not finite.
+    Bottomless,
+}
+
+impl Calls {
+    /// Those of a word, which names an operation or is `bottomless`.
+    fn parse(word: &str) -> Result<Calls, String> {
+        if word == "bottomless" { Ok(Calls::Bottomless) } else { named(word).map(Calls::Of) }
+    }
+}
+
 /// What a command line asks for.
 struct Asked {
     calls: u64,
     seed: u64,
-    /// The one operation that is called, if one is named.
-    operation: Option<Operation>,
+    which: Calls,
 }
 
 impl Asked {
     /// What the words of the command line ask for.
     fn parse() -> Result<Asked, String> {
-        let operation = arguments::word(3).map(|name| named(&name)).transpose()?;
-        Ok(Asked { calls: arguments::number(1, 200_000)?, seed: arguments::number(2, 1)?, operation })
+        let which = arguments::word(3).map_or(Ok(Calls::All), |word| Calls::parse(&word))?;
+        Ok(Asked { calls: arguments::number(1, 200_000)?, seed: arguments::number(2, 1)?, which })
     }
 
     /// Compares all calls; whether none differs.
     fn run(self) -> bool {
-        let Asked { calls, seed, operation } = self;
-        if let Some(operation) = operation {
-            return driver::ends_well(single_calls(&[(operation, 100)], calls, seed));
-        }
-        let mut total = single_calls(&SHARES, calls, seed);
-        total += lists::run(calls * IN_LISTS / 100, seed);
-        total += draws::run(calls * DRAWN / 100, seed);
-        driver::ends_well(total)
+        let Asked { calls, seed, which } = self;
+        driver::ends_well(match which {
+            Calls::All => all_calls(calls, seed),
+            Calls::Of(operation) => single_calls(&[(operation, 100)], calls, seed),
+            Calls::Bottomless => bottomless::run(calls, seed),
+        })
     }
+}
+
+/// Compares single calls, lists and drawings, as many calls in all, and some more with a level that is not finite.
+fn all_calls(calls: u64, seed: u64) -> Total {
+    let mut total = single_calls(&SHARES, calls, seed);
+    total += lists::run(calls * IN_LISTS / 100, seed);
+    total += draws::run(calls * DRAWN / 100, seed);
+    total += bottomless::run(calls * BOTTOMLESS / 100, seed);
+    total
 }
 
 /// The operation of a name.
@@ -67,14 +98,17 @@ fn named(name: &str) -> Result<Operation, String> {
     known.find(|operation| operation.name() == name).ok_or_else(|| format!("{name} is no operation"))
 }
 
-/// Compares single calls, some of them with faults of lending; prints a line for each operation and one for the faults.
+/// Compares single calls, some of them with faults of lending, and some of those that measure with a lower level of
+/// minus infinity; prints a line for each operation and one for the faults.
 fn single_calls(shares: &Shares, calls: u64, seed: u64) -> Total {
+    let (mut r, mut lowering) = (Random::new(seed), Lowering::new(seed));
+    let draw = |operation| lowering.change(inputs::call(&mut r, operation));
     let (mut faults, mut job_faults) = (Faults::new(seed), JobFaults::new(seed));
-    let mut total = driver::single_calls(shares, calls, seed, |call| match call.operation.is_of_a_job() {
+    let mut total = driver::single_calls(shares, calls, draw, |call| match call.operation.is_of_a_job() {
         true => job_faults.ask(call),
         false => faults.ask(call),
     });
-    faults.print();
+    faults.print("");
     job_faults.print();
     if calls >= LONG && shares.iter().any(|share| share.0.is_of_a_job()) {
         total += job_faults::at_the_limit();
@@ -87,7 +121,7 @@ fn main() -> ExitCode {
         Ok(true) => ExitCode::SUCCESS,
         Ok(false) => ExitCode::FAILURE,
         Err(wrong) => {
-            eprintln!("{wrong}: operations [CALLS] [SEED] [OPERATION]");
+            eprintln!("{wrong}: operations [CALLS] [SEED] [OPERATION or bottomless]");
             ExitCode::FAILURE
         }
     }
@@ -112,5 +146,12 @@ mod tests {
         for wrong in ["corners", "sqrt", "8", ""] {
             assert_eq!(named(wrong), Err(format!("{wrong} is no operation")));
         }
+    }
+
+    #[test]
+    fn a_word_is_an_operation_or_bottomless() {
+        assert_eq!(Calls::parse("bottomless"), Ok(Calls::Bottomless));
+        assert_eq!(Calls::parse("page"), Ok(Calls::Of(Operation::Page)));
+        assert_eq!(Calls::parse("bottom"), Err("bottom is no operation".into()));
     }
 }

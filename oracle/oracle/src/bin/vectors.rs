@@ -1,6 +1,6 @@
 //! vectors write FILE [SEED]: writes the sample.
-//! vectors check FILE: asks the original again and compares.
-use oracle::call::original;
+//! vectors check FILE: works out again what is expected and compares.
+use oracle::call::expected;
 use oracle::record::{self, Record, shortened};
 use oracle::sample;
 use std::collections::BTreeMap;
@@ -27,16 +27,16 @@ fn write(path: &str, seed: &str) -> Result<String, String> {
     Ok(format!("{}, {} bytes", table(&records), bytes.len()))
 }
 
-/// Compares a stored sample with what the original answers now.
+/// Compares a stored sample with what is expected now.
 fn check(path: &str) -> Result<String, String> {
     let bytes = std::fs::read(path).map_err(|error| format!("{path}: {error}"))?;
     let records = record::read(&bytes)?;
     for (i, Record { call, answer }) in records.iter().enumerate() {
-        if !shortened(original(call)).same(answer, call.operation) {
+        if !shortened(expected(call)).same(answer, call.operation) {
             return Err(format!("record {i} ({}) differs", call.operation.name()));
         }
     }
-    Ok(format!("{}, all as the original answers", table(&records)))
+    Ok(format!("{}, all as expected", table(&records)))
 }
 
 fn main() -> ExitCode {

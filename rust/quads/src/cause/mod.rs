@@ -9,7 +9,7 @@ use crate::sheet::Counts;
 #[derive(Clone, Copy, Debug, PartialEq)]
 #[non_exhaustive]
 pub enum Cause {
-    /// 1: a level that is not finite.
+    /// 1: a level that is not finite; where a sheet is measured, never a lower level of minus infinity.
     Level {
         /// Which level.
         level: Label,
@@ -285,7 +285,7 @@ impl Cause {
     /// What can be done, where that depends on the cause.
     pub(crate) fn advice(&self) -> Option<&'static str> {
         match *self {
-            Cause::Level { .. } | Cause::Levels { .. } => Some("give a finite upper level and a lower level below it"),
+            Cause::Level { .. } | Cause::Levels { .. } => Some("give finite levels, the lower below the upper"),
             Cause::Bound { .. } | Cause::Bounds { .. } => {
                 Some("give a finite box whose low corner is below its high corner")
             }

@@ -51,7 +51,8 @@ pub(crate) fn opening(refusal: Refusal, file: &[u8]) -> Option<Cause> {
     }
 }
 
-/// Why another operation refused a sheet. What a sheet has not itself, the sheet that was to be made has.
+/// Why an operation that makes or alters a sheet refused the one that it was lent. What a sheet has not itself, the
+/// sheet that was to be made has.
 pub(crate) fn lent(refusal: Refusal, sheet: &Sheet, band: &Band) -> Option<Cause> {
     match refusal {
         Refusal::Large => Some(Cause::Large(sheet.counts())),
@@ -62,6 +63,18 @@ pub(crate) fn lent(refusal: Refusal, sheet: &Sheet, band: &Band) -> Option<Cause
         Refusal::Edge => sheet::edge(sheet),
         Refusal::Astray => finer::astray(sheet, band),
         Refusal::Row => rows::row(sheet, band),
+        _ => None,
+    }
+}
+
+/// Why an operation that measures a sheet refused it. Its lower level may be minus infinity.
+pub(crate) fn measuring(refusal: Refusal, sheet: &Sheet, band: &Band) -> Option<Cause> {
+    match refusal {
+        Refusal::Large => Some(Cause::Large(sheet.counts())),
+        Refusal::Box => band::measured_fault(band),
+        Refusal::Bare => sheet::bare(sheet),
+        Refusal::Corner => sheet::corner(sheet),
+        Refusal::Clash => sheet::clash(sheet),
         Refusal::Normal => normals::normal(sheet, band),
         _ => None,
     }

@@ -84,6 +84,11 @@ impl Operation {
     }
 }
 
+/// Whether a number is that of a refusal which the library returns: 2 is no longer one.
+fn is_returned(number: u32) -> bool {
+    Refusal::try_from(number).is_ok_and(|refusal| refusal != Refusal::Bottomless)
+}
+
 /// What a call is lent, between margins.
 #[derive(Clone)]
 pub struct Lent {
@@ -179,7 +184,7 @@ impl Lent {
     pub fn broken(&self, before: &Lent, operation: Operation, number: u32) -> Vec<&'static str> {
         let accepted = number == 0;
         let checks = [
-            (accepted || Refusal::try_from(number).is_ok(), "the number is none of the table"),
+            (accepted || is_returned(number), "the number is none of the table, or 2"),
             (self.is_intact(), "something is written outside of the slices"),
             (self.reads_stay(before, operation, accepted), "something that is only read is changed"),
             (self.work_fits(before, operation), "the work slices are not zero, or not as they came"),
@@ -234,8 +239,8 @@ impl Lent {
     }
 
     /// Whether a short list is refused in its place: a band's with nothing before it but 12, an answer's, a page, a
-    /// header, a file and the work of a job so too, but where a sheet is drawn also behind 1, 2 and 3, where a job file
-    /// is read behind 14.
+    /// header, a file and the work of a job so too, but where a sheet is drawn also behind 1 and 3, where a job file is
+    /// read behind 14.
     fn short_is_told(&self, operation: Operation, number: u32) -> bool {
         let draws = operation == Operation::Extract;
         let band = operation.takes_band() && (self.numbers.list().len() < 10 || self.bounds.list().len() < 6);
@@ -245,7 +250,7 @@ impl Lent {
         let mute = self.answer.list().len() < operation.answers() || measures || page || job;
         match (band, mute) {
             (true, _) if draws => number == 13,
-            (_, true) if draws => matches!(number, 1 | 2 | 3 | 13),
+            (_, true) if draws => matches!(number, 1 | 3 | 13),
             (_, true) if operation == Operation::Sum => matches!(number, 13 | 14),
             (_, true) if operation.reads_file() => matches!(number, 12..=14),
             (true, _) | (_, true) => matches!(number, 12 | 13),

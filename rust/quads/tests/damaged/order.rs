@@ -13,6 +13,14 @@ fn banded() -> impl Iterator<Item = Operation> {
     OPERATIONS.into_iter().filter(|operation| operation.takes_band() && *operation != Operation::Extract)
 }
 
+/// Those of them that make or alter a sheet.
+fn changing() -> impl Iterator<Item = Operation> {
+    banded().filter(|operation| !MEASURING.contains(operation))
+}
+
+/// Those of them that measure the sheet.
+const MEASURING: [Operation; 3] = [Operation::Quality, Operation::Corners, Operation::Page];
+
 /// Calls an operation, right but for the faults: its number and what it left.
 fn call(operation: Operation, faults: &[Fault]) -> (u32, Lent) {
     let draws = operation == Operation::Extract;
@@ -43,6 +51,13 @@ const BOTTOMLESS: Fault = |input| input.levels[0] = f64::NEG_INFINITY;
 const THREE_CELLS: Fault = |input| input.argument = 3;
 const NO_SAMPLES: Fault = |input| input.numbers[3] = f64::NAN;
 
+/// No room for a new sheet.
+const NO_ROOM: Fault = |input| {
+    input.new_points.clear();
+    input.new_quads.clear();
+    input.new_labels.clear();
+};
+
 /// Every quad on the upper level of a field without a direction.
 const FLAT: Fault = |input| {
     input.numbers.fill(0.0);
@@ -65,6 +80,10 @@ pub const IN_ORDER: [(Fault, u32); 7] = [
     (OPPOSITE, 7),
     (FLAT, 11),
 ];
+
+/// A fault for each number between which a lower level of minus infinity is told, in the order in which they are.
+const AROUND_BOTTOMLESS: [(Fault, u32); 6] =
+    [(LARGE, 12), (FEW_NUMBERS, 13), (BOTTOMLESS, 1), (NO_POINT, 5), (|input| input.labels[0] = 8, 6), (OPPOSITE, 7)];
 
 /// An answer slice, or a page, that is one element too short for an operation.
 fn few_answers(operation: Operation) -> Fault {
@@ -114,21 +133,62 @@ fn coarsen_without_a_pass_meets_large_and_short_only() {
     assert_eq!(number(Operation::Coarsen, &[NO_PASS, NO_KIND, NO_POINT]), 0);
     assert_eq!(number(Operation::Coarsen, &[NO_PASS, NO_KIND, FEW_BOUNDS]), 13);
     assert_eq!(number(Operation::Coarsen, &[NO_PASS, FEW_BOUNDS, LARGE]), 12);
+    assert_eq!(number(Operation::Coarsen, &[NO_PASS, BOTTOMLESS]), 0);
+    assert_eq!(number(Operation::Coarsen, &[NO_PASS, BOTTOMLESS, NO_POINT]), 0);
+    assert_eq!(number(Operation::Coarsen, &[NO_PASS, BOTTOMLESS, FEW_WORK]), 13);
+    assert_eq!(number(Operation::Coarsen, &[NO_PASS, BOTTOMLESS, LARGE]), 12);
 }
 
 #[test]
 fn a_drawing_is_refused_in_its_order() {
     for fault in [FEW_NUMBERS, FEW_BOUNDS] {
         assert_eq!(number(Operation::Extract, &[fault, NO_KIND]), 13);
+        assert_eq!(number(Operation::Extract, &[fault, BOTTOMLESS]), 13);
         assert_eq!(number(Operation::Extract, &[fault, THREE_CELLS]), 13);
     }
     for fault in [few_answers(Operation::Extract), FEW_WORK] {
         assert_eq!(number(Operation::Extract, &[fault, NO_KIND]), 1);
-        assert_eq!(number(Operation::Extract, &[fault, BOTTOMLESS]), 2);
+        assert_eq!(number(Operation::Extract, &[fault, BOTTOMLESS]), 1);
         assert_eq!(number(Operation::Extract, &[fault, THREE_CELLS]), 3);
         assert_eq!(number(Operation::Extract, &[fault, NO_SAMPLES]), 13);
     }
     assert_eq!(number(Operation::Extract, &[NO_SAMPLES]), 4);
+}
+
+#[test]
+fn a_drawing_above_minus_infinity_is_refused_before_its_cells_its_samples_and_its_room() {
+    assert_eq!(number(Operation::Extract, &[BOTTOMLESS]), 1);
+    for fault in [THREE_CELLS, NO_SAMPLES, NO_ROOM, NO_KIND] {
+        assert_eq!(number(Operation::Extract, &[fault, BOTTOMLESS]), 1);
+        assert_eq!(number(Operation::Extract, &[BOTTOMLESS, fault]), 1);
+    }
+    assert_eq!(number(Operation::Extract, &[NO_ROOM]), 13);
+}
+
+#[test]
+fn a_lower_level_of_minus_infinity_is_refused_in_the_place_of_a_band() {
+    for operation in changing() {
+        assert_in_order(operation, &AROUND_BOTTOMLESS);
+        for fault in [FEW_NUMBERS, FEW_BOUNDS, few_answers(operation), FEW_WORK] {
+            assert_eq!(number(operation, &[BOTTOMLESS, fault]), 13, "{operation:?}");
+        }
+        assert_eq!(number(operation, &[BOTTOMLESS, NO_KIND]), 1, "{operation:?}");
+        assert_eq!(number(operation, &[BOTTOMLESS, NO_ROOM]), 1, "{operation:?}");
+    }
+    for operation in [Operation::Regularize, Operation::ImproveLayout] {
+        assert_eq!(number(operation, &[BOTTOMLESS, NO_PASS]), 1, "{operation:?}");
+    }
+}
+
+#[test]
+fn where_a_sheet_is_measured_a_lower_level_of_minus_infinity_is_no_fault() {
+    for operation in MEASURING {
+        assert_eq!(number(operation, &[BOTTOMLESS]), 0, "{operation:?}");
+        for (fault, expected) in IN_ORDER {
+            let expected = if (operation, expected) == (Operation::Corners, 11) { 0 } else { expected };
+            assert_eq!(number(operation, &[BOTTOMLESS, fault]), expected, "{operation:?}");
+        }
+    }
 }
 
 #[test]
