@@ -1,22 +1,22 @@
 -- No operation refuses with 2. Assumes nothing.
 use Prim.Native.Nat.{ℕ, _+_}
 use native.Mathlib.Omega.{arith}
-use mathlib.Core.Path.{refl}
+use mathlib.Core.Path.{refl, ap}
 use mathlib.Core.Logic.{_≢_, inl, inr}
-use mathlib.Core.Bool.{Bool, true, false, cond, not, _||_}
+use mathlib.Core.Bool.{Bool, cond, not, _||_}
 use mathlib.Core.List.{List}
 use lib.Dec.{eqb, ltb}
 use lib.ListN.{length}
 use Rattle.lists.specs.Every.{every}
 use Rattle.band.specs.Bands.{validOf, measurableOf}
-use Rattle.setting.specs.Settings.{Domain, Setting, bandIn, domainIn}
+use Rattle.setting.specs.Settings.{Domain, Setting, bandIn, domainIn, settingOf}
 use Rattle.rule_sheet.specs.declared.Counts.{Counts}
-use Rattle.rule_sheet.specs.declared.Verdict.the-variants.{Refused}
+use Rattle.rule_sheet.specs.declared.Verdict.the-variants.{Accepted, Refused}
 use Rattle.rule_sheet.specs.Numbers.{box, bare, cornerNumber, clash, edgeNumber, short}
-use Rattle.rule_sheet.specs.Quads.{Quad, all}
+use Rattle.rule_sheet.specs.Quads.{all}
 use Rattle.rule_sheet.specs.Tests.{inRange, goodMasks}
-use Rattle.rule_sheet.specs.Sheet.{Sheet, countsOf, isBare}
-use Rattle.rule_sheet.specs.Lent.{Lent, Work, Room, held, roomIn, isLarge, isShort, lentVerdict}
+use Rattle.rule_sheet.specs.Sheet.{countsOf, isBare}
+use Rattle.rule_sheet.specs.Lent.{Lent, Work, Room, workWith, held, roomIn, isLarge, isShort, lentVerdict}
 use Rattle.rule_sheet.specs.Outcomes.{Outcome, refuses, gives, withRoom}
 use Rattle.rule_admission.specs.Admission.{domainVerdict, measurableVerdict, admits, measurable}
 use Rattle.rule_admission.proofs.Numbers.{Number, Refusal, accepted, refused, given, refusing, either-number, either-refusal, after-refusal, said}
@@ -29,10 +29,8 @@ use Rattle.rule_finer.specs.Smoothed.{paired, smoothSheet}
 use Rattle.rule_finer.specs.Subdivide.{astray, landsAt, projected, subdivided, subdivideRule}
 use Rattle.projection.specs.Project.{isOnto}
 use Rattle.rule_rows.specs.Rows.{row, copies, copyOf, rowsSheet, rowsMade, rowed, rowsRule}
-use Rattle.rule_quality.specs.declared.Measures.{Measures}
-use Rattle.rule_quality.specs.declared.Measured.the-variants as measured
-use Rattle.rule_quality.specs.Measure.{normalNumber, hasNormal, cellsOf, measuresOf, measureRule}
-use Rattle.rule_quality.specs.Quality.{Assessment, withCounts, qualityRule}
+use Rattle.rule_quality.specs.Quality.{Assessment, qualityRule}
+use Rattle.rule_quality.proofs.Numbers.{measured-number}
 use Rattle.rule_corners.specs.Corners.{cornersRule}
 use Rattle.rule_page.specs.Page.{pageSize, pageOutcome, pageRule}
 use Rattle.rule_extract.specs.Grids.{gridOf}
@@ -41,7 +39,9 @@ use Rattle.rule_job.specs.declared.Trailer.{Trailer}
 use Rattle.rule_job.specs.declared.Trailer.the-variants.{Found, Broken}
 use Rattle.rule_job.specs.Files.{Job, sumOf, trailerOf, jobIn}
 use Rattle.rule_job.specs.Jobs.{trailerNumber, sumNumber, JobRoom, isShortJob, isOther, summed, openWith, saveRule, sumBy}
-use Rattle.band_exact.specs.Exact.{OfDrawing, DrawingNumbers, NeverBottomless}
+use Rattle.rule_exports.specs.Told.{Told, bandOf, isShortTold}
+use Rattle.rule_exports.specs.Exports.{isShortAnswer}
+use Rattle.band_exact.specs.Exact.{OfDrawing, DrawingNumbers, NeverBottomless, NeverShown}
 
 -- ---- the numbers of a drawing
 
@@ -153,17 +153,9 @@ rows-by s x w room =
     (after-refusal Other (sheet-number Other sheet-numbers t) (given Other t)) (refusing Other edgeNumber (λ e. omega arith)))
     (refusing Other row (λ e. omega arith))))
 
-counted : (n : ℕ) (S : List Quad) (d : Domain) (s : Sheet) → Refusal Other (withCounts n S (measureRule d s))
-unfolding measureRule
-counted n S d s = go (all hasNormal (cellsOf d s)) (measuresOf (cellsOf d s))
-  where
-    go : (b : Bool) (m : Measures) → Refusal Other (withCounts n S (cond b (measured.Done m) (measured.Refused normalNumber)))
-    go true m = given Other _
-    go false m = refusing Other normalNumber (λ e. omega arith)
-
 quality-by : (d : Domain) (x : Lent) (w : Work) → Refusal Other (qualityRule d x w)
 unfolding qualityRule
-quality-by d x w = after-refusal Other (measured-by d x w) (counted (length (held x .points)) (held x .quads) d (held x))
+quality-by d x w = after-refusal Other (measured-by d x w) (measured-number Other (λ e. omega arith) (length (held x .points)) (held x .quads) d (held x))
 
 corners-by : (d : Domain) (x : Lent) (w : Work) → Refusal Other (cornersRule d x w)
 unfolding cornersRule
@@ -208,4 +200,25 @@ never-bottomless = record {
   save = λ j w n. never (saved-by j w n);
   opened = λ F room. never (opened-by F room (trailerOf F));
   sum = λ F tooShort. never (summed-by (trailerOf F) tooShort);
+}
+
+-- ---- the exports
+
+other-refusal : {A : Type 0} (o : Outcome A) → o ≢ refuses bottomless → Refusal Other o
+other-refusal (refuses n) p = refusing Other n (λ e. p (ap refuses e))
+other-refusal (gives x) p = given Other x
+
+short-told : (t : Told) → Number Other (cond (isShortTold t) (Refused short) Accepted)
+short-told t = either-number Other (isShortTold t) (refused Other short (λ e. omega arith)) (accepted Other)
+
+pub never-shown : NeverShown
+never-shown = record {
+  answered = λ c l o p. never (after-refusal Other (before-number Other sheet-numbers c (isShortAnswer l)) (other-refusal o p));
+  told = λ c few t rule p.
+      let s = settingOf (bandOf t) in
+      never (after-refusal Other (before-number Other sheet-numbers c (few || isShortTold t)) (other-refusal (rule s) (p s)));
+  drawn = λ few t w rule p.
+      let s = settingOf (bandOf t) in
+      let v = cond few (workWith 0 0) w in
+      never (after-refusal Other (short-told t) (other-refusal (rule s v) (p s v)));
 }

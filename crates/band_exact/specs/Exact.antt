@@ -9,6 +9,7 @@ use Rattle.numeric.specs.Num.{finiteOf}
 use Rattle.band.specs.declared.Band.{Band}
 use Rattle.band.specs.Bands.{boxValidOf, measurableLevelsOf, validOf, measurableOf}
 use Rattle.setting.specs.Settings.{Domain, Setting, bandIn, domainIn, domainOf}
+use Rattle.rule_sheet.specs.declared.Counts.{Counts}
 use Rattle.rule_sheet.specs.declared.Verdict.the-variants.{Accepted}
 use Rattle.rule_sheet.specs.Numbers.{box, bare, clash, short}
 use Rattle.rule_sheet.specs.Lent.{Lent, Work, Room, held, roomIn, lentVerdict}
@@ -25,6 +26,8 @@ use Rattle.rule_page.specs.Page.{pageRule}
 use Rattle.rule_extract.specs.Drawing.{bottomless, cellsNumber, samplesNumber, extractRule}
 use Rattle.rule_job.specs.Files.{Job}
 use Rattle.rule_job.specs.Jobs.{JobRoom, saveRule, openRule, sumRule}
+use Rattle.rule_exports.specs.Told.{Told, byTold, drawnByTold}
+use Rattle.rule_exports.specs.Exports.{withAnswer}
 
 -- ---- the two tests of a band
 
@@ -109,3 +112,13 @@ pub record NeverBottomless : Type 0 where
   pub save : (j : Job) (w n : ℕ) → saveRule j w n ≢ refuses bottomless
   pub opened : (F : List ℕ) (room : JobRoom) → openRule F room ≢ refuses bottomless
   pub sum : (F : List ℕ) (tooShort : Bool) → sumRule F tooShort ≢ refuses bottomless
+
+-- nor does an export: what it tests in front of an operation, with and without a band and in a drawing, refuses with
+-- other numbers
+pub record NeverShown : Type 1 where
+  pub answered : {A : Type 0} (c : Counts) (l : List ℕ) (o : Outcome A)
+      → o ≢ refuses bottomless → withAnswer c l o ≢ refuses bottomless
+  pub told : {A : Type 0} (c : Counts) (few : Bool) (t : Told) (rule : Setting → Outcome A)
+      → ((s : Setting) → rule s ≢ refuses bottomless) → byTold c few t rule ≢ refuses bottomless
+  pub drawn : {A : Type 0} (few : Bool) (t : Told) (w : Work) (rule : Setting → Work → Outcome A)
+      → ((s : Setting) (v : Work) → rule s v ≢ refuses bottomless) → drawnByTold few t w rule ≢ refuses bottomless

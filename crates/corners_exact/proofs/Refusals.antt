@@ -1,9 +1,7 @@
 -- `corners_per_point` is refused as `quality` is, apart from 11. Assumes nothing.
 use Prim.Native.Nat.{ℕ}
-use mathlib.Core.Path.{_≡_, ap, sym}
+use mathlib.Core.Path.{_≡_, refl, ap}
 use mathlib.Core.Logic.{_≢_}
-use mathlib.Core.Bool.{Bool, true, false, cond}
-use mathlib.Core.List.{List}
 use native.Mathlib.Omega.{arith}
 use lib.ListN.{length}
 use Rattle.band.specs.Bands.{measurableOf}
@@ -11,16 +9,14 @@ use Rattle.setting.specs.Settings.{Domain, bandIn}
 use Rattle.rule_sheet.specs.declared.Verdict.{Verdict}
 use Rattle.rule_sheet.specs.declared.Verdict.the-variants.{Accepted, Refused}
 use Rattle.rule_sheet.specs.Numbers.{box}
-use Rattle.rule_sheet.specs.Quads.{Quad, all}
-use Rattle.rule_sheet.specs.Sheet.{Sheet, countsOf}
+use Rattle.rule_sheet.specs.Sheet.{countsOf}
 use Rattle.rule_sheet.specs.Lent.{Lent, Work, held}
 use Rattle.rule_sheet.specs.Outcomes.{Outcome, refuses, gives, afterTest}
 use Rattle.rule_admission.specs.Admission.{measurableVerdict, measurable}
-use Rattle.rule_admission.proofs.Numbers.{Number, accepted, refused, either-number, SheetNumbers, admits-number}
-use Rattle.rule_quality.specs.declared.Measures.{Measures}
-use Rattle.rule_quality.specs.declared.Measured.the-variants as measured
-use Rattle.rule_quality.specs.Measure.{cellsOf, hasNormal, measuresOf, normalNumber, measureRule}
+use Rattle.rule_admission.proofs.Numbers.{Number, accepted, refused, either-number, said, SheetNumbers, admits-number}
+use Rattle.rule_quality.specs.Measure.{normalNumber, measureRule}
 use Rattle.rule_quality.specs.Quality.{Assessment, withCounts, qualityRule}
+use Rattle.rule_quality.proofs.Numbers.{measured-number}
 use Rattle.rule_corners.specs.declared.Ratio.{Ratio}
 use Rattle.rule_corners.specs.Corners.{ratioOf, cornersRule}
 use Rattle.corners_exact.specs.Exact.{EveryRefusal}
@@ -51,15 +47,6 @@ abbrev numberOr : {A : Type 0} → ℕ → Outcome A → ℕ
 numberOr n (refuses k) = k
 numberOr n (gives x) = n
 
--- what measuring refuses, it refuses with 11
-measures-normal : (n : ℕ) (S : List Quad) (d : Domain) (s : Sheet) (k : ℕ) → withCounts n S (measureRule d s) ≡ refuses k → k ≡ normalNumber
-unfolding measureRule
-measures-normal n S d s k e = go (all hasNormal (cellsOf d s)) (measuresOf (cellsOf d s)) e
-  where
-    go : (b : Bool) (m : Measures) → withCounts n S (cond b (measured.Done m) (measured.Refused normalNumber)) ≡ refuses k → k ≡ normalNumber
-    go true m h = absurd (let z : _≡_ {A = ℕ} 0 1 = cc in omega arith)
-    go false m h = sym (ap (numberOr k) h)
-
 there : (v : Verdict) (q : Ratio) (o : Outcome Assessment) (n : ℕ) → Number Other v → afterTest v (gives q) ≡ refuses n → (afterTest v o ≡ refuses n) × (n ≢ normalNumber)
 there Accepted q o n p h = absurd (let z : _≡_ {A = ℕ} 0 1 = cc in omega arith)
 there (Refused k) q o n p h = let e : k ≡ n = ap (numberOr n) h in (ap refuses e, rw e at (p .is))
@@ -75,4 +62,4 @@ unfolding EveryRefusal cornersRule qualityRule
 every-refusal d x w n =
     let q = ratioOf (countsOf (held x)) in
     let o = withCounts (length (held x .points)) (held x .quads) (measureRule d (held x)) in
-    (there (measurable d x w) q o n (tests-other d x w), here (measurable d x w) q o n (measures-normal (length (held x .points)) (held x .quads) d (held x) n))
+    (there (measurable d x w) q o n (tests-other d x w), here (measurable d x w) q o n (said (λ k. k ≡ normalNumber) (measured-number (λ k. k ≡ normalNumber) refl (length (held x .points)) (held x .quads) d (held x))))

@@ -1,0 +1,2 @@
+-- `Numbers` has the number with which measuring refuses.
+pub mod Numbers
