@@ -182,6 +182,8 @@ uint32_t quads_boundary_rows(
 /*
  * Swaps edges inside one label that bring the points nearer to four quads each, in at most `passes` passes; it ends early once a pass swaps
  * nothing. Only the quads are written. answer[0] is the number of swaps.
+ * A pass keeps how many quads each point has in one element of `work` for each point; no such number passes QUADS_LIMIT,
+ * whatever the sheet is, and a point may have all of QUADS_LIMIT quads. Sums of them are worked in 64 bits.
  * Refusals: LARGE, SHORT (lent), BOX, BARE, CORNER, CLASH; also with no pass.
  */
 uint32_t quads_regularize(

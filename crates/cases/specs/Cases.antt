@@ -146,13 +146,18 @@ pillow = patch square (backToBack 0 1 2 3)
 unfoldable pub twoPillows : Sheet
 twoPillows = patch (square ++ middles) (backToBack 0 1 2 3 ++ backToBack 0 4 5 6)
 
+-- six points: with the edge from 0 to 1 they are two quads, 0 1 3 5 and 1 0 2 4, and with the diagonal from 2 to 3 two
+-- squares
+abbrev pub hexagon : List Point
+hexagon =
+    point zeroF zeroF one ∷ point one half one ∷ point half zeroF one ∷ point half half one ∷ point one zeroF one
+    ∷ point zeroF half one ∷ []
+
 -- Two quads along the edge from 0 to 1, and the diagonal from 2 to 3 that may take its place and makes two squares of
 -- them. The points 0, 1, 2 and 3 have va, vb, vc and vd quads; so many are at 4 and 5 that the diagonal from 4 to 5 is
 -- never taken.
 unfoldable pub swapPatch : ℕ → ℕ → ℕ → ℕ → Sheet
-swapPatch va vb vc vd = patch
-    (point zeroF zeroF one ∷ point one half one ∷ point half zeroF one ∷ point half half one ∷ point one zeroF one
-    ∷ point zeroF half one ∷ replicate 3 (point zeroF zeroF one))
+swapPatch va vb vc vd = patch (hexagon ++ replicate 3 (point zeroF zeroF one))
     (quad 0 1 3 5 ∷ quad 1 0 2 4 ∷ (spokes (va - 2) 0 6 ++ spokes (vb - 2) 1 6 ++ spokes (vc - 1) 2 6
     ++ spokes (vd - 1) 3 6 ++ spokes va 4 6 ++ spokes vb 5 6))
 

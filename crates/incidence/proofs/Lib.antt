@@ -1,3 +1,4 @@
--- `Corners` has the laws of the sorts of corners, `Marks` those of the marks.
+-- `Corners` has the laws of the sorts of corners, `Marks` those of the marks, `Bounds` how large valences are.
 pub mod Corners
 pub mod Marks
+pub mod Bounds

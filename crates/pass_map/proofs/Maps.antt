@@ -9,7 +9,10 @@ use Rattle.lists.specs.Regions.{Part, Out, Out3, Apart, Kept, Three}
 use Rattle.lists.proofs.Regions.{part-of, part-kept, kept-then}
 use Rattle.rule_sheet.specs.Quads.{valence}
 use Rattle.rule_sheet.specs.Flat.{quadsOf}
+use Rattle.rule_sheet.specs.Claims.{All, Differ}
+use Rattle.rule_sheet.specs.Lent.{limit}
 use Rattle.incidence.specs.Corners.{edgeOrder, cornersAt, firstAt}
+use Rattle.incidence.specs.Bounds.{Bounded}
 use Rattle.edges.specs.Steps.{firstEdge}
 use Rattle.edges.proofs.Maps.{mapped, standing, mapped-kept, standing-kept, quads-take}
 use Rattle.pass_map.specs.Regions.{wasAt, workAt, edgeStartsAt, edgesAt, pointStartsAt, pointsAt, valencesAt, Beside, wasIn, startIn}
@@ -39,20 +42,21 @@ module _ {np nq : ℕ} {Q u v x y w : List ℕ} (M : MapAsks np nq Q u)
     × Kept (Out3 (workAt np nq) (4 * nq) (edgeStartsAt np nq) (np + 1) (edgesAt np nq) (4 * nq)) v x))
     (C : Part (pointStartsAt np nq) (np + 1) (tabulate (firstAt nq Q) (np + 1)) y × (Part (pointsAt np nq) (4 * nq) (cornersAt np nq Q) y
     × Kept (Out3 (workAt np nq) (4 * nq) (pointStartsAt np nq) (np + 1) (pointsAt np nq) (4 * nq)) x y))
-    (D : Part (valencesAt np nq) np (tabulate (valence (quadsOf nq Q)) np) w × Kept (Out (valencesAt np nq) np) y w) where
+    (D : Part (valencesAt np nq) np (tabulate (valence (quadsOf nq Q)) np) w × (Kept (Out (valencesAt np nq) np) y w
+    × (All Differ (quadsOf nq Q) → nq ≤ limit → Bounded (valencesAt np nq) np w))) where
   was : Part (wasAt np nq) (4 * nq) (take (4 * nq) Q) w
   was =
       part-kept (part-kept (part-kept (A .0) (B .1 .1) (λ i p q. ((λ a b. omega arith), ((λ a b. omega arith), (λ a b. omega arith)))))
       (C .1 .1) (λ i p q. ((λ a b. omega arith), ((λ a b. omega arith), (λ a b. omega arith)))))
-      (D .1) (λ i p q. λ a b. omega arith)
+      (D .1 .0) (λ i p q. λ a b. omega arith)
 
   order : Part (edgesAt np nq) (4 * nq) (edgeOrder np nq Q) w
-  order = part-kept (part-kept (B .0) (C .1 .1) (λ i p q. ((λ a b. omega arith), ((λ a b. omega arith), (λ a b. omega arith))))) (D .1) (λ i p q. λ a b. omega arith)
+  order = part-kept (part-kept (B .0) (C .1 .1) (λ i p q. ((λ a b. omega arith), ((λ a b. omega arith), (λ a b. omega arith))))) (D .1 .0) (λ i p q. λ a b. omega arith)
 
   starts : Part (edgeStartsAt np nq) (np + 1) (tabulate (firstEdge np nq Q) (np + 1)) w
   starts =
       let s = M .work .some in
-      part-kept (part-kept (B .1 .0) (C .1 .1) (λ i p q. ((λ a b. omega arith), ((λ a b. omega arith), (λ a b. omega arith))))) (D .1) (λ i p q. λ a b. omega arith)
+      part-kept (part-kept (B .1 .0) (C .1 .1) (λ i p q. ((λ a b. omega arith), ((λ a b. omega arith), (λ a b. omega arith))))) (D .1 .0) (λ i p q. λ a b. omega arith)
 
   beside : Kept (Beside np nq) u w
   beside =
@@ -62,7 +66,7 @@ module _ {np nq : ℕ} {Q u v x y w : List ℕ} (M : MapAsks np nq Q u)
       (kept-then {R = Beside np nq} (A .1) (B .1 .1)
       (λ i o. ((λ a b. o (omega arith) (omega arith)), ((λ a b. o (omega arith) (omega arith)), ((λ a b. o (omega arith) (omega arith)), (λ a b. o (omega arith) (omega arith)))))))
       (C .1 .1) (λ i o. (o, ((λ a b. o (omega arith) (omega arith)), ((λ a b. o (omega arith) (omega arith)), (λ a b. o (omega arith) (omega arith)))))))
-      (D .1) (λ i o. (o, (λ a b. o (omega arith) (omega arith))))
+      (D .1 .0) (λ i o. (o, (λ a b. o (omega arith) (omega arith))))
 
   pub map-made : MapLeaves np nq Q u w
   map-made =
@@ -70,11 +74,12 @@ module _ {np nq : ℕ} {Q u v x y w : List ℕ} (M : MapAsks np nq Q u)
       record {
         map = record {
           work = record { some = s; few = M .work .few; long = omega (arith, M .work .long, beside .len) };
-          points = standing (M .sheet) was (part-kept (C .1 .0) (D .1) (λ i p q. λ a b. omega arith)) (part-kept (C .0) (D .1) (λ i p q. λ a b. omega arith));
+          points = standing (M .sheet) was (part-kept (C .1 .0) (D .1 .0) (λ i p q. λ a b. omega arith)) (part-kept (C .0) (D .1 .0) (λ i p q. λ a b. omega arith));
           edges = mapped (M .sheet) was order starts;
         };
         quads = was;
         valences = D .0;
+        bounded = λ d. D .1 .1 d (M .sheet .few);
         kept = beside;
       }
 

@@ -26,11 +26,12 @@ use Rattle.rule_passes.specs.Runs.{capped}
 use Rattle.rule_regularize.specs.Swaps.{swapRun}
 use Rattle.rule_regularize.specs.SwapFits.{fitsWith, swapFits}
 use Rattle.rule_regularize.specs.Rule.{swapSheet, swapRule}
+use Rattle.rule_regularize.proofs.Tests.{all-differ}
 use Rattle.sheet.specs.Results.{cleared}
 use Rattle.sheet.proofs.Flat.{length-quads}
 use Rattle.sheet.proofs.Fronts.{front-quads}
 use Rattle.sheet.proofs.Results.{length-flat-quads}
-use Rattle.sheet.proofs.Tests.{length-points, Tested, tested, Whole, whole-of}
+use Rattle.sheet.proofs.Tests.{length-points, Tested, tested, Whole, whole-of, proper-of}
 use Rattle.admission.proofs.Admitted.{admitted}
 use Rattle.incidence.proofs.Corners.{cornered}
 use Rattle.regularize_pass.specs.Conditions.{SwapPassAsks}
@@ -65,6 +66,7 @@ module _ {least : ℕ} {c : Counts} {P : List Float} {Q labels w : List ℕ} (A 
       let g : goodCorners (c .points) (quadsOf (c .quads) Q) (take (c .labels) labels) ≡ true = rw n at (found .corners) in
       record {
         sheet = cornered (c .points) (c .quads) Q (take (c .labels) labels) g (A .sheet .few .quads≤) (A .sheet .quads);
+        differ = all-differ (c .points) (quadsOf (c .quads) Q) (proper-of (c .points) (quadsOf (c .quads) Q) (take (c .labels) labels) g);
         room = record { some = rw n at (whole .some-points); few = A .sheet .few .points≤; long = A .work };
         points = A .sheet .points;
         labels≤ = omega (arith, A .sheet .labels, same-count);

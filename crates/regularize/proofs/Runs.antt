@@ -78,6 +78,7 @@ module _ {np nq : ℕ} {t : Trial} {P : List Float} {labels : List ℕ} {k : ℕ
     running-more {w′} {more} h n er ew e = record {
       passable = record {
         sheet = D .sheet;
+        differ = D .differ;
         room = record { some = G .passable .room .some; few = G .passable .room .few; long = omega (arith, G .passable .room .long) };
         points = G .passable .points;
         labels≤ = G .passable .labels≤;

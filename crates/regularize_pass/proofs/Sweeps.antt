@@ -112,4 +112,4 @@ module _ {np nq : ℕ} {t : Trial} {P : List Float} {labels Q v R w : List ℕ} 
   sweeping-end h =
       let e : i ≡ 4 * nq = omega (arith, L .i≤) in
       let z : stateOf np nq R w count ≡ passIn np nq t P labels (quadsOf nq Q) = L .is ∙ ap (λ (k : ℕ). stepsFrom (step np nq t P labels v) 0 k (fresh (quadsOf nq Q))) e ∙ all-steps in
-      record { sheet = L .trying .holds .sheet; quads = ap (λ (s : State). s .quads) z; count = ap (λ (s : State). s .count) z }
+      record { sheet = L .trying .holds .sheet; differ = L .trying .holds .differ; quads = ap (λ (s : State). s .quads) z; count = ap (λ (s : State). s .count) z }

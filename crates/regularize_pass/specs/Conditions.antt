@@ -6,6 +6,7 @@ use lib.ListN.{length}
 use lib.Ieee.{Float}
 use Rattle.lists.specs.Regions.{Out, Kept}
 use Rattle.rule_sheet.specs.Flat.{quadsOf}
+use Rattle.rule_sheet.specs.Claims.{All, Differ}
 use Rattle.incidence.specs.Corners.{Cornered}
 use Rattle.rule_regularize.specs.Swaps.{State}
 use Rattle.pass_map.specs.Regions.{valencesAt}
@@ -32,6 +33,7 @@ pub record StepLeaves (np nq : ℕ) (f : State → State) (count r : ℕ) (Q v R
 -- what a pass asks of the slices
 pub record SwapPassAsks (np nq : ℕ) (t : Trial) (P : List Float) (Q labels w : List ℕ) : Type 0 where
   pub sheet : Cornered np nq Q
+  pub differ : All Differ (quadsOf nq Q)
   pub room : WorkFits np nq w
   pub points : 3 * np ≤ length P
   pub labels≤ : nq ≤ length labels
@@ -40,5 +42,6 @@ pub record SwapPassAsks (np nq : ℕ) (t : Trial) (P : List Float) (Q labels w :
 -- what a pass over the quads of Q leaves: the quads of R, and r swaps counted
 pub record SwapPassLeaves (np nq : ℕ) (t : Trial) (P : List Float) (labels Q R : List ℕ) (r : ℕ) : Type 0 where
   pub sheet : Cornered np nq R
+  pub differ : All Differ (quadsOf nq R)
   pub quads : quadsOf nq R ≡ passIn np nq t P labels (quadsOf nq Q) .quads
   pub count : r ≡ passIn np nq t P labels (quadsOf nq Q) .count

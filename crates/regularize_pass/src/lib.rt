@@ -8,7 +8,8 @@ ghost use Prim.Native.Nat.{_+_, _*_, _/_, _<_, _≤_, _^_};
 ghost use lib.ListN.{length, take};
 ghost use Rattle.rule_sheet.specs.Flat.{quadsOf};
 ghost use Rattle.regularize_shapes.specs.SwapFits.{SixBelow, hexOf};
-ghost use Rattle.pass_map.specs.Regions.{startIn};
+ghost use Rattle.incidence.specs.Bounds.{Bounded};
+ghost use Rattle.pass_map.specs.Regions.{valencesAt, startIn};
 ghost use Rattle.pass_map.specs.Conditions.{WorkFits};
 ghost use Rattle.regularize_swap.specs.Conditions.{BeginPassLeaves};
 ghost use Rattle.regularize_pass.specs.Steps.{fitsIn, diagonal, pickOf, mayTake, bestOf, choiceIn, tryIn, stepIn};
@@ -215,6 +216,7 @@ fn sweep(
     requires { ⌜ TryAsks np nq t (now points) (now quads) (now labels) (now w) ⌝ }
     ensures { λ r. ⌜ SwapPassLeaves np nq t (now (points .entry)) (now (labels .entry))
         (now (quads .entry)) (now (quads .exit)) r ⌝ }
+    ensures { λ _. ⌜ Bounded (valencesAt np nq) np (now (w .exit)) ⌝ }
 {
     let mut count = 0;
     let mut i = 0;
@@ -238,6 +240,7 @@ pub fn swap_pass(
     requires { ⌜ SwapPassAsks np nq t (now points) (now quads) (now labels) (now w) ⌝ }
     ensures { λ r. ⌜ SwapPassLeaves np nq t (now (points .entry)) (now (labels .entry))
         (now (quads .entry)) (now (quads .exit)) r ⌝ }
+    ensures { λ _. ⌜ Bounded (valencesAt np nq) np (now (w .exit)) ⌝ }
 {
     regularize_swap::begin_pass(np, nq, quads, w);
     sweep(np, nq, t, points, labels, quads, w)

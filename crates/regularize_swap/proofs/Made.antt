@@ -8,21 +8,26 @@ use native.Mathlib.Omega.{arith}
 use lib.Dec.{eqb}
 use lib.ListN.{length, getD, set, length-set}
 use lib.Seq.{getD-set-same, getD-set-other}
-use Rattle.lists.specs.Sort.{tabulate, itself}
+use Rattle.lists.specs.Sort.{tabulate}
 use Rattle.lists.specs.Regions.{part, Part, Out, Kept}
-use Rattle.lists.proofs.Laws.{eq-or-ne, getD-tab, length-tab, tab-set, tab-ext, is-tab, bucket-le}
+use Rattle.lists.proofs.Laws.{eq-or-ne, getD-tab, length-tab, tab-set, tab-ext, is-tab}
 use Rattle.lists.proofs.Regions.{part-as, part-kept, kept-then}
 use Rattle.rule_sheet.specs.Quads.{Quad, quad, corners, total, at, valence}
 use Rattle.rule_sheet.specs.Flat.{quadAt, quadsOf}
-use Rattle.sheet.specs.Flat.{from, withQuad}
-use Rattle.sheet.proofs.Flat.{valence-flat, length-quads}
+use Rattle.rule_sheet.specs.Claims.{All, Differ}
+use Rattle.rule_sheet.specs.Lent.{limit}
+use Rattle.rule_sheet.proofs.Bound.{valence-le}
+use Rattle.sheet.specs.Flat.{withQuad}
+use Rattle.sheet.proofs.Flat.{length-quads}
 use Rattle.incidence.specs.Corners.{Cornered}
+use Rattle.incidence.specs.Bounds.{Bounded}
+use Rattle.incidence.proofs.Bounds.{bounded-kept}
 use Rattle.rule_passes.specs.Choices.{noneQuad}
 use Rattle.rule_regularize.specs.Swaps.{swapOne, swapTwo, barList}
 use Rattle.rule_regularize.proofs.Passes.{Six}
 use Rattle.rule_regularize.proofs.Surgery.{Exchange, at-a, at-b, at-c, at-d, at-other}
 use Rattle.rule_regularize.proofs.Swap.{exchange-one, exchange-two}
-use Rattle.rule_regularize.proofs.SwapPass.{two-quads}
+use Rattle.rule_regularize.proofs.SwapPass.{two-quads, one-differ, two-differ}
 use Rattle.rule_regularize.proofs.Sweep.{six-of}
 use Rattle.regularize_shapes.specs.declared.Six as six
 use Rattle.regularize_shapes.specs.SwapFits.{SixBelow}
@@ -142,9 +147,6 @@ turned-below {np} {h} k B = go (eqb k 1)
 
 -- ---- the valences
 
-valence-most : (nq : ℕ) (Q : List ℕ) (v : ℕ) → valence (quadsOf nq Q) v ≤ 4 * nq
-valence-most nq Q v = rw (valence-flat nq Q v) (omega (arith, bucket-le (from Q) (tabulate itself (4 * nq)) v, length-tab itself (4 * nq)))
-
 module _ (S T : List Quad) (a b c d : ℕ) (E : Exchange (λ f. total f S) (λ f. total f T) a b c d) where
   one-less-a : valence T a + 1 ≡ valence S a
   one-less-a = omega (arith, at-a _ _ a b c d E (λ p n. 1))
@@ -222,6 +224,25 @@ module _ {np nq : ℕ} {Q w : List ℕ} {h : six.Six} {i j : ℕ} (P : SwapPassH
       go true = exchange-one S i j (h .h0) (h .h1) (h .h2) (h .h3) (h .h4) (h .h5) li lj ij differ here-i here-j
       go false = exchange-two S i j (h .h0) (h .h1) (h .h2) (h .h3) (h .h4) (h .h5) li lj ij differ here-i here-j
 
+  -- the corners of each quad still differ
+  differ-after : (k : ℕ) → All Differ (swapBy k S i j h)
+  differ-after k = go (eqb k 1)
+    where
+      go : (b : Bool) → All Differ (cond b (swapOne S i j (h .h0) (h .h1) (h .h2) (h .h3) (h .h4) (h .h5)) (swapTwo S i j (h .h0) (h .h1) (h .h2) (h .h3) (h .h4) (h .h5)))
+      go true = one-differ S i j differ (P .differ)
+      go false = two-differ S i j differ (P .differ)
+
+  length-after : (k : ℕ) → length (swapBy k S i j h) ≡ nq
+  length-after k = go (eqb k 1)
+    where
+      go : (b : Bool) → length (cond b (swapOne S i j (h .h0) (h .h1) (h .h2) (h .h3) (h .h4) (h .h5)) (swapTwo S i j (h .h0) (h .h1) (h .h2) (h .h3) (h .h4) (h .h5))) ≡ nq
+      go true = simp length-set (length-quads nq Q)
+      go false = simp length-set (length-quads nq Q)
+
+  -- so no valence passes the limit then, and the two that rise are below it now
+  most-after : (k v : ℕ) → valence (swapBy k S i j h) v ≤ limit
+  most-after k v = omega (arith, valence-le (swapBy k S i j h) v (differ-after k), length-after k, P .sheet .few)
+
   read-valence : (v : ℕ) → v < np → getD (part (valencesAt np nq) np w) v 0 ≡ valence S v
   read-valence v l = ap (λ (x : List ℕ). getD x v 0) (P .valences .is) ∙ getD-tab (valence S) np v 0 l
 
@@ -231,7 +252,6 @@ module _ {np nq : ℕ} {Q w : List ℕ} {h : six.Six} {i j : ℕ} (P : SwapPassH
       let T = swapBy k S i j h in
       let B = X .below in
       let G = turned-below k B in
-      let few = P .sheet .few in
       record {
         a< = B .h0<;
         b< = B .h3<;
@@ -245,8 +265,8 @@ module _ {np nq : ℕ} {Q w : List ℕ} {h : six.Six} {i j : ℕ} (P : SwapPassH
         cd = E .cd;
         least-a = omega (arith, read-valence (h .h0) (B .h0<), one-less-a S T _ _ _ _ E);
         least-b = omega (arith, read-valence (h .h3) (B .h3<), one-less-b S T _ _ _ _ E);
-        most-c = omega (arith, read-valence (endC k) (G .h0<), valence-most nq Q (endC k));
-        most-d = omega (arith, read-valence (endD k) (G .h3<), valence-most nq Q (endD k));
+        most-c = omega (arith, read-valence (endC k) (G .h0<), one-more-c S T _ _ _ _ E, most-after k (endC k));
+        most-d = omega (arith, read-valence (endD k) (G .h3<), one-more-d S T _ _ _ _ E, most-after k (endD k));
       }
 
   -- the valences have moved, all else stands
@@ -262,8 +282,8 @@ module _ {np nq : ℕ} {Q w : List ℕ} {h : six.Six} {i j : ℕ} (P : SwapPassH
     bars-moved = tab-ext (isBarred np nq u) (isBarred np nq w) nq (λ q l. rw (K .same 0 (marksAt np nq + q) (λ r s. omega arith)))
 
     pub swap-made : (k : ℕ) (R w′ : List ℕ) → R ≡ withPair Q i j (turned h k) → Part (valencesAt np nq) np (moved (part (valencesAt np nq) np w) (h .h0) (h .h3) (endC k) (endD k)) u
-        → Marked np nq (usesSix h) u w′ → MakeSwapLeaves np nq k h i j Q w R w′
-    swap-made k R w′ e N M =
+        → Bounded (valencesAt np nq) np u → Marked np nq (usesSix h) u w′ → MakeSwapLeaves np nq k h i j Q w R w′
+    swap-made k R w′ e N B M =
         let q : quadsOf nq R ≡ swapBy k S i j h = ap (quadsOf nq) e ∙ swap-quads nq Q i j k h (X .i<) (X .j<) (P .sheet .quads) in
         let O = M .kept in
         record {
@@ -273,6 +293,8 @@ module _ {np nq : ℕ} {Q w : List ℕ} {h : six.Six} {i j : ℕ} (P : SwapPassH
             valences = part-kept
                 (part-as N (moved-valences S (swapBy k S i j h) (h .h0) (h .h3) (endC k) (endD k) (exchange k) np _ (movable k) (P .valences .is) ∙ ap (λ (T : List Quad). tabulate (valence T) np) (sym q)))
                 O (λ l p q r s. omega arith);
+            differ = rw q (differ-after k);
+            bounded = bounded-kept B O (λ l p q r s. omega arith);
           };
           quads = q;
           bars = bars-are (usesSix h) (meetsSix h) (map-moved .work) M (λ q. refl) ∙ ap₂ (λ (A : List ℕ) (B : List Bool). barList (quadsOf nq A) B (meetsSix h)) start-moved bars-moved;
@@ -294,9 +316,10 @@ module _ {np nq : ℕ} {Q w : List ℕ} {h : six.Six} {i j : ℕ} (P : SwapPassH
           ),
         )
 
-    pub move-ready : (valencesAt np nq + np ≤ length w) × MoveValencesAsks np (part (valencesAt np nq) np w) (h .h0) (h .h3) (g .h0) (g .h3)
-    move-ready = (P .valences .fits, rw e (movable k))
+    pub move-ready : (valencesAt np nq + np ≤ length w) × (MoveValencesAsks np (part (valencesAt np nq) np w) (h .h0) (h .h3) (g .h0) (g .h3) × Bounded (valencesAt np nq) np w)
+    move-ready = (P .valences .fits, (rw e (movable k), P .bounded))
 
-    pub swap-done : {R u w′ : List ℕ} → R ≡ withPair Q i j g → Part (valencesAt np nq) np (moved (part (valencesAt np nq) np w) (h .h0) (h .h3) (g .h0) (g .h3)) u × Kept (Out (valencesAt np nq) np) w u
+    pub swap-done : {R u w′ : List ℕ} → R ≡ withPair Q i j g
+        → Part (valencesAt np nq) np (moved (part (valencesAt np nq) np w) (h .h0) (h .h3) (g .h0) (g .h3)) u × (Kept (Out (valencesAt np nq) np) w u × Bounded (valencesAt np nq) np u)
         → Part (marksAt np nq) nq (tabulate (markIf (usesSix h) (wasIn np nq u) (marksIn np nq u)) nq) w′ × OnlyMarks np nq u w′ → MakeSwapLeaves np nq k h i j Q w R w′
-    swap-done {R} {u} {w′} q m b = swap-made (m .1) k R w′ (q ∙ ap (withPair Q i j) e) (rw e at (m .0)) (record { marks = b .0; kept = b .1 })
+    swap-done {R} {u} {w′} q m b = swap-made (m .1 .0) k R w′ (q ∙ ap (withPair Q i j) e) (rw e at (m .0)) (m .1 .1) (record { marks = b .0; kept = b .1 })

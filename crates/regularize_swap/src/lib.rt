@@ -3,13 +3,16 @@
 
 use regularize_shapes::Six;
 ghost use mathlib.Core.Path.{_≡_};
-ghost use Prim.Native.Nat.{_+_, _*_, _/_, _%_, _<_, _≤_, _^_};
+ghost use Prim.Native.Nat.{_+_, _-_, _*_, _/_, _%_, _<_, _≤_, _^_};
 ghost use lib.ListN.{length, getD};
+ghost use Rattle.rule_sheet.specs.Flat.{quadsOf};
+ghost use Rattle.rule_sheet.specs.Claims.{All, Differ};
 ghost use Rattle.rule_sheet.specs.Lent.{limit};
 ghost use Rattle.lists.specs.Sort.{tabulate};
 ghost use Rattle.lists.specs.Regions.{part, Part, Out, Kept};
 ghost use Rattle.incidence.specs.Corners.{Known};
 ghost use Rattle.incidence.specs.Marks.{barredBy};
+ghost use Rattle.incidence.specs.Bounds.{Bounded};
 ghost use Rattle.edges.specs.Steps.{pairAt};
 ghost use Rattle.regularize_shapes.specs.SwapFits.{SixBelow};
 ghost use Rattle.pass_map.specs.Regions.{wasIn, edgesIn};
@@ -17,8 +20,8 @@ ghost use Rattle.pass_map.specs.Conditions.{WorkFits, MapAsks, MapHolds};
 ghost use Rattle.regularize_swap.specs.Regions.{marksAt, marksIn, freeIn, sumIn, edgeCorner};
 ghost use Rattle.regularize_swap.specs.Steps.{sixAt, sixApart, isHexagon, turned, openIn, gainsIn, betterIn};
 ghost use Rattle.regularize_swap.specs.Steps.{withPair, moved, markIf, usesThree, usesSix};
-ghost use Rattle.regularize_swap.specs.Conditions.{SwapPassHolds, BeginPassLeaves, MoveValencesAsks};
-ghost use Rattle.regularize_swap.specs.Conditions.{MakeSwapAsks, MakeSwapLeaves};
+ghost use Rattle.regularize_swap.specs.Conditions.{SwapPassHolds, BeginPassLeaves, ChangeAsks, ChangeLeaves};
+ghost use Rattle.regularize_swap.specs.Conditions.{MoveValencesAsks, MakeSwapAsks, MakeSwapLeaves};
 
 // Where the marks of barred quads begin in the work slice, in units of all points and quads together.
 const MARKS: usize = 22;
@@ -186,17 +189,37 @@ fn put_pair(quads: &mut [u32], i: usize, j: usize, g: Six)
     sheet::put_quad(quads, j, g.h0 as u32, g.h3 as u32, g.h4 as u32, g.h5 as u32);
 }
 
+// One quad less at the point v.
+fn one_less(np: usize, val: usize, v: usize, w: &mut [u32])
+    requires { ⌜ ChangeAsks val np v (now w) ⌝ }
+    requires { ⌜ 1 ≤ getD (now w) (val + v) 0 ⌝ }
+    ensures { λ _. ⌜ ChangeLeaves val np v (getD (now (w .entry)) (val + v) 0 - 1) (now (w .entry)) (now (w .exit)) ⌝ }
+{
+    w[val + v] = w[val + v] - 1;
+}
+
+// One quad more at the point v, whose valence has not reached the limit.
+fn one_more(np: usize, val: usize, v: usize, w: &mut [u32])
+    requires { ⌜ ChangeAsks val np v (now w) ⌝ }
+    requires { ⌜ getD (now w) (val + v) 0 < limit ⌝ }
+    ensures { λ _. ⌜ ChangeLeaves val np v (getD (now (w .entry)) (val + v) 0 + 1) (now (w .entry)) (now (w .exit)) ⌝ }
+{
+    w[val + v] = w[val + v] + 1;
+}
+
 // One quad less at a and b, one more at c and d.
 fn move_valences(np: usize, val: usize, a: usize, b: usize, c: usize, d: usize, w: &mut [u32])
     requires { ⌜ val + np ≤ length (now w) ⌝ }
     requires { ⌜ MoveValencesAsks np (part val np (now w)) a b c d ⌝ }
+    requires { ⌜ Bounded val np (now w) ⌝ }
     ensures { λ _. ⌜ Part val np (moved (part val np (now (w .entry))) a b c d) (now (w .exit)) ⌝ }
     ensures { λ _. ⌜ Kept (Out val np) (now (w .entry)) (now (w .exit)) ⌝ }
+    ensures { λ _. ⌜ Bounded val np (now (w .exit)) ⌝ }
 {
-    w[val + a] = w[val + a] - 1;
-    w[val + b] = w[val + b] - 1;
-    w[val + c] = w[val + c] + 1;
-    w[val + d] = w[val + d] + 1;
+    one_less(np, val, a, w);
+    one_less(np, val, b, w);
+    one_more(np, val, c, w);
+    one_more(np, val, d, w);
 }
 
 // Bars the quads that the pass's start has at point v.
@@ -250,6 +273,7 @@ fn bar_six(np: usize, nq: usize, h: Six, w: &mut [u32])
 // Begins a pass: the map of its quads, their valences, and no quad barred.
 pub fn begin_pass(np: usize, nq: usize, quads: &[u32], w: &mut [u32])
     requires { ⌜ MapAsks np nq (now quads) (now w) ⌝ }
+    requires { ⌜ All Differ (quadsOf nq (now quads)) ⌝ }
     ensures { λ _. ⌜ BeginPassLeaves np nq (now (quads .entry)) (now (w .exit)) ⌝ }
 {
     let marks = MARKS * (np + nq);

@@ -1,6 +1,5 @@
--- `Bound` has the bound of valences, `Gains` the gain by sums of valences, `Passes` the swaps as relations, `Surgery` and `Swap` one swap,
+-- `Gains` has the gain by sums of valences, `Passes` the swaps as relations, `Surgery` and `Swap` one swap,
 -- `SwapPass` a pass of swaps, `Sweep` the rule's own passes, `Tests` what the tests of a sheet say.
-pub mod Bound
 pub mod Gains
 pub mod Passes
 pub mod Surgery

@@ -82,6 +82,18 @@ all-set [] i q a p = tt
 all-set (x ∷ S) zero q (px, a) p = (p, a)
 all-set (x ∷ S) (suc i) q (px, a) p = (px, all-set S i q a p)
 
+-- the corners of each quad differ after a swap
+module _ (S : List Quad) (i j : ℕ) {h0 h1 h2 h3 h4 h5 : ℕ} (six : Six h0 h1 h2 h3 h4 h5) where
+  open Six six using (n01, n02, n04, n05, n12, n13, n14, n15, n23, n24, n25, n34, n35, n45)
+
+  pub one-differ : All Differ S → All Differ (swapOne S i j h0 h1 h2 h3 h4 h5)
+  one-differ a = all-set (set S i (quad h1 h2 h3 h4)) j (quad h1 h4 h5 h0) (all-set S i (quad h1 h2 h3 h4) a (n12, n13, n14, n23, n24, n34))
+      (n14, n15, (λ p. n01 (sym p)), n45, (λ p. n04 (sym p)), (λ p. n05 (sym p)))
+
+  pub two-differ : All Differ S → All Differ (swapTwo S i j h0 h1 h2 h3 h4 h5)
+  two-differ a = all-set (set S i (quad h2 h3 h4 h5)) j (quad h2 h5 h0 h1) (all-set S i (quad h2 h3 h4 h5) a (n23, n24, n25, n34, n35, n45))
+      (n25, (λ p. n02 (sym p)), (λ p. n12 (sym p)), (λ p. n05 (sym p)), (λ p. n15 (sym p)), n01)
+
 -- What one swap keeps.
 pub record Stepped (labels : List ℕ) (S0 S S₁ : List Quad) (B₁ : ℕ → Type 0) (a b c d : ℕ) : Type 0 where
   pub rings : Rings S → Rings S₁
@@ -98,7 +110,7 @@ module _ (labels : List ℕ) (S0 S : List Quad) (B : ℕ → Type 0) (i j h0 h1 
     (ex : Exchange (λ f. total f S) (λ f. total f (set (set S i q1) j q2)) h0 h3 c d)
     (hc : Has (getD S j noneQuad) c) (hd : Has (getD S i noneQuad) d) (open-cd : side S0 c d + side S0 d c ≡ 0)
     (hi : Has (getD S i noneQuad) h0) (hj : Has (getD S j noneQuad) h0) (li : i < length S) (lj : j < length S) (ij : i ≢ j)
-    (p1 : Differ q1) (p2 : Differ q2)
+    (four : All Differ S → All Differ (set (set S i q1) j q2))
     (no-more : (v : ℕ) → corners (at v (λ p n. 1)) q1 + corners (at v (λ p n. 1)) q2 ≤ 2 * (corners (at v (λ p n. 1)) (getD S i noneQuad) + corners (at v (λ p n. 1)) (getD S j noneQuad))) where
   in-start : (k v : ℕ) → ¬ B k → Has (getD S k noneQuad) v → Has (getD S0 k noneQuad) v
   in-start k v nb h = subst (λ q. Has q v) (inv .kept k nb) h
@@ -247,7 +259,7 @@ module _ (labels : List ℕ) (S0 S : List Quad) (B : ℕ → Type 0) (i j h0 h1 
     len = length-set (set S i q1) j q2 ∙ length-set S i q1;
     clash = step-clash;
     used = step-used;
-    four = λ a. all-set (set S i q1) j q2 (all-set S i q1 a p1) p2;
+    four = four;
   }
 
 -- What a pass of swaps keeps.
@@ -274,8 +286,6 @@ then labels n m c S S₁ S′ u va vb vc vd l e g k = record {
 }
 
 module _ (labels : List ℕ) (S0 S : List Quad) (B : ℕ → Type 0) (i j h0 h1 h2 h3 h4 h5 : ℕ) (hx : Hexagon labels S B i j h0 h1 h2 h3 h4 h5) (inv : Inv S0 S B) where
-  open Six (hx .six) using (n01, n02, n03, n04, n05, n12, n13, n14, n15, n23, n24, n25, n34, n35, n45)
-
   qi : (f : ℕ → ℕ → ℕ → ℕ) → corners f (getD S i noneQuad) ≡ corners f (quad h0 h3 h4 h5)
   qi = here (hx .ei) (getD S i noneQuad) h0 h3 h4 h5 (hx .here-i)
 
@@ -301,13 +311,13 @@ module _ (labels : List ℕ) (S0 S : List Quad) (B : ℕ → Type 0) (i j h0 h1 
   step-one op = stepped labels S0 S B i j h0 h1 h2 h3 h4 h5 hx inv (quad h1 h2 h3 h4) (quad h1 h4 h5 h0) h1 h4 (is1 refl) (is4 refl)
       (exchange-one S i j h0 h1 h2 h3 h4 h5 li lj ij (hx .six) qi qj)
       (omega (arith, qj (at h1 (λ p n. 1)), at-same h1 (λ p n. 1) h0 h2)) (omega (arith, qi (at h4 (λ p n. 1)), at-same h4 (λ p n. 1) h3 h5)) op hi0 hj0 li lj ij
-      (n12, n13, n14, n23, n24, n34) (n14, n15, (λ p. n01 (sym p)), n45, (λ p. n04 (sym p)), (λ p. n05 (sym p))) (λ v. omega (arith, qi (at v (λ p n. 1)), qj (at v (λ p n. 1))))
+      (one-differ S i j (hx .six)) (λ v. omega (arith, qi (at v (λ p n. 1)), qj (at v (λ p n. 1))))
 
   pub step-two : side S0 h2 h5 + side S0 h5 h2 ≡ 0 → Stepped labels S0 S (swapTwo S i j h0 h1 h2 h3 h4 h5) (Bar S0 B h0 h1 h2 h3 h4 h5) h0 h3 h2 h5
   step-two op = stepped labels S0 S B i j h0 h1 h2 h3 h4 h5 hx inv (quad h2 h3 h4 h5) (quad h2 h5 h0 h1) h2 h5 (is2 refl) (is5 refl)
       (exchange-two S i j h0 h1 h2 h3 h4 h5 li lj ij (hx .six) qi qj)
       (omega (arith, qj (at h2 (λ p n. 1)), at-same h2 (λ p n. 1) h1 h3)) (omega (arith, qi (at h5 (λ p n. 1)), at-same h5 (λ p n. 1) h4 h0)) op hi0 hj0 li lj ij
-      (n23, n24, n25, n34, n35, n45) (n25, (λ p. n02 (sym p)), (λ p. n12 (sym p)), (λ p. n05 (sym p)), (λ p. n15 (sym p)), n01) (λ v. omega (arith, qi (at v (λ p n. 1)), qj (at v (λ p n. 1))))
+      (two-differ S i j (hx .six)) (λ v. omega (arith, qi (at v (λ p n. 1)), qj (at v (λ p n. 1))))
 
 -- To bar more keeps the invariant.
 pub inv-more : (S0 S : List Quad) (B B₁ : ℕ → Type 0) → ((k : ℕ) → B k → B₁ k) → Inv S0 S B → Inv S0 S B₁

@@ -182,12 +182,12 @@ module _ (S0 : List Quad) (labels : List ℕ) (m : ℕ) (fits : Fits) where
   try-step st t (x ∷ y ∷ z ∷ l) e = absurd (none-some e)
 
   -- A sweep over edges is a pass of swaps.
-  record Swept (st t : State) : Type 1 where
-    swaps : ℕ
-    counts : t .count ≡ st .count + swaps
-    passed : Pass S0 labels (halfOf m) (st .quads) (Barred (st .barred)) (t .quads) swaps
+  pub record Swept (st t : State) : Type 1 where
+    pub swaps : ℕ
+    pub counts : t .count ≡ st .count + swaps
+    pub passed : Pass S0 labels (halfOf m) (st .quads) (Barred (st .barred)) (t .quads) swaps
 
-  sweep-pass : (l : List Pair) (st : State) → length (st .barred) ≡ length S0 → Swept st (sweep S0 labels m fits st l)
+  pub sweep-pass : (l : List Pair) (st : State) → length (st .barred) ≡ length S0 → Swept st (sweep S0 labels m fits st l)
   sweep-pass [] st e = record { swaps = 0; counts = omega arith; passed = stop }
   sweep-pass (p ∷ l) st e = go (tryEdge S0 labels m fits st p) refl (λ t. sweep-pass l t)
     where

@@ -22,18 +22,18 @@ use Rattle.safety_rules.proofs.Fine.{Fine, fine-of}
 use Rattle.safety_rules.proofs.Caps.{squared-le, product-le}
 
 -- what swaps keep of quads in range with different corners, w being the least fall of the squared sum
-record Fell (n w : ℕ) (S T : List Quad) : Type 0 where
-  below : Below n T
-  four : All Differ T
-  len : length T ≡ length S
-  falls : squared n T + w ≤ squared n S
+pub record Fell (n w : ℕ) (S T : List Quad) : Type 0 where
+  pub below : Below n T
+  pub four : All Differ T
+  pub len : length T ≡ length S
+  pub falls : squared n T + w ≤ squared n S
 
 -- one more swap in front
 before : (n m c va vb vc vd : ℕ) (S S₁ T : List Quad) → length S₁ ≡ length S → squared n S₁ + 2 * (va + vb) ≡ squared n S + (2 * (vc + vd) + 4) → vc + vd + 2 + m ≤ va + vb
     → Fell n (2 * (c * m)) S₁ T → Fell n (2 * (suc c * m)) S T
 before n m c va vb vc vd S S₁ T l e g k = record { below = k .below; four = k .four; len = k .len ∙ l; falls = omega (arith, k .falls, suc-mul c m) }
 
-pass-fell : (S0 : List Quad) (labels : List ℕ) (m n : ℕ) (S : List Quad) (B : ℕ → Type 0) (T : List Quad) (c : ℕ) → Pass S0 labels m S B T c → Inv S0 S B → All Differ S → Below n S → Fell n (2 * (c * m)) S T
+pub pass-fell : (S0 : List Quad) (labels : List ℕ) (m n : ℕ) (S : List Quad) (B : ℕ → Type 0) (T : List Quad) (c : ℕ) → Pass S0 labels m S B T c → Inv S0 S B → All Differ S → Below n S → Fell n (2 * (c * m)) S T
 pass-fell S0 labels m n S B T c stop inv d b = record { below = b; four = d; len = refl; falls = omega (arith, zero-mul m) }
 pass-fell S0 labels m n S B T c (one {B₁ = B₁} {c = k} i j h0 h1 h2 h3 h4 h5 hx op g more rest) inv d b =
     let U = swapOne S i j h0 h1 h2 h3 h4 h5 in
@@ -48,16 +48,16 @@ pass-fell S0 labels m n S B T c (two {B₁ = B₁} {c = k} i j h0 h1 h2 h3 h4 h5
 
 -- the passes of a call
 module _ (n : ℕ) (labels : List ℕ) (m : ℕ) (fits : Fits) where
-  abbrev count : List Quad → ℕ
+  abbrev pub count : List Quad → ℕ
   count S = swapPass n labels m fits S .count
 
-  abbrev next : List Quad → List Quad
+  abbrev pub next : List Quad → List Quad
   next S = swapPass n labels m fits S .quads
 
-  abbrev Proper : List Quad → Type 0
+  abbrev pub Proper : List Quad → Type 0
   Proper S = Below n S × All Differ S
 
-  abbrev Falls : List Quad → List Quad → ℕ → Type 0
+  abbrev pub Falls : List Quad → List Quad → ℕ → Type 0
   Falls S T c = (length T ≡ length S) × (squared n T + 2 * (c * halfOf m) ≤ squared n S)
 
   one-pass : (S : List Quad) → Proper S → Proper (next S) × Falls S (next S) (count S)
@@ -65,11 +65,11 @@ module _ (n : ℕ) (labels : List ℕ) (m : ℕ) (fits : Fits) where
       let k : Fell n (2 * (count S * halfOf m)) S (next S) = pass-fell S labels (halfOf m) n S (Barred (replicate (length S) false)) (next S) (count S) (pass-made n labels m fits S) (inv-start S (Barred (replicate (length S) false))) d b in
       ((k .below, k .four), (k .len, k .falls))
 
+  pub passes-ran : (k : ℕ) (S : List Quad) → Proper S → Ran count next Proper Falls S 0 (run count next k S 0)
+  passes-ran k S p = run-keeps count next Proper Falls (λ T g. (refl, omega (arith, zero-mul (halfOf m)))) (λ T U W c d x y. (y .0 ∙ x .0, omega (arith, x .1, y .1, add-mul c d (halfOf m)))) one-pass k S 0 p
+
   all-passes : (k : ℕ) (S : List Quad) → Proper S → Falls S (swapRun n labels m fits k S .left) (swapRun n labels m fits k S .count)
-  all-passes k S p = go (run-keeps count next Proper Falls (λ T g. (refl, omega (arith, zero-mul (halfOf m)))) (λ T U W c d x y. (y .0 ∙ x .0, omega (arith, x .1, y .1, add-mul c d (halfOf m)))) one-pass k S 0 p)
-    where
-      go : Ran count next Proper Falls S 0 (run count next k S 0) → Falls S (run count next k S 0 .left) (run count next k S 0 .count)
-      go r = (r .kept .0, omega (arith, r .kept .1, ap (λ c. c * halfOf m) (r .counts)))
+  all-passes k S p = let r = passes-ran k S p in (r .kept .0, omega (arith, r .kept .1, ap (λ c. c * halfOf m) (r .counts)))
 
 pub uncapped : (s : Sheet) (fits : Fits) (k : ℕ) → AcceptedSheet s
     → capped (swapRun (length (s .points)) (s .labels) 1 fits k (s .quads) .count) ≡ swapRun (length (s .points)) (s .labels) 1 fits k (s .quads) .count

@@ -12,7 +12,7 @@ use Rattle.rule_sheet.specs.Squared.{sq, squared}
 use Rattle.rule_sheet.specs.Claims.{Differ, All}
 use Rattle.rule_passes.specs.Runs.{largest}
 use Rattle.rule_sheet.proofs.Weigh.{sq-suc}
-use Rattle.rule_regularize.proofs.Bound.{valence-le}
+use Rattle.rule_sheet.proofs.Bound.{valence-le}
 
 sq-le : (k : ℕ) → sq k ≤ k * k + 16
 sq-le zero = omega arith

@@ -22,7 +22,7 @@ use Rattle.rule_sheet.specs.Claims.{Below, Differ, All, NoClash, Low}
 use Rattle.rule_sheet.proofs.Weigh.{at-same, at-diff}
 use Rattle.rule_sheet.proofs.Rings.{zero-or}
 use Rattle.rule_passes.proofs.Choices.{not-false}
-use Rattle.rule_regularize.proofs.Tests.{low-of, apart, differ-of}
+use Rattle.rule_regularize.proofs.Tests.{low-of, apart, all-differ}
 use Rattle.rule_coarsen.proofs.Visits.{high-none}
 use Rattle.rule_sheet.specs.Sound.{AcceptedSheet}
 use Rattle.safety_rules.proofs.Finer.{label-sum-sum}
@@ -66,7 +66,7 @@ four a b c d e =
     let y = and-left (a && b) c x in
     (and-left a b y, and-right a b y, and-right (a && b) c x, and-right (a && b && c) d e)
 
-in-range-of : (n : ℕ) (S : List Quad) → all (proper n) S ≡ true → Below n S
+pub in-range-of : (n : ℕ) (S : List Quad) → all (proper n) S ≡ true → Below n S
 unfolding Below inRange
 in-range-of n S e v h = go (decLt v n)
   where
@@ -93,11 +93,6 @@ in-range-of n S e v h = go (decLt v n)
 
 not-equal : (x y : ℕ) → x ≢ y → not (eqb x y) ≡ true
 not-equal x y n = not-is (eqb x y) (ne-eqb x y n)
-
-all-differ : (n : ℕ) (S : List Quad) → all (proper n) S ≡ true → All Differ S
-unfolding All
-all-differ n [] e = tt
-all-differ n (q ∷ S) e = (differ-of q (and-right (inRange n q) (distinct q) (and-left (proper n q) (all (proper n) S) e)), all-differ n S (and-right (proper n q) (all (proper n) S) e))
 
 proper-all : (n : ℕ) (S : List Quad) → Below n S → All Differ S → all (proper n) S ≡ true
 unfolding Below All inRange distinct

@@ -263,12 +263,16 @@ impl Faults {
 
     /// What is expected of a call, and what the library answers; some calls have faults.
     pub fn ask(&mut self, call: &Call) -> Answers {
+        self.ask_expecting(call, library::expected(call))
+    }
+
+    /// The same, where `without` is expected of the call when it has no fault.
+    pub fn ask_expecting(&mut self, call: &Call, without: Answer) -> Answers {
         if !self.operations.contains(&call.operation) || !self.random.one_in(self.one_in) {
-            return (library::expected(call), library::answer(call));
+            return (without, library::answer(call));
         }
         let faults = self.draw(call.operation);
         let (lent, made) = lend(call, &faults);
-        let without = library::expected(call);
         self.count(made, without.number);
         let expected = expected(&lent, call.operation, without);
         let got = answered(lent, call.operation);

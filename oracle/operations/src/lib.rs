@@ -2,6 +2,7 @@
 pub mod bottomless;
 pub mod chain;
 pub mod closed;
+pub mod crowded;
 pub mod draws;
 pub mod faults;
 pub mod flat;

@@ -7,7 +7,7 @@ use crate::operation::Operation;
 use crate::quads::{self, QuadMesh};
 use crate::random::Random;
 use crate::record::{Record, shortened};
-use crate::{Point, drawn, files, inputs, patches, sheets, summed};
+use crate::{Point, crowds, drawn, files, inputs, patches, sheets, summed};
 
 /// The seed of the sample that the repository holds.
 pub const SEED: u64 = 2026;
@@ -50,6 +50,9 @@ const JOBS: usize = 5;
 
 /// How many random files the sample holds for opening, and for reading the sum, since there is one.
 const SUMS: usize = 8;
+
+/// How many random crowded sheets the sample holds for each kind of swaps.
+const CROWDS: usize = 8;
 
 /// The most bytes of a file in the sample.
 const MOST_BYTES: u64 = 2800;
@@ -575,6 +578,21 @@ fn bottomless() -> Vec<Record> {
     calls.into_iter().map(record).collect()
 }
 
+/// Swaps on crowded sheets: of so many quads, all of which share a point once the first edge is swapped, and random
+/// ones with several passes.
+fn crowded_sheets(seed: u64) -> Vec<Record> {
+    let mut r = Random::new(seed);
+    let sizes = [2, 3, 4, 5, 9, 64];
+    let mut calls = vec![];
+    for operation in [Operation::Regularize, Operation::ImproveLayout] {
+        calls.extend(sizes.map(|quads| crowds::at(operation, 1, crowds::crowded(quads))));
+        let random =
+            std::iter::repeat_with(|| crowds::call(&mut r, operation)).filter(|call| call.sheet.quads.len() <= 24);
+        calls.extend(random.take(CROWDS));
+    }
+    calls.into_iter().map(record).collect()
+}
+
 /// The sample of a seed. What is new stands behind, so that the records before it keep their places.
 pub fn records(seed: u64) -> Vec<Record> {
     let mut records = leaves(seed);
@@ -587,6 +605,7 @@ pub fn records(seed: u64) -> Vec<Record> {
     records.extend(jobs(seed));
     records.extend(sums(seed));
     records.extend(bottomless());
+    records.extend(crowded_sheets(seed));
     records
 }
 
@@ -665,8 +684,9 @@ mod tests {
     }
 
     #[test]
-    fn corners_per_point_then_pages_then_jobs_then_sums_and_then_levels_stand_last() {
-        let new = [corners(SEED), pages(SEED), jobs(SEED), sums(SEED), bottomless()].concat();
+    fn corners_per_point_then_pages_jobs_sums_levels_and_crowds_stand_last() {
+        let last = [bottomless(), crowded_sheets(SEED)].concat();
+        let new = [corners(SEED), pages(SEED), jobs(SEED), sums(SEED), last].concat();
         let records = records(SEED);
         let (before, last) = records.split_at(records.len() - new.len());
         let operations = [Operation::Corners, Operation::Page, Operation::Save, Operation::Open, Operation::Sum];
@@ -710,6 +730,16 @@ mod tests {
         assert_eq!(numbers[15..37], [&[1; 18][..], &[5, 6, 7, 0]].concat());
         assert_eq!(numbers[37..44], [1, 1, 1, 1, 0, 1, 1]);
         assert_eq!(numbers[44..], [0, 0, 0]);
+    }
+
+    #[test]
+    fn swaps_at_a_point_of_all_quads_are_stored() {
+        let all = crowded_sheets(SEED);
+        let counts: Vec<u64> = all.iter().map(|record| record.answer.count).collect();
+        let each = 6 + CROWDS;
+        assert_eq!((counts.len(), &counts[..6]), (2 * each, &[0, 1, 1, 1, 1, 1][..]));
+        assert_eq!(counts[each..each + 6], [1; 6]);
+        assert!(all.iter().any(|record| record.answer.number != 0));
     }
 
     #[test]
@@ -794,6 +824,7 @@ mod tests {
     #[test]
     fn the_sample_is_small() {
         assert!(record::file(&bottomless()).len() < 40_000);
-        assert!(record::file(&records(SEED)).len() < 1_380_000);
+        assert!(record::file(&crowded_sheets(SEED)).len() < 40_000);
+        assert!(record::file(&records(SEED)).len() < 1_415_000);
     }
 }

@@ -75,7 +75,8 @@ impl Sheet {
         Workspace::new().boundary_rows(self, band)
     }
 
-    /// Swaps edges that bring the points nearer to four quads each, in at most so many passes: the number of swaps.
+    /// Swaps edges that bring the points nearer to four quads each, in at most so many passes: the number of swaps. A
+    /// point may have any number of quads up to [`LIMIT`](crate::LIMIT): how many it has never passes that number.
     ///
     /// # Errors
     ///

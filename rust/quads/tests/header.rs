@@ -1,5 +1,5 @@
 //! The C header: it declares what the library exports and what the Rust crate calls, its numbers and sizes are those of
-//! the crate, and a small C program runs with it.
+//! the crate, and small C programs run with it.
 use quads::sizes::{draw_work, job_bytes, sheet_work};
 use quads::{Counts, LIMIT, PAGE, Refusal};
 use std::collections::BTreeMap;
@@ -105,6 +105,16 @@ fn the_header_has_the_sizes_of_the_crate() {
         let printed = run(Command::new(&program).args(&words));
         assert_eq!(printed.trim_end(), sizes.map(|n| n.to_string()).join(" "), "{sheet:?}, {cells} cells");
     }
+}
+
+#[test]
+fn a_c_program_swaps_at_a_point_of_all_quads() {
+    let printed = run(&mut Command::new(compiled("crowded")));
+    assert_eq!(
+        printed,
+        "1048576 quads, 1048575 at the point 2\n\
+         regularize 0: 1 swaps, 1048576 at the point 2, 0 bytes left in the work\n"
+    );
 }
 
 #[test]

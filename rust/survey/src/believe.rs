@@ -13,8 +13,17 @@ use std::path::Path;
 const EXPORTS: &str = "quads";
 
 /// The crates whose definitions are the claims.
-const CLAIMS: [&str; 8] =
-    ["safety", "safety_tight", "corners_exact", "page_exact", "band_exact", "job_exact", "subdivide_exact", "cases"];
+const CLAIMS: [&str; 9] = [
+    "safety",
+    "safety_tight",
+    "corners_exact",
+    "page_exact",
+    "band_exact",
+    "job_exact",
+    "valence_bound",
+    "subdivide_exact",
+    "cases",
+];
 
 /// What the head of a file says whose definitions are not believed, though it stands in a crate of rules.
 const NOT_A_RULE: &str = "Not a rule";

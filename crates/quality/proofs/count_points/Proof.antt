@@ -39,7 +39,7 @@ mul-bad-links-2 c = search needs
 bad-links-requires : tie.Need-bad-links-requires
 bad-links-requires c κs = let v = c .before .before .before .before .before in
     let q = v .before .before .before .before in
-    link-room (q .before .before .before .before .pre) (sym (q .quads-at .kept .1 .1 .1 .1 .1 .1 .0)) (q .quads-at .ensures .0) (q .quads-at .ensures .1 .0) (v .valences .ensures .1)
+    link-room (q .before .before .before .before .pre) (sym (q .quads-at .kept .1 .1 .1 .1 .1 .1 .0)) (q .quads-at .ensures .0) (q .quads-at .ensures .1 .0) (v .valences .ensures .1 .0)
 
 same-length : tie.Need-same-length
 same-length c = search needs

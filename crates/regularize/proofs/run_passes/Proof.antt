@@ -25,7 +25,7 @@ same-length-2 : tie.Need-same-length-2 Inv-loop μ-loop
 same-length-2 c = c .before .before .before .before .before .swap-pass .kept .1 .1 .1 .1 .1 .1 .0 ∙ c .before .before .before .before .before .before .before .before .before .loop .inv .room
 
 returns : tie.Need-returns Inv-loop μ-loop
-returns c = running-none (c .before .before .before .before .before .before .before .before .before .loop .inv) (c .before .before .before .before .before .swap-pass .ensures) (c .if1 .taken)
+returns c = running-none (c .before .before .before .before .before .before .before .before .before .loop .inv) (c .before .before .before .before .before .swap-pass .ensures .0) (c .if1 .taken)
 
 add-capped-requires : tie.Need-add-capped-requires Inv-loop μ-loop
 add-capped-requires c κs = search needs
@@ -37,7 +37,7 @@ loop-less : tie.Need-loop-less Inv-loop μ-loop
 loop-less c = omega (arith, c .before .before .before .before .before .before .before .before .before .loop-test .taken)
 
 loop-again : tie.Need-loop-again Inv-loop μ-loop
-loop-again c = running-more (c .before .before .before .before .before .before .before .before .before .before .loop .inv) (c .before .before .before .before .before .before .swap-pass .ensures) (c .before .before .before .before .before .before .before .before .before .loop-test .taken) (c .before .if1 .left) (c .before .before .before .before .before .before .swap-pass .kept .1 .1 .1 .1 .1 .0) (c .before .before .before .before .before .before .swap-pass .kept .1 .1 .1 .1 .1 .1 .0) (c .add-capped .ensures)
+loop-again c = running-more (c .before .before .before .before .before .before .before .before .before .before .loop .inv) (c .before .before .before .before .before .before .swap-pass .ensures .0) (c .before .before .before .before .before .before .before .before .before .loop-test .taken) (c .before .if1 .left) (c .before .before .before .before .before .before .swap-pass .kept .1 .1 .1 .1 .1 .0) (c .before .before .before .before .before .before .swap-pass .kept .1 .1 .1 .1 .1 .1 .0) (c .add-capped .ensures)
 
 same-length-3 : tie.Need-same-length-3 Inv-loop μ-loop
 same-length-3 c = c .before .loop .inv .len

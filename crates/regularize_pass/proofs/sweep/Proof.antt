@@ -36,7 +36,7 @@ same-length-2 : tie.Need-same-length-2 Inv-loop μ-loop
 same-length-2 c = c .before .loop .inv .kept .len
 
 returns : tie.Need-returns Inv-loop μ-loop
-returns c = sweeping-end (c .before .loop .inv) (omega (arith, c .loop-test .left))
+returns c = let t = c .before .loop .inv in (sweeping-end t (omega (arith, c .loop-test .left)), t .trying .holds .bounded)
 
 pub sweep-spec : {M : Type 1} → statement M
 sweep-spec =

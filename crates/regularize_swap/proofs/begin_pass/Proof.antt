@@ -35,7 +35,7 @@ same-length : tie.Need-same-length
 same-length c = search needs
 
 returns : tie.Need-returns
-returns c = begun (c .before .before .before .before .before .before .before .before .before .before .pre) (c .before .before .before .before .before .before .map-sheet .ensures) _ (c .before .before .clear .ensures)
+returns c = let s = c .before .before .before .before .before .before .before .before .before .before in begun (s .pre .0) (s .pre .1) (c .before .before .before .before .before .before .map-sheet .ensures) _ (c .before .before .clear .ensures)
 
 pub begin-pass-spec : {M : Type 1} → statement M
 begin-pass-spec =

@@ -20,7 +20,7 @@ move-valences-requires : tie.Need-move-valences-requires
 move-valences-requires c κs = let s = c .before .before .before .before .before .before .before .before in move-ready (s .pre .0) (s .pre .1) (s .args .k) _ (c .before .before .before .before .before .turned-by .ensures)
 
 bar-six-requires : tie.Need-bar-six-requires
-bar-six-requires c κs = let s = c .before .before .before .before .before .before .before .before .before .before .before .before in (map-moved (s .pre .0) (s .pre .1) (c .before .before .before .move-valences .ensures .1), s .pre .1 .below)
+bar-six-requires c κs = let s = c .before .before .before .before .before .before .before .before .before .before .before .before in (map-moved (s .pre .0) (s .pre .1) (c .before .before .before .move-valences .ensures .1 .0), s .pre .1 .below)
 
 same-length : tie.Need-same-length
 same-length c = search needs

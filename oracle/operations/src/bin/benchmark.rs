@@ -13,7 +13,7 @@ use oracle::field::{BandNumbers, Field};
 use oracle::job;
 use oracle::operation::Operation;
 use oracle::quads::{self, QuadMesh};
-use oracle::{arguments, sheets};
+use oracle::{arguments, crowds, sheets};
 use std::hint::black_box;
 use std::process::ExitCode;
 use std::time::Instant;
@@ -74,11 +74,12 @@ type Hostile = (&'static str, fn(usize) -> QuadMesh, usize);
 
 /// Hostile sheets: one point, or two, has all the quads or half of them. The rule of `coarsen` asks for each diagonal
 /// at a point whether every quad there keeps its shape, which in the guarded wheel only the last one does not.
-const HOSTILE: [Hostile; 4] = [
+const HOSTILE: [Hostile; 5] = [
     ("fan", sheets::fan, 100_000),
     ("poles", poles, 100_000),
     ("wheel", |quads| sheets::wheel(quads / 2), 100_000),
     ("guarded wheel", |quads| sheets::guarded_wheel(quads / 2), 100_000),
+    ("crowded", crowds::crowded, 1_048_576),
 ];
 
 /// Two poles that all quads share, half of them of another label.

@@ -1,12 +1,13 @@
 //! operations [CALLS] [SEED] [OPERATION]: the library's operations and the original on the same random sheets, every
-//! bit compared: single calls, lists of calls on one sheet and drawings, CALLS of them, and behind these some calls with
-//! a level that is not finite. With the name of an operation, single calls of it alone; with the word bottomless, calls
-//! with such a level alone. The library's result and work slices are filled before, and must hold the result and zeros after. Saved and opened jobs,
-//! and the sums of job files, are compared with a second writer and a second reader; what makes, alters or draws a
-//! sheet is compared with a model where a level is not finite.
+//! bit compared: single calls, lists of calls on one sheet and drawings, CALLS of them, and behind these some calls
+//! with a level that is not finite, and some swaps on crowded sheets. With the name of an operation, single calls of it
+//! alone; with the word bottomless or crowded, such calls alone. The library's result and work slices are filled
+//! before, and must hold the result and zeros after. Saved and opened jobs, and the sums of job files, are compared
+//! with a second writer and a second reader; what makes, alters or draws a sheet is compared with a model where a level
+//! is not finite; swaps on crowded sheets are compared with a second model too.
 use operations::faults::Faults;
 use operations::job_faults::{self, JobFaults};
-use operations::{bottomless, draws, lists};
+use operations::{bottomless, crowded, draws, lists};
 use oracle::driver::{self, Shares, Total};
 use oracle::levels::Lowering;
 use oracle::operation::Operation;
@@ -37,8 +38,9 @@ const LONG: u64 = 1000;
 const IN_LISTS: u64 = 12;
 const DRAWN: u64 = 2;
 
-/// How many calls with a level that is not finite there are for 100 others.
+/// How many calls with a level that is not finite there are for 100 others, and how many on crowded sheets.
 const BOTTOMLESS: u64 = 2;
+const CROWDED: u64 = 2;
 
 /// Which calls are made.
 #[derive(Debug, PartialEq)]
@@ -49,12 +51,18 @@ enum Calls {
     Of(Operation),
     /// Those with a level that is not finite.
     Bottomless,
+    /// Swaps on crowded sheets.
+    Crowded,
 }
 
 impl Calls {
-    /// Those of a word, which names an operation or is `bottomless`.
+    /// Those of a word, which names an operation or is `bottomless` or `crowded`.
     fn parse(word: &str) -> Result<Calls, String> {
-        if word == "bottomless" { Ok(Calls::Bottomless) } else { named(word).map(Calls::Of) }
+        match word {
+            "bottomless" => Ok(Calls::Bottomless),
+            "crowded" => Ok(Calls::Crowded),
+            _ => named(word).map(Calls::Of),
+        }
     }
 }
 
@@ -79,16 +87,19 @@ impl Asked {
             Calls::All => all_calls(calls, seed),
             Calls::Of(operation) => single_calls(&[(operation, 100)], calls, seed),
             Calls::Bottomless => bottomless::run(calls, seed),
+            Calls::Crowded => crowded::run(calls, seed),
         })
     }
 }
 
-/// Compares single calls, lists and drawings, as many calls in all, and some more with a level that is not finite.
+/// Compares single calls, lists and drawings, as many calls in all, some more with a level that is not finite, and some
+/// more on crowded sheets.
 fn all_calls(calls: u64, seed: u64) -> Total {
     let mut total = single_calls(&SHARES, calls, seed);
     total += lists::run(calls * IN_LISTS / 100, seed);
     total += draws::run(calls * DRAWN / 100, seed);
     total += bottomless::run(calls * BOTTOMLESS / 100, seed);
+    total += crowded::run(calls * CROWDED / 100, seed);
     total
 }
 
@@ -121,7 +132,7 @@ fn main() -> ExitCode {
         Ok(true) => ExitCode::SUCCESS,
         Ok(false) => ExitCode::FAILURE,
         Err(wrong) => {
-            eprintln!("{wrong}: operations [CALLS] [SEED] [OPERATION or bottomless]");
+            eprintln!("{wrong}: operations [CALLS] [SEED] [OPERATION, bottomless or crowded]");
             ExitCode::FAILURE
         }
     }
@@ -149,8 +160,9 @@ mod tests {
     }
 
     #[test]
-    fn a_word_is_an_operation_or_bottomless() {
+    fn a_word_is_an_operation_or_bottomless_or_crowded() {
         assert_eq!(Calls::parse("bottomless"), Ok(Calls::Bottomless));
+        assert_eq!(Calls::parse("crowded"), Ok(Calls::Crowded));
         assert_eq!(Calls::parse("page"), Ok(Calls::Of(Operation::Page)));
         assert_eq!(Calls::parse("bottom"), Err("bottom is no operation".into()));
     }

@@ -105,6 +105,22 @@ pub fn with_sum(file: &[u8], sum: u64) -> Vec<u8> {
     file
 }
 
+/// So many quads, two or more, on the high z face of the unit box: two along the edge from 0 to 1, and the others
+/// across the points 0, 2, 1 and 4. All but the first are at the point 2, and all of them once that edge is swapped.
+pub fn crowded(quads: usize) -> Sheet {
+    let mut all = vec![[0, 2, 1, 4]; quads];
+    all[..2].copy_from_slice(&[[0, 1, 3, 5], [1, 0, 2, 4]]);
+    let face = [[0.0, 0.0], [1.0, 0.5], [0.5, 0.0], [0.5, 0.5], [1.0, 0.0], [0.0, 0.5]];
+    Sheet { points: face.map(|[x, y]| [x, y, 1.0]).to_vec(), quads: all, labels: vec![7; quads] }
+}
+
+/// How many quads each point has.
+pub fn valences(sheet: &Sheet) -> Vec<usize> {
+    let mut quads = vec![0; sheet.points.len()];
+    sheet.quads.as_flattened().iter().for_each(|&corner| quads[corner as usize] += 1);
+    quads
+}
+
 /// The quads at each edge.
 pub fn edges(sheet: &Sheet) -> BTreeMap<(u32, u32), usize> {
     let mut edges = BTreeMap::new();

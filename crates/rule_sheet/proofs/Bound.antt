@@ -8,12 +8,12 @@ use native.Mathlib.Omega.{arith}
 use native.Mathlib.Decide.{ℕ-discrete}
 use lib.Dec.{eqb}
 use lib.ListN.{length}
 use Rattle.rule_sheet.specs.Quads.{Quad, quad, corners, at, valence}
 use Rattle.rule_sheet.specs.Claims.{All, Differ}
 use Rattle.rule_sheet.proofs.Weigh.{at-diff}
 
 -- A quad of different corners has v once at most.
-pub corner-once : (q : Quad) (v : ℕ) → Differ q → corners (at v (λ p n. 1)) q ≤ 1
+corner-once : (q : Quad) (v : ℕ) → Differ q → corners (at v (λ p n. 1)) q ≤ 1
 corner-once (quad a b c d) v (ab, ac, ad, bc, bd, cd) = go (ℕ-discrete a v) (ℕ-discrete b v) (ℕ-discrete c v)
   where
     most : (p m n : ℕ) → at v (λ p n. 1) p m n ≤ 1
