@@ -76,7 +76,7 @@ at-pos v g p m n h = go (ℕ-discrete m v)
     go (yes p) = p
     go (no k) = absurd (omega (arith, at-diff v g p m n k))
 
-pub all-set : (S : List Quad) (i : ℕ) (q : Quad) → All Differ S → Differ q → All Differ (set S i q)
+all-set : (S : List Quad) (i : ℕ) (q : Quad) → All Differ S → Differ q → All Differ (set S i q)
 unfolding All
 all-set [] i q a p = tt
 all-set (x ∷ S) zero q (px, a) p = (p, a)

@@ -9,10 +9,11 @@ use native.Mathlib.Decide.{ℕ-discrete}
 use native.Mathlib.Nat.{add-comm}
 use lib.Dec.{eqb}
 use lib.ListN.{length, replicate}
-use Rattle.rule_sheet.specs.Quads.{Quad, quad, is, corners, at, uses}
+use Rattle.rule_sheet.specs.Quads.{Quad, quad, is, corners, at}
 use Rattle.rule_sheet.specs.Claims.{Differ, All}
 use Rattle.rule_sheet.proofs.FirstUse.{is-same, is-other}
-use Rattle.rule_sheet.proofs.Weigh.{at-diff, is-le, side-at-end}
+use Rattle.rule_sheet.proofs.Weigh.{is-le, side-at-end}
+use Rattle.rule_sheet.proofs.Bound.{uses-once}
 use Rattle.rule_finer.specs.Smoothed.{timed, sides, edgeQuads}
 
 -- an edge has the same quads from either end
@@ -54,26 +55,6 @@ corner-once u v p m n h = go (eqb m u) (ℕ-discrete v n)
     go false d = omega arith
     go true (yes e) = omega (arith, is-same v n e, is-other v p (λ k. h (sym k ∙ e)))
     go true (no e) = omega (arith, is-other v n e, is-le v p)
-
--- different corners are not all u
-uses-once : (u : ℕ) (q : Quad) → Differ q → uses u q ≤ 1
-uses-once u (quad a b c d) (ab, ac, ad, bc, bd, cd) = go (ℕ-discrete a u) (ℕ-discrete b u) (ℕ-discrete c u) (ℕ-discrete d u)
-  where
-    one : (p m n : ℕ) → at u (λ p n. 1) p m n ≤ 1
-    one p m n = le (eqb m u)
-      where
-        le : (t : Bool) → _≤_ (cond t 1 0) 1
-        le true = omega arith
-        le false = omega arith
-
-    none : (p m n x : ℕ) → x ≢ m → x ≡ u → at u (λ p n. 1) p m n ≡ 0
-    none p m n x h e = at-diff u (λ p n. 1) p m n (λ k. h (e ∙ sym k))
-
-    go : Dec (a ≡ u) → Dec (b ≡ u) → Dec (c ≡ u) → Dec (d ≡ u) → uses u (quad a b c d) ≤ 1
-    go (yes e) B C D = omega (arith, one d a b, none a b c a ab e, none b c d a ac e, none c d a a ad e)
-    go (no x) (yes e) C D = omega (arith, at-diff u (λ p n. 1) d a b x, one a b c, none b c d b bc e, none c d a b bd e)
-    go (no x) (no y) (yes e) D = omega (arith, at-diff u (λ p n. 1) d a b x, at-diff u (λ p n. 1) a b c y, one b c d, none c d a c cd e)
-    go (no x) (no y) (no z) D = omega (arith, at-diff u (λ p n. 1) d a b x, at-diff u (λ p n. 1) a b c y, at-diff u (λ p n. 1) b c d z, one c d a)
 
 sides-once : (u v : ℕ) (q : Quad) → Differ q → sides u v q ≤ 1
 sides-once u v (quad a b c d) (ab, ac, ad, bc, bd, cd) = omega (
