@@ -1,5 +1,7 @@
 // Whether a call on a lent sheet is admitted: 12, 13, 1, 5, 6 and 7, in this order.
 
+#![tactic(auto)]
+
 ghost use Rattle.std.specs.Prelude.{◌≡◌, ◌+◌, ◌*◌, ◌≤◌, ◌<◌, length, take};
 ghost use Rattle.setting.specs.Settings.{domain_of, setting_of};
 ghost use Rattle.rule_sheet.specs.Flat.{quads_of};

@@ -56,7 +56,8 @@ level_sign_of l = cond (eqb l 0) one (neg one)
 unfoldable pub face_normal_of : ℕ → Point
 face_normal_of l =
     cond (ltb l 4) (record { x = side_of l; y = zero_f; z = zero_f })
-    (cond (ltb l 6) (record { x = zero_f; y = side_of l; z = zero_f }) (record { x = zero_f; y = zero_f; z = side_of l }))
+    (cond (ltb l 6) (record { x = zero_f; y = side_of l; z = zero_f })
+    (record { x = zero_f; y = zero_f; z = side_of l }))
 
 -- the outward normal at p: a level's along the gradient, a face's along its axis
 unfoldable pub normal_with : Field → Float → Point → ℕ → Point

@@ -1,6 +1,8 @@
 // A band of a field between two levels, clipped by a box: its length, gradient, normal, and the two tests of its
 // figures.
 
+#![tactic(auto)]
+
 ghost use Rattle.std.specs.Prelude.{◌≡◌};
 ghost use Rattle.band.specs.Bands.{length_of, difference_of, central_of, gradient_with, side_of, level_sign_of};
 ghost use Rattle.band.specs.Bands.{face_normal_of, normal_with, axis_valid_of, box_valid_of, levels_valid_of};
@@ -10,7 +12,7 @@ use field::{Field, FieldGradient};
 use points::Point;
 
 // The box from low to high, the levels lower and upper, and the field.
-#[derive(Drop)]
+#[derive(Clone, Copy)]
 pub struct Band {
     pub low: Point,
     pub high: Point,

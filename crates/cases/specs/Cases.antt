@@ -1,7 +1,8 @@
 -- The cases that document 01 marks with *, "proved of the definitions together, by a table and one theorem about it",
 -- and those of tight, of the corners per point, of the page, of job files and of a band without a lower level. A row
 -- says what is asked of the rules and what they must answer.
-use Rattle.std.specs.Prelude.{ℕ, ◌+◌, ◌-◌, ◌*◌, ◌≡◌, Bool, true, false, List, [], ◌∷◌, ◌++◌, map, ℤ, pos, negsuc, ◌+ℤ◌, ◌-ℤ◌, length, drop, replicate, Float}
+use Rattle.std.specs.Prelude.{ℕ, ◌+◌, ◌-◌, ◌*◌, ◌≡◌, Bool, true, false, List, [], ◌∷◌, ◌++◌, map, ℤ, pos, negsuc, ◌+ℤ◌}
+use Rattle.std.specs.Prelude.{◌-ℤ◌, length, drop, replicate, Float}
 use Prim.Native.String.{String}
 use Rattle.std.specs.Float.{fin, inf, binary64}
 use Rattle.std.specs.Float.Ieee.{to_bits}
@@ -234,7 +235,8 @@ Holds (quality_case s closed links tight) =
     (λ a. (a.quality.bad_vertex_links ≡ links) × (a.is_tight ≡ tight))
 Holds (corners_case s quotient remainder) = HasCorners unit_box s quotient remainder
 Holds (finer_corners_case s points quads quotient remainder) =
-    Gives (refine_rule (lent_sheet s) (work_for s) (room_for points quads)) (λ t. HasCorners unit_box t quotient remainder)
+    Gives (refine_rule (lent_sheet s) (work_for s) (room_for points quads))
+    (λ t. HasCorners unit_box t quotient remainder)
 Holds (page_case counts lines) =
     (q : Quality) → eight_counts q ≡ counts → page_of q ≡ join_of (λ l. bytes_of l ++ (line_end ∷ [])) lines
 Holds (bottomless_case s tight quotient remainder) =
@@ -249,7 +251,8 @@ Holds (bottomless_case s tight quotient remainder) =
 Holds (job_case s size trailer) =
     Gives (save_rule (job_for s) (length s.points) size) (λ j. IsFile (file_of j) (job_for s) size trailer)
 Holds (older_job_case s size trailer) = IsFile (file_with Missing (job_for s)) (job_for s) size trailer
-Holds (other_sum_case s n) = open_rule (file_with (Written n) (job_for s)) (room_for_job (job_for s)) ≡ refuses sum_number
+Holds (other_sum_case s n) =
+    open_rule (file_with (Written n) (job_for s)) (room_for_job (job_for s)) ≡ refuses sum_number
 Holds (sum_case points quads corners n) =
     sum_of (job_of (record { points = points; quads = quads; labels = 0 }) [] [] corners []) ≡ n
 Holds (root_case of is) = sqrt_of of ≡ is

@@ -1,5 +1,7 @@
 // The merged sheet: `coarsen`, the tests of a call and its passes.
 
+#![tactic(auto)]
+
 ghost use Rattle.std.specs.Prelude.{◌≡◌, length};
 ghost use Rattle.setting.specs.Settings.{setting_of};
 ghost use Rattle.rule_sheet.specs.Lent.{lent_of, work_of, work_with};

@@ -1,6 +1,8 @@
 // The renumbering after a pass of merges: the quads that are still here, their labels, and the points in the order
 // of their first use.
 
+#![tactic(auto)]
+
 ghost use Rattle.std.specs.Prelude.{◌≡◌, cond, ◌+◌, ◌*◌, ◌/◌, ◌<◌, ◌≤◌, eqb, length, get_or, set, take};
 ghost use Rattle.lists.specs.Sort.{tabulate};
 ghost use Rattle.lists.specs.Regions.{part, Out, Kept};

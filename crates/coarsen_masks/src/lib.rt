@@ -1,5 +1,7 @@
 // The test of two masks of labels whose points may become one.
 
+#![tactic(auto)]
+
 ghost use Rattle.std.specs.Prelude.{◌≡◌};
 ghost use Rattle.coarsen_masks.specs.Masks.{no_opposite, part_of, masks_joined};
 

@@ -66,7 +66,8 @@ none_further Q n f v u = every (not_further (point_corners Q n v) Q f u) (length
 
 -- v and u share only the neighbours b and d
 unfoldable pub shared_only : List ℕ → ℕ → ℕ → ℕ → ℕ → ℕ → Bool
-shared_only Q n v b u d = every (shares_none (point_corners Q n v) Q (quads_of n Q) b d u) (length (point_corners Q n v))
+shared_only Q n v b u d =
+    every (shares_none (point_corners Q n v) Q (quads_of n Q) b d u) (length (point_corners Q n v))
 
 -- ---- the state of a pass
 
@@ -105,7 +106,8 @@ meet_only np nq f a b c d w =
 -- the tests that read masks and numbers of quads
 unfoldable pub worth_it : ℕ → ℕ → ℕ → ℕ → ℕ → ℕ → List ℕ → Bool
 worth_it np nq a b c d w =
-    masks_joined (get_or w a 0) (get_or w c 0) && leb 4 (valence (start_in np nq w) b) && leb 4 (valence (start_in np nq w) d)
+    masks_joined (get_or w a 0) (get_or w c 0) && leb 4 (valence (start_in np nq w) b)
+    && leb 4 (valence (start_in np nq w) d)
     && leb (sum_after np (start_in np nq w) no_labels a b c d) (sum_before np (start_in np nq w) no_labels a b c d)
 
 -- all tests of a diagonal that do not read the points

@@ -1,5 +1,7 @@
 // The tests of a tried diagonal of a quad, whose two corners may become one point.
 
+#![tactic(auto)]
+
 ghost use Rattle.std.specs.Prelude.{◌≡◌, ◌+◌, ◌*◌, ◌<◌, ◌≤◌, length};
 ghost use Rattle.lists.specs.Every.{every};
 ghost use Rattle.rule_sheet.specs.Quads.{valence};
@@ -26,14 +28,14 @@ pub const TOUCHED: usize = 25;
 pub const ENDED: usize = 26;
 
 // A part of the work slice, from one place to another.
-#[derive(Drop)]
+#[derive(Clone, Copy)]
 pub struct Span {
     pub from: usize,
     pub to: usize,
 }
 
 // The sums over the corners of a quad before a merge and after it.
-#[derive(Drop)]
+#[derive(Clone, Copy)]
 pub struct Sums {
     pub before: usize,
     pub after: usize,

@@ -1,5 +1,7 @@
 // Where points lie after a merge, and whether a quad keeps its shape then.
 
+#![tactic(auto)]
+
 ghost use Rattle.std.specs.Prelude.{◌≡◌, ◌*◌, ◌<◌, ◌≤◌, length};
 ghost use Rattle.points.specs.Points.{halfway_p, point_at};
 ghost use Rattle.projection.specs.Project.{longest_move, look_count, project_with};

@@ -1,5 +1,7 @@
 // A pass of merges over a sheet: the masks and the map of its start, then the quads in order, each with both diagonals.
 
+#![tactic(auto)]
+
 ghost use Rattle.std.specs.Prelude.{◌≡◌, true, ◌+◌, ◌*◌, ◌≤◌, length, take};
 ghost use Rattle.lists.specs.Every.{every};
 ghost use Rattle.lists.specs.Regions.{Part, Out, Kept};

@@ -1,5 +1,7 @@
 // Passes of merges over an accepted sheet, until one merges nothing.
 
+#![tactic(auto)]
+
 ghost use Rattle.std.specs.Prelude.{◌≡◌, length};
 ghost use Rattle.band.specs.Bands.{length_of};
 ghost use Rattle.setting.specs.Settings.{setting_of};

@@ -1,5 +1,7 @@
 // The search for the merge in a quad: its two diagonals are tried, and the one that gains more is taken.
 
+#![tactic(auto)]
+
 ghost use Rattle.std.specs.Prelude.{◌≡◌, ◌+◌, ◌*◌, ◌<◌, ◌≤◌, max, length, true};
 ghost use Rattle.coarsen_merge.specs.Conditions.{StartHolds, TouchedHolds};
 ghost use Rattle.coarsen_merge.specs.Steps.{allowed_in};
@@ -23,7 +25,7 @@ use projection::Projected;
 use rule_coarsen::Merge;
 
 // A diagonal of a quad: the corners a and c that a merge makes one, and the other two.
-#[derive(Drop)]
+#[derive(Clone, Copy)]
 pub struct Diagonal {
     pub face: usize,
     pub a: usize,
@@ -33,7 +35,7 @@ pub struct Diagonal {
 }
 
 // A merge that the rule allows: what it gains, the corners that become one, and where.
-#[derive(Drop)]
+#[derive(Clone, Copy)]
 pub struct Candidate {
     pub gain: usize,
     pub a: usize,
@@ -42,35 +44,35 @@ pub struct Candidate {
 }
 
 // What a search finds.
-#[derive(Drop)]
+#[derive(Clone, Copy)]
 pub enum Choice {
     None,
     Take(Candidate),
 }
 
 // Where the walk round a point ended; the number of points stands for no point.
-#[derive(Drop)]
+#[derive(Clone, Copy)]
 pub struct Ended {
     pub point: usize,
     pub place: usize,
 }
 
 // The ends of a diagonal, in the order in which the quads at them are asked.
-#[derive(Drop)]
+#[derive(Clone, Copy)]
 pub struct Ends {
     pub first: usize,
     pub second: usize,
 }
 
 // The better of what was found and a diagonal, and where the last walk for it ended.
-#[derive(Drop)]
+#[derive(Clone, Copy)]
 pub struct Weighing {
     pub best: Choice,
     pub ended: Ended,
 }
 
 // What a search finds, and where the last walks of its two diagonals ended.
-#[derive(Drop)]
+#[derive(Clone, Copy)]
 pub struct Found {
     pub choice: Choice,
     pub first: Ended,

@@ -1,5 +1,6 @@
 -- The shapes round a merge, one point at a time.
-use Rattle.std.specs.Prelude.{ℕ, ◌*◌, ◌/◌, ◌≤◌, ◌<◌, Bool, true, false, not, ◌||◌, ◌≡◌, List, length, get_or, eqb, Float}
+use Rattle.std.specs.Prelude.{ℕ, ◌*◌, ◌/◌, ◌≤◌, ◌<◌, Bool, true, false, not, ◌||◌, ◌≡◌, List, length, get_or, eqb}
+use Rattle.std.specs.Prelude.{Float}
 use Rattle.points.specs.declared.Point.{Point}
 use Rattle.field.specs.declared.Field.{Field}
 use Rattle.rule_sheet.specs.Flat.{quad_at}

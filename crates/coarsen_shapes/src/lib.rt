@@ -1,5 +1,7 @@
 // Whether the quads round a merged point keep their shapes.
 
+#![tactic(auto)]
+
 ghost use Rattle.std.specs.Prelude.{◌≡◌, ◌+◌, ◌*◌, ◌<◌, ◌≤◌, length, get_or};
 ghost use Rattle.points.specs.Points.{point_at};
 ghost use Rattle.lists.specs.Every.{every};
@@ -12,7 +14,7 @@ use field::Field;
 use rule_coarsen::Merge;
 
 // Whether the quads at a point stay, and where the walk over its corners ended.
-#[derive(Drop)]
+#[derive(Clone, Copy)]
 pub struct Stay {
     pub stays: bool,
     pub at: usize,

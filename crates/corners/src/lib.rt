@@ -1,5 +1,7 @@
 // `corners_per_point`: 4 × quads ÷ points of a sheet, as a whole number and the exact remainder.
 
+#![tactic(auto)]
+
 ghost use Rattle.std.specs.Prelude.{◌≡◌, ◌≤◌, ◌<◌, length};
 ghost use Rattle.setting.specs.Settings.{domain_of};
 ghost use Rattle.rule_sheet.specs.Lent.{lent_of, work_of, work_with, limit};

@@ -1,6 +1,8 @@
 // The edges of a sheet. The edge map: is a pair of points an edge? The corners in the order of their edges, and a
 // search by halves among those of a smaller point. The walk over the corners in that order: what begins at each place.
 
+#![tactic(auto)]
+
 ghost use Rattle.std.specs.Prelude.{◌≡◌, true, ◌+◌, ◌-◌, ◌*◌, ◌<◌, ◌≤◌, length, get_or, take, ltb};
 ghost use Rattle.lists.specs.Sort.{tabulate};
 ghost use Rattle.lists.specs.Steps.{count_of};
@@ -17,7 +19,7 @@ ghost use Rattle.edges.specs.Conditions.{EdgeMapHolds, Ascending, Narrowed, Walk
 use incidence::Key;
 
 // The places from lo up to hi.
-#[derive(Drop)]
+#[derive(Clone, Copy)]
 struct Span {
     lo: usize,
     hi: usize,
@@ -36,7 +38,7 @@ const TURNED: u32 = 3;
 const NONMANIFOLD: u32 = 4;
 
 // The edges with one quad, with more than two, and with two that run the same way.
-#[derive(Drop)]
+#[derive(Clone, Copy)]
 pub struct EdgeCounts {
     pub boundary: usize,
     pub nonmanifold: usize,

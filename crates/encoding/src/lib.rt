@@ -1,5 +1,7 @@
 // Little-endian numbers in bytes, and the copy of bytes.
 
+#![tactic(auto)]
+
 ghost use Rattle.std.specs.Prelude.{◌≡◌, ◌++◌, ◌+◌, ◌*◌, ◌≤◌, length, take, drop};
 ghost use Rattle.lists.specs.Regions.{part};
 ghost use Rattle.encoding.specs.Encoding.{little, number, littles, numbers};

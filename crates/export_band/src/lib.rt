@@ -1,6 +1,8 @@
 // How the exports take a band: its field as a kind and ten numbers, its box as six bounds, and two levels; and how
 // they show an answer.
 
+#![tactic(auto)]
+
 ghost use Rattle.std.specs.Prelude.{◌≡◌, cond, ◌||◌, ltb, get_or};
 ghost use Rattle.std.specs.Float.{nan};
 ghost use Rattle.rule_sheet.specs.declared.Verdict.TheVariants.{Accepted, Refused};

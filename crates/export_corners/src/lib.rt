@@ -1,5 +1,7 @@
 // `corners_per_point` after a test, and what its export shows of its answer.
 
+#![tactic(auto)]
+
 ghost use Rattle.std.specs.Prelude.{◌≡◌, cond, [], ◌∷◌, ◌≤◌, length};
 ghost use Rattle.setting.specs.Settings.{domain_of};
 ghost use Rattle.rule_sheet.specs.Lent.{lent_of, work_of};

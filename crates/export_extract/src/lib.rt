@@ -1,5 +1,7 @@
 // `extract_candidate` after a test: its refusal, or the operation.
 
+#![tactic(auto)]
+
 ghost use Rattle.std.specs.Prelude.{cond};
 ghost use Rattle.setting.specs.Settings.{domain_of};
 ghost use Rattle.rule_sheet.specs.Lent.{room_of, work_with, work_of};

@@ -1,5 +1,7 @@
 // The operations that make a sheet of another, after a test: its refusal, or the operation.
 
+#![tactic(auto)]
+
 ghost use Rattle.setting.specs.Settings.{setting_of};
 ghost use Rattle.rule_sheet.specs.Lent.{lent_of, room_of, work_of};
 ghost use Rattle.rule_sheet.specs.Outcomes.{after_test};

@@ -1,5 +1,7 @@
 // `save` after a test, `open` where what its export answers in is too short, and what a trailer says of the sum.
 
+#![tactic(auto)]
+
 ghost use Rattle.std.specs.Prelude.{◌≡◌, true, cond, [], ◌∷◌, ◌≤◌, length, replicate};
 ghost use Rattle.rule_sheet.specs.Outcomes.{gives, after_test};
 ghost use Rattle.rule_job.specs.Files.{job_of};

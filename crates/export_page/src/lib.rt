@@ -1,5 +1,7 @@
 // `page` after a test.
 
+#![tactic(auto)]
+
 ghost use Rattle.std.specs.Prelude.{length};
 ghost use Rattle.setting.specs.Settings.{domain_of};
 ghost use Rattle.rule_sheet.specs.Lent.{lent_of, work_of};

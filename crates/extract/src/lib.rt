@@ -1,5 +1,7 @@
 // The sheet drawn around a band: the surface where its levels and the faces of its box are met, in quads.
 
+#![tactic(auto)]
+
 ghost use Rattle.std.specs.Prelude.{◌≡◌, true, ◌+◌, ◌*◌, ◌≤◌, length, take};
 ghost use Rattle.setting.specs.Settings.{domain_of};
 ghost use Rattle.rule_sheet.specs.Flat.{quads_of, flat_quads};

@@ -30,4 +30,5 @@ merged_if test G p = cond (test p) (merged G p) G
 -- the groups once the first t pairs are seen
 unfoldable pub joined_to : (ℕ → Bool) → (ℕ → Bool) → ℕ → List ℕ
 joined_to sign centre zero = tabulate itself 12
-joined_to sign centre (suc t) = merged_if (joined_by sign (centre (t / 6)) (t / 6)) (joined_to sign centre t) (pair_at t)
+joined_to sign centre (suc t) =
+    merged_if (joined_by sign (centre (t / 6)) (t / 6)) (joined_to sign centre t) (pair_at t)

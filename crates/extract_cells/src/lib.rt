@@ -1,8 +1,11 @@
 // What a cell of the grid draws, by the signs at its eight corners: which of its edges cross the band, and which
 // crossings belong together.
 
+#![tactic(auto)]
+
 ghost use Rattle.std.specs.Prelude.{◌≡◌, cond, ◌/◌, ◌%◌, ◌<◌, length, get_or};
-ghost use Rattle.rule_extract.specs.Cells.{bit_of, low_end, high_end, crosses, edges_on, four_on, pair, is_end, shared_by};
+ghost use Rattle.rule_extract.specs.Cells.{bit_of, low_end, high_end, crosses, edges_on, four_on, pair, is_end};
+ghost use Rattle.rule_extract.specs.Cells.{shared_by};
 ghost use Rattle.rule_extract.specs.Cells.{parted, renamed_of, merged, groups_of};
 ghost use Rattle.extract_cells.specs.Cells.{kind_bit, kind_of, pair_at, joined_by, merged_if};
 

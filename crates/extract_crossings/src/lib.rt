@@ -1,6 +1,8 @@
 // Where the grid's edges cross the band. A crossing is found by 32 halvings of its edge; the decisions, one bit
 // each, are its path, by which it is found again without a sample.
 
+#![tactic(auto)]
+
 ghost use Rattle.std.specs.Prelude.{◌≡◌, cond};
 ghost use Rattle.extract_crossings.specs.Crossings.{Near, replay_from, path_from};
 ghost use Rattle.rule_extract.specs.Crossings.{next_site, edge_span, mid_of, keeps, narrowed, halvings};

@@ -1,5 +1,7 @@
 // The inner edges of the grid, row by row, and how many of them cross the band.
 
+#![tactic(auto)]
+
 ghost use Rattle.std.specs.Prelude.{◌≡◌, ◌+◌, ◌-◌, ◌≤◌, ◌<◌, length};
 ghost use Rattle.rule_sheet.specs.Edges.{join_to};
 ghost use Rattle.rule_extract.specs.Crossings.{next_site};
@@ -13,7 +15,7 @@ use rule_extract::{Grid, Site};
 
 // A row of inner edges: those along an axis from its place a, at place b of the next axis. The first one begins at
 // the sample `from`; an edge ends at the sample `next` behind, and the edge after it begins `step` behind.
-#[derive(Drop)]
+#[derive(Clone, Copy)]
 pub struct Row {
     pub axis: usize,
     pub a: usize,

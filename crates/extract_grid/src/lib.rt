@@ -1,6 +1,8 @@
 // The grid of extraction as numbered places: its samples in a slice, the signs at the corners of a cell and at the
 // centres of its faces.
 
+#![tactic(auto)]
+
 ghost use Rattle.std.specs.Prelude.{◌≡◌, ◌+◌, ◌*◌, ◌≤◌, ◌<◌, length};
 ghost use Rattle.lists.specs.Sort.{tabulate};
 ghost use Rattle.lists.specs.Every.{every};

@@ -1,6 +1,7 @@
 -- The paths of all crossings in a list of twelve slots a cell: slot 12 × e + j is for the edge j of the cell with
 -- the number e.
-use Rattle.std.specs.Prelude.{ℕ, ◌+◌, ◌-◌, ◌*◌, ◌/◌, ◌%◌, ◌≤◌, ◌<◌, ◌≡◌, true, cond, ◌&&◌, List, eqb, ltb, length, get_or}
+use Rattle.std.specs.Prelude.{ℕ, ◌+◌, ◌-◌, ◌*◌, ◌/◌, ◌%◌, ◌≤◌, ◌<◌, ◌≡◌, true, cond, ◌&&◌, List, eqb, ltb, length}
+use Rattle.std.specs.Prelude.{get_or}
 use Rattle.rule_extract.specs.declared.Grid.{Grid}
 use Rattle.rule_extract.specs.declared.Site.{Site}
 use Rattle.extract_crossings.specs.Crossings.{path_of}
@@ -19,7 +20,8 @@ cell_of n i = site_at n (i / 12)
 -- the first i slots of a list have the paths of those edges that cross
 pub record Pathed (g : Grid) (n : ℕ) (w : List ℕ) (i : ℕ) : Type 0 where
   pub fits : i ≤ length w
-  pub is : (k : ℕ) → k < i → edge_crosses g (cell_of n k) (k % 12) ≡ true → get_or w k 0 ≡ edge_path g (cell_of n k) (k % 12)
+  pub is : (k : ℕ) → k < i → edge_crosses g (cell_of n k) (k % 12) ≡ true
+      → get_or w k 0 ≡ edge_path g (cell_of n k) (k % 12)
 
 -- ---- where a path stands already
 

@@ -1,6 +1,8 @@
 // The paths of all crossings of the grid, in twelve slots a cell: slot 12 × e + j is for the edge j of the cell
 // with the number e. Each crossing is sampled once: a cell takes over what the cell before it has found.
 
+#![tactic(auto)]
+
 ghost use Rattle.std.specs.Prelude.{◌≡◌, true, ◌+◌, ◌*◌, ◌≤◌, ◌<◌, length};
 ghost use Rattle.rule_extract.specs.Cells.{bit_of};
 ghost use Rattle.extract_cells.specs.Cells.{kind_of};

@@ -1,5 +1,6 @@
 -- What the loops of extraction know of a cell: its kind, its groups and the paths in its slots.
-use Rattle.std.specs.Prelude.{ℕ, ◌+◌, ◌*◌, ◌%◌, ◌≤◌, ◌<◌, ◌≡◌, Bool, true, cond, ◌&&◌, List, [], ◌∷◌, eqb, length, get_or, set, Float}
+use Rattle.std.specs.Prelude.{ℕ, ◌+◌, ◌*◌, ◌%◌, ◌≤◌, ◌<◌, ◌≡◌, Bool, true, cond, ◌&&◌, List, [], ◌∷◌, eqb, length}
+use Rattle.std.specs.Prelude.{get_or, set, Float}
 use Rattle.lists.specs.Every.{some, count_to}
 use Rattle.points.specs.declared.Point.{Point}
 use Rattle.points.specs.Points.{add_p}

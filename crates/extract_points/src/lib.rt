@@ -1,5 +1,7 @@
 // The sheet that extraction draws, from the samples of the grid and the paths of its crossings.
 
+#![tactic(auto)]
+
 ghost use Rattle.std.specs.Prelude.{◌≡◌, true, cond, map, ◌+◌, ◌*◌, ◌^◌, ◌≤◌, ◌<◌, length, get_or};
 ghost use Rattle.rule_sheet.specs.Lent.{limit};
 ghost use Rattle.rule_extract.specs.Lattice.{site_at, case_of};
@@ -20,7 +22,7 @@ use points::Point;
 use rule_extract::{Grid, Site};
 
 // The sum of some crossings, and how many they are.
-#[derive(Drop)]
+#[derive(Clone, Copy)]
 pub struct Sum {
     pub point: Point,
     pub count: usize,

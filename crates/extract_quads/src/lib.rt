@@ -1,5 +1,7 @@
 // The quads and labels that extraction draws: one for each inner edge of the grid that crosses the band.
 
+#![tactic(auto)]
+
 ghost use Rattle.std.specs.Prelude.{◌≡◌, true, ◌+◌, ◌-◌, ◌*◌, ◌≤◌, ◌<◌, length, set};
 ghost use Rattle.rule_sheet.specs.Edges.{join_to};
 ghost use Rattle.rule_sheet.specs.Flat.{flat_quads};

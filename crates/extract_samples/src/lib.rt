@@ -1,9 +1,12 @@
 // Samples of a band: how far outside it a point lies, and which of its levels and faces is the farthest; the grid
 // that extraction lays over its box.
 
+#![tactic(auto)]
+
 ghost use Rattle.std.specs.Prelude.{◌≡◌, ◌<◌};
 ghost use Rattle.rule_extract.specs.Samples.{farther_of, levels_of, axis_of, sample_of, is_inside};
-ghost use Rattle.rule_extract.specs.Grids.{coordinate_of, grid_point, middle_of, face_centre, step_of, start_of, scale_of};
+ghost use Rattle.rule_extract.specs.Grids.{coordinate_of, grid_point, middle_of, face_centre, step_of, start_of};
+ghost use Rattle.rule_extract.specs.Grids.{scale_of};
 ghost use Rattle.rule_extract.specs.Grids.{steps_of, starts_of, grid_of};
 
 use band::Band;

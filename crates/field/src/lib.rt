@@ -1,12 +1,14 @@
 // A field is one of three kinds, each with its own numbers.
 
+#![tactic(auto)]
+
 ghost use Rattle.std.specs.Prelude.{◌≡◌};
 ghost use Rattle.field.specs.Fields.{value_of, field_gradient_of};
 
 use points::Point;
 
 // The ten coefficients of a quadric.
-#[derive(Drop)]
+#[derive(Clone, Copy)]
 pub struct Coefficients {
     pub k0: f64,
     pub k1: f64,
@@ -21,7 +23,7 @@ pub struct Coefficients {
 }
 
 // A plane (a, b, c, d), a ball (cx, cy, cz, r) or a quadric.
-#[derive(Drop)]
+#[derive(Clone, Copy)]
 pub enum Field {
     Plane(f64, f64, f64, f64),
     Ball(f64, f64, f64, f64),
@@ -29,7 +31,7 @@ pub enum Field {
 }
 
 // A gradient of the field's own, or none.
-#[derive(Drop)]
+#[derive(Clone, Copy)]
 pub enum FieldGradient {
     Known(Point),
     Missing,

@@ -9,7 +9,8 @@ use Rattle.rule_sheet.specs.Outcomes.{gives}
 use Rattle.rule_sheet.specs.Sound.{squared_of}
 use Rattle.rule_sheet.specs.Squared.{squared}
 use Rattle.rule_job.specs.declared.Sum.TheVariants.{Missing, Written}
-use Rattle.rule_job.specs.Files.{Job, job_of, sum_of, quads_at, labels_at, trailer_at, file_with, file_of, size_of, word_at}
+use Rattle.rule_job.specs.Files.{Job, job_of, sum_of, quads_at, labels_at, trailer_at, file_with, file_of, size_of}
+use Rattle.rule_job.specs.Files.{word_at}
 use Rattle.rule_job.specs.Jobs.{JobRoom, is_short_job, held_job, save_rule, Saves, open_rule, sum_rule}
 
 -- what the types of lent slices say: "eight f64", coordinates of 64 bits, corners of 32, labels of 8

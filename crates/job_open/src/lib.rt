@@ -1,5 +1,7 @@
 // `open`: a core out of the bytes of a job file.
 
+#![tactic(auto)]
+
 ghost use Rattle.std.specs.Prelude.{◌≡◌, ◌+◌, ◌*◌, ◌≤◌, length, take, replicate};
 ghost use Rattle.rule_sheet.specs.Flat.{quads_of};
 ghost use Rattle.rule_sheet.specs.Lent.{before_verdict};

@@ -1,5 +1,7 @@
 // `save`: a core as the bytes of a job file.
 
+#![tactic(auto)]
+
 ghost use Rattle.std.specs.Prelude.{◌≡◌, ◌||◌, ◌++◌, ◌≤◌, ltb, length, take, drop, replicate};
 ghost use Rattle.rule_sheet.specs.Lent.{before_verdict};
 ghost use Rattle.sheet.specs.Sheet.{Few};

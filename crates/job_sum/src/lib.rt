@@ -1,5 +1,7 @@
 // The squared sum of any quads: corners out of range and a point twice in one quad among them.
 
+#![tactic(auto)]
+
 ghost use Rattle.std.specs.Prelude.{◌≡◌, ◌+◌, ◌*◌, ◌≤◌, ◌<◌, ◌^◌, length, get_or, set, take, replicate};
 ghost use Rattle.lists.specs.Sort.{tabulate};
 ghost use Rattle.rule_sheet.specs.Quads.{sum};

@@ -1,5 +1,5 @@
 -- What a slice holds when a part of it, `&mut s[a..e]` or `&mut s[a..]`, has come back: `put_mid a (e - a) s y`. Assumes nothing.
-use Prim.Native.Nat.{ℕ, ◌+◌, ◌-◌, ◌≤◌}
+use Prim.Native.Nat.{ℕ, ◌-◌, ◌≤◌}
 use mathlib.Core.Path.{◌≡◌, ap, ◌∙◌}
 use mathlib.Core.List.{List, ◌++◌, append-nil}
 use native.Mathlib.Omega.{arith}

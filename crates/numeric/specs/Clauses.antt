@@ -1,5 +1,6 @@
 -- What the contracts of this crate's functions ask and ensure besides the definitions of `Num` and `Root`.
-use Rattle.std.specs.Prelude.{◌≡◌, ℕ, ◌+◌, ◌-◌, ◌*◌, ◌/◌, ◌%◌, ◌^◌, ◌<◌, ◌≤◌, false, cond, T, ◌⊎◌, pos, from_bits, nat_lt, Float}
+use Rattle.std.specs.Prelude.{◌≡◌, ℕ, ◌+◌, ◌-◌, ◌*◌, ◌/◌, ◌%◌, ◌^◌, ◌<◌, ◌≤◌, false, cond, T, ◌⊎◌, pos, from_bits}
+use Rattle.std.specs.Prelude.{nat_lt, Float}
 use Rattle.std.specs.Float.{fin, binary64}
 use Rattle.std.specs.Float.Ieee.{le}
 use Rattle.numeric.specs.Num.{abs_of, halfway_of}

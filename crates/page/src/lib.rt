@@ -1,5 +1,7 @@
 // `page`: the eight counts of a sheet as text, one to a line.
 
+#![tactic(auto)]
+
 ghost use Rattle.std.specs.Prelude.{◌≡◌, ◌++◌, ◌+◌, ◌*◌, ◌/◌, ◌^◌, ◌≤◌, length, take};
 ghost use Rattle.setting.specs.Settings.{domain_of};
 ghost use Rattle.rule_sheet.specs.Lent.{lent_of, work_of};

@@ -1,5 +1,6 @@
 -- What document 02, Point 2 says of the page: of its bytes, and of the refusals.
-use Rattle.std.specs.Prelude.{ℕ, zero, suc, ◌+◌, ◌-◌, ◌*◌, ◌%◌, ◌≤◌, ◌<◌, ◌≡◌, true, cond, eqb, leb, length, get_or, drop}
+use Rattle.std.specs.Prelude.{ℕ, zero, suc, ◌+◌, ◌-◌, ◌*◌, ◌%◌, ◌≤◌, ◌<◌, ◌≡◌, true, cond, eqb, leb, length, get_or}
+use Rattle.std.specs.Prelude.{drop}
 use mathlib.Core.List.{List, [], ◌∷◌, foldl}
 use Rattle.lists.specs.Regions.{part}
 use Rattle.setting.specs.Settings.{Domain}

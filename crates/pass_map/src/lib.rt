@@ -1,5 +1,7 @@
 // The start of a pass: the quads, their corners by edge and by point, and their valences, in regions of one work slice.
 
+#![tactic(auto)]
+
 ghost use Rattle.std.specs.Prelude.{◌≡◌, ◌<◌};
 ghost use Rattle.rule_sheet.specs.Quads.{is_edge};
 ghost use Rattle.pass_map.specs.Regions.{start_in};

@@ -1,5 +1,7 @@
 // The centre and the shape of a quad of a sheet, which both passes read.
 
+#![tactic(auto)]
+
 ghost use Rattle.std.specs.Prelude.{◌≡◌, ◌*◌, ◌<◌, ◌≤◌, length};
 ghost use Rattle.points.specs.Points.{point_at};
 ghost use Rattle.incidence.specs.Corners.{Cornered};
@@ -13,7 +15,7 @@ use points::Point;
 pub const GOOD_SHAPE: f64 = 0.25;
 
 // The four corners of a quad, in order.
-#[derive(Drop)]
+#[derive(Clone, Copy)]
 pub struct Four {
     pub a: usize,
     pub b: usize,

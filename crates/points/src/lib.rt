@@ -1,12 +1,14 @@
 // Points in space: three f64, each operation rounded as it is written, left to right.
 
+#![tactic(auto)]
+
 ghost use Rattle.std.specs.Prelude.{◌≡◌, ◌+◌, ◌*◌, ◌≤◌, length};
 ghost use Rattle.points.specs.Points.{add_p, sub_p, mul_p, times_p, dot_p, cross_p, norm_p, unit_by, unit_p, halfway_p};
 ghost use Rattle.points.specs.Points.{origin as origin_p, centre_p, finite_p, point_at};
 ghost use Rattle.points.specs.Steps.{with_point};
 
 // A point in space, or a vector.
-#[derive(Drop)]
+#[derive(Clone, Copy)]
 pub struct Point {
     pub x: f64,
     pub y: f64,

@@ -80,7 +80,8 @@ arrived_of distance len = le (abs_of distance) (len ⊗ arrival)
 
 -- the point after a move of at most length × longest against the gradient g, whose norm is gn
 unfoldable pub moved_of : Point → Point → Float → Float → Float → Float → Point
-moved_of p g gn distance len longest = sub_p p (mul_p (unit_by g gn) (clamp_of distance (neg len ⊗ longest) (len ⊗ longest)))
+moved_of p g gn distance len longest =
+    sub_p p (mul_p (unit_by g gn) (clamp_of distance (neg len ⊗ longest) (len ⊗ longest)))
 
 -- a look by the residual and the gradient's free part g: the distance is the residual over the norm of g
 unfoldable pub look_with : Point → Point → Float → Float → Float → Look
@@ -103,7 +104,8 @@ after_look (Moved q) p k = k q
 -- is refused.
 unfoldable pub walk_from : ℕ → Field → Float → Float → Float → Point → Point → Projected
 walk_from zero f len longest t free p = Refused
-walk_from (suc n) f len longest t free p = after_look (look_of f len longest t free p) p (walk_from n f len longest t free)
+walk_from (suc n) f len longest t free p =
+    after_look (look_of f len longest t free p) p (walk_from n f len longest t free)
 
 -- ---- the close
 

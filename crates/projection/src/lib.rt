@@ -1,5 +1,7 @@
 // Projection: the masked box coordinates go on their faces, and for a level a number of looks follows.
 
+#![tactic(auto)]
+
 ghost use Rattle.std.specs.Prelude.{◌≡◌, ◌<◌};
 ghost use Rattle.projection.specs.Project.{axis_bits, freedom_of, free_part_of, on_face_of, on_faces_of, target_of};
 ghost use Rattle.projection.specs.Project.{singular_of, arrived_of, moved_of, look_with, look_of, walk_from};
@@ -15,14 +17,14 @@ pub const LONGEST_MOVE: f64 = 0.05;
 pub const LOOKS: usize = 20;
 
 // What a projection answers.
-#[derive(Drop)]
+#[derive(Clone, Copy)]
 pub enum Projected {
     Onto(Point),
     Refused,
 }
 
 // One look of a projection: refused, arrived, or the point moved to.
-#[derive(Drop)]
+#[derive(Clone, Copy)]
 pub enum Look {
     Singular,
     Arrived,

@@ -1,5 +1,7 @@
 // `quality`: the counts and measures of a sheet, and whether it is tight.
 
+#![tactic(auto)]
+
 ghost use Rattle.std.specs.Prelude.{◌≡◌, length};
 ghost use Rattle.setting.specs.Settings.{domain_of};
 ghost use Rattle.rule_sheet.specs.Flat.{quads_of};
@@ -39,7 +41,7 @@ const DEGREES: usize = 11;
 const SUMS: usize = 12;
 
 // The points whose number of quads is not 4, and those whose link is bad.
-#[derive(Drop)]
+#[derive(Clone, Copy)]
 struct PointCounts {
     irregular: usize,
     bad_links: usize,

@@ -1,5 +1,7 @@
 // What `quality` measures of one quad: its shape, its least Jacobian over 5 by 5 places with ten roots, and its area.
 
+#![tactic(auto)]
+
 ghost use Rattle.std.specs.Prelude.{◌≡◌};
 ghost use Rattle.rule_quality.specs.Cells.{quotient_of, corner_of, shape_of, between_of, least_jacobian, area_of};
 ghost use Rattle.quality_cell.specs.Arms.{arm_of, arms_of, ratio_of, row_of, rows_of};
@@ -9,14 +11,14 @@ use points::Point;
 use rule_quality::Corners;
 
 // A direction with its norm.
-#[derive(Drop)]
+#[derive(Clone, Copy)]
 pub struct Arm {
     pub along: Point,
     pub norm: f64,
 }
 
 // The directions at 0, 1/4, 1/2, 3/4 and 1.
-#[derive(Drop)]
+#[derive(Clone, Copy)]
 pub struct Arms {
     pub a0: Arm,
     pub a1: Arm,

@@ -1,5 +1,6 @@
 -- The link of a point by the corners at it: what is kept for each neighbour, and the tests of a link.
-use Rattle.std.specs.Prelude.{ℕ, zero, suc, ◌+◌, ◌≤◌, ◌<◌, ◌*◌, ◌≡◌, Bool, true, cond, ◌&&◌, List, eqb, length, get_or, set}
+use Rattle.std.specs.Prelude.{ℕ, zero, suc, ◌+◌, ◌≤◌, ◌<◌, ◌*◌, ◌≡◌, Bool, true, cond, ◌&&◌, List, eqb, length, get_or}
+use Rattle.std.specs.Prelude.{set}
 use Rattle.rule_sheet.specs.Lent.{limit}
 use Rattle.lists.specs.Every.{every}
 use Rattle.lists.specs.Sort.{tabulate}
@@ -41,7 +42,8 @@ other_sum d s y = cond (eqb d 0) y (cond (eqb d 1) (s + y) s)
 -- the slice with one more join of x, to y
 abbrev pub registered : ℕ → ℕ → ℕ → ℕ → List ℕ → List ℕ
 registered deg acc x y w =
-    set (set w (acc + x) (other_sum (get_or w (deg + x) 0) (get_or w (acc + x) 0) y)) (deg + x) (get_or w (deg + x) 0 + 1)
+    set (set w (acc + x) (other_sum (get_or w (deg + x) 0) (get_or w (acc + x) 0) y)) (deg + x)
+    (get_or w (deg + x) 0 + 1)
 
 -- what one more join of x to y asks
 pub record Registering (deg acc x y : ℕ) (w : List ℕ) : Type 0 where

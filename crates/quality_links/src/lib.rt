@@ -1,6 +1,8 @@
 // The links of the points: the graph of a point's neighbours, in which each corner at the point joins the point before
 // it to the point after it.
 
+#![tactic(auto)]
+
 ghost use Rattle.std.specs.Prelude.{◌≡◌, ℕ, ◌+◌, ◌<◌, eqb, length, get_or};
 ghost use Rattle.rule_sheet.specs.Lent.{limit};
 ghost use Rattle.lists.specs.Every.{every};

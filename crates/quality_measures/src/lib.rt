@@ -1,5 +1,7 @@
 // What `quality` measures of a sheet in floats, or the refusal of a normal.
 
+#![tactic(auto)]
+
 ghost use Rattle.std.specs.Prelude.{◌≡◌, ◌+◌, ◌*◌, ◌<◌, ◌≤◌, length};
 ghost use mathlib.Core.List.{zip_with};
 ghost use Rattle.lists.specs.Regions.{part, Part, Out, Kept};

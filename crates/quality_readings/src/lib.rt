@@ -1,5 +1,7 @@
 // The corners and the normal of each quad of a lent sheet, and what is measured of it, in regions of the floats.
 
+#![tactic(auto)]
+
 ghost use Rattle.std.specs.Prelude.{◌≡◌, true, ◌+◌, ◌*◌, ◌<◌, ◌≤◌, length};
 ghost use Rattle.lists.specs.Regions.{Out, Kept};
 ghost use Rattle.points.specs.Points.{point_at};

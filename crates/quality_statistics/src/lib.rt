@@ -1,11 +1,14 @@
 // The least, the mean and the value at a place of a list of floats, and how many of its elements are at most 1e-8.
 
+#![tactic(auto)]
+
 ghost use Rattle.std.specs.Prelude.{◌≡◌, ◌<◌, ◌≤◌, length};
 ghost use Rattle.std.specs.Float.Ieee.{le};
 ghost use Rattle.numeric.specs.Num.{floor_of};
 ghost use Rattle.rule_sheet.specs.Quads.{num};
 ghost use Rattle.rule_sheet.specs.Lent.{limit};
-ghost use Rattle.rule_quality.specs.Measure.{least_of, total_of, mean_of, flat, invalid_of, fract_of, ceil_of, value_at_place};
+ghost use Rattle.rule_quality.specs.Measure.{least_of, total_of, mean_of, flat, invalid_of, fract_of, ceil_of};
+ghost use Rattle.rule_quality.specs.Measure.{value_at_place};
 ghost use Rattle.rule_quality.specs.Measure.{p05_of};
 
 // The least element, from plus infinity on.

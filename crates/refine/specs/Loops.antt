@@ -1,5 +1,6 @@
 -- What the loops of `refine` ask of the regions of the work slice, and what they leave.
-use Rattle.std.specs.Prelude.{ℕ, zero, suc, ◌+◌, ◌*◌, ◌^◌, ◌≤◌, ◌<◌, ◌≡◌, Bool, cond, List, [], ◌∷◌, ◌++◌, ltb, length, get_or, Float}
+use Rattle.std.specs.Prelude.{ℕ, zero, suc, ◌+◌, ◌*◌, ◌^◌, ◌≤◌, ◌<◌, ◌≡◌, Bool, cond, List, [], ◌∷◌, ◌++◌, ltb, length}
+use Rattle.std.specs.Prelude.{get_or, Float}
 use Rattle.points.specs.declared.Point.{Point}
 use Rattle.points.specs.Steps.{with_point}
 use Rattle.lists.specs.Sort.{tabulate}

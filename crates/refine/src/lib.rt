@@ -2,6 +2,8 @@
 // q + j is for the point of the edge of corner j of quad q, or for the centre where j is 4; the first request of an
 // edge makes its point.
 
+#![tactic(auto)]
+
 ghost use Rattle.std.specs.Prelude.{◌≡◌, cond, ◌++◌, ◌+◌, ◌*◌, ◌/◌, ◌%◌, ◌<◌, ◌≤◌, ◌^◌, length};
 ghost use Rattle.points.specs.Points.{point_at};
 ghost use Rattle.lists.specs.Sort.{tabulate};

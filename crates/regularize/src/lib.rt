@@ -1,5 +1,7 @@
 // The swapped sheet: `regularize` and `improve_layout`, passes of swaps until one swaps nothing.
 
+#![tactic(auto)]
+
 ghost use Rattle.std.specs.Prelude.{◌≡◌, ◌+◌, ◌≤◌, length};
 ghost use Rattle.setting.specs.Settings.{setting_of};
 ghost use Rattle.rule_sheet.specs.Lent.{lent_of, held, work_with, work_of};

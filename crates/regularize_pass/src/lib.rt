@@ -1,5 +1,7 @@
 // One pass of swaps: each edge of two quads is tried once, in the order of the edges of the pass's start.
 
+#![tactic(auto)]
+
 ghost use Rattle.std.specs.Prelude.{◌≡◌, ◌+◌, ◌*◌, ◌/◌, ◌<◌, ◌≤◌, ◌^◌, length, take};
 ghost use Rattle.rule_sheet.specs.Flat.{quads_of};
 ghost use Rattle.regularize_shapes.specs.SwapFits.{SixBelow, hex_of};
@@ -7,7 +9,8 @@ ghost use Rattle.incidence.specs.Bounds.{Bounded};
 ghost use Rattle.pass_map.specs.Regions.{valences_at, start_in};
 ghost use Rattle.pass_map.specs.Conditions.{WorkFits};
 ghost use Rattle.regularize_swap.specs.Conditions.{BeginPassLeaves};
-ghost use Rattle.regularize_pass.specs.Steps.{fits_in, diagonal, pick_of, may_take, best_of, choice_in, try_in, step_in};
+ghost use Rattle.regularize_pass.specs.Steps.{fits_in, diagonal, pick_of, may_take, best_of, choice_in, try_in};
+ghost use Rattle.regularize_pass.specs.Steps.{step_in};
 ghost use Rattle.regularize_pass.specs.Conditions.{TryAsks, StepLeaves, SwapPassAsks, SwapPassLeaves};
 
 use field::Field;
@@ -15,7 +18,7 @@ use regularize_shapes::Six;
 use rule_regularize::Held;
 
 // What swaps are tried with: the least gain, the field, the length of the band.
-#[derive(Drop)]
+#[derive(Clone, Copy)]
 pub struct Trial {
     pub least: usize,
     pub field: Field,

@@ -1,5 +1,7 @@
 // What the rule of swaps reads of the points: the shapes of two quads before and after.
 
+#![tactic(auto)]
+
 ghost use Rattle.std.specs.Prelude.{◌≡◌, ◌*◌, ◌<◌, ◌≤◌, length};
 ghost use Rattle.points.specs.Points.{add_p, point_at};
 ghost use Rattle.rule_sheet.specs.Flat.{quad_at};
@@ -17,7 +19,7 @@ use rule_regularize::Held;
 pub const LEAST_RISE: f64 = 0.02;
 
 // The six corners round two quads, in order; h0 and h3 are the ends of the edge that they share.
-#[derive(Drop)]
+#[derive(Clone, Copy)]
 pub struct Six {
     pub h0: usize,
     pub h1: usize,

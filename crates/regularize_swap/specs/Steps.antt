@@ -1,6 +1,7 @@
 -- A pass place by place, the corners in the order of their edges, two at a time; and one swap: the two quads, the four
 -- valences and the marks that it writes.
-use Rattle.std.specs.Prelude.{ℕ, zero, suc, ◌+◌, ◌-◌, ◌*◌, ◌/◌, ◌%◌, Bool, cond, not, ◌&&◌, List, [], ◌∷◌, eqb, leb, ltb, get_or, set}
+use Rattle.std.specs.Prelude.{ℕ, zero, suc, ◌+◌, ◌-◌, ◌*◌, ◌/◌, ◌%◌, Bool, cond, not, ◌&&◌, List, [], ◌∷◌, eqb, leb}
+use Rattle.std.specs.Prelude.{ltb, get_or, set}
 use Rattle.rule_sheet.specs.Quads.{Quad, quad, uses, is_edge}
 use Rattle.rule_sheet.specs.Flat.{quad_at}
 use Rattle.sheet.specs.Flat.{from, to, before, with_quad}

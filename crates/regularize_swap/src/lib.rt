@@ -1,6 +1,8 @@
 // What a swap reads and writes: the quads, and in regions of one work slice the map of the pass's start, the valences
 // and the barred quads.
 
+#![tactic(auto)]
+
 ghost use Rattle.std.specs.Prelude.{◌≡◌, ◌+◌, ◌-◌, ◌*◌, ◌/◌, ◌%◌, ◌<◌, ◌≤◌, ◌^◌, length, get_or};
 ghost use Rattle.rule_sheet.specs.Flat.{quads_of};
 ghost use Rattle.rule_sheet.specs.Claims.{All, Differ};

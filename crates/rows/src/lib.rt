@@ -1,6 +1,8 @@
 // A row of quads along the edges between two labels: each point at such an edge gets a copy for each of its labels,
 // and strips of quads join the points to their copies.
 
+#![tactic(auto)]
+
 ghost use Rattle.std.specs.Prelude.{◌≡◌, ◌≤◌, length};
 ghost use Rattle.setting.specs.Settings.{setting_of};
 ghost use Rattle.rule_sheet.specs.Sheet.{sheet_of, sheet_verdict};

@@ -37,8 +37,8 @@ inward_at nq P Q labels v l =
 -- the copy of the key k
 unfoldable pub copy_at : Setting → ℕ → List Float → List ℕ → List ℕ → ℕ → Projected
 copy_at s nq P Q labels k =
-    try_from try_count s (point_at P (key_point k)) (inward_at nq P Q labels (key_point k) (key_label k)) (2 ^ key_label k)
-    first_step
+    try_from try_count s (point_at P (key_point k)) (inward_at nq P Q labels (key_point k) (key_label k))
+    (2 ^ key_label k) first_step
 
 -- the key k has no copy, or it is found
 unfoldable pub found_at : Setting → ℕ → List Float → List ℕ → List ℕ → List ℕ → ℕ → Bool

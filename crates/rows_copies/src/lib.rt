@@ -1,5 +1,7 @@
 // Where the copies lie, and the points of the sheet with rows: the old ones, and behind them the copies.
 
+#![tactic(auto)]
+
 ghost use Rattle.std.specs.Prelude.{◌≡◌, true, cond, ◌++◌, ◌*◌, ◌<◌, ◌≤◌, length};
 ghost use Rattle.lists.specs.Sort.{keep};
 ghost use Rattle.lists.specs.Every.{every};
@@ -26,7 +28,7 @@ pub const FIRST_STEP: f64 = 0.7;
 pub const TRIES: usize = 20;
 
 // The sum of some centres, and how many there are.
-#[derive(Drop)]
+#[derive(Clone, Copy)]
 pub struct Centres {
     pub sum: Point,
     pub count: usize,

@@ -1,6 +1,7 @@
 -- Which points are copied, the numbers of the copies, the corners at which strips run, and what is gathered of them,
 -- over flat lists: coordinates P, corners Q, labels and masks M.
-use Rattle.std.specs.Prelude.{ℕ, ◌+◌, ◌*◌, ◌/◌, ◌%◌, ◌^◌, ◌≤◌, ◌<◌, Bool, cond, not, ◌&&◌, List, [], ◌∷◌, eqb, ltb, length, get_or, Float}
+use Rattle.std.specs.Prelude.{ℕ, ◌+◌, ◌*◌, ◌/◌, ◌%◌, ◌^◌, ◌≤◌, ◌<◌, Bool, cond, not, ◌&&◌, List, [], ◌∷◌, eqb, ltb}
+use Rattle.std.specs.Prelude.{length, get_or, Float}
 use Rattle.lists.specs.Sort.{tabulate}
 use Rattle.lists.specs.Every.{count_to}
 use Rattle.lists.specs.Regions.{Part}

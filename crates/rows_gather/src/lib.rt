@@ -1,6 +1,8 @@
 // Which points are copied, the numbers of the copies, and the corners at which strips run. A point v and a label l have
 // the key 8 v + l.
 
+#![tactic(auto)]
+
 ghost use Rattle.std.specs.Prelude.{◌≡◌, ◌+◌, ◌*◌, ◌<◌, ◌≤◌, length};
 ghost use Rattle.lists.specs.Sort.{tabulate};
 ghost use Rattle.lists.specs.Regions.{part, Part, Out, Apart, Kept};

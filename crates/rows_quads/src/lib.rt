@@ -1,6 +1,8 @@
 // The quads of the sheet with rows, and their labels: the old ones, whose corners are copies, and behind them the
 // strips.
 
+#![tactic(auto)]
+
 ghost use Rattle.std.specs.Prelude.{◌≡◌, ◌++◌, map, ◌+◌, ◌*◌, ◌<◌, ◌≤◌, length, take};
 ghost use Rattle.lists.specs.Sort.{tabulate};
 ghost use Rattle.lists.specs.Regions.{part};

@@ -1,1 +1,3 @@
 // What a call is admitted by: see specs/.
+
+#![tactic(auto)]

@@ -1,6 +1,7 @@
 -- The passes of `coarsen` as functions of a sheet. Document 01, "The merged sheet". What the rule reads of the
 -- points, and the position of a merged point, are parameters.
-use Rattle.std.specs.Prelude.{ℕ, zero, suc, ◌+◌, ◌*◌, ◌-◌, Bool, true, false, cond, ◌&&◌, ◌||◌, not, List, [], ◌∷◌, map, eqb, leb, ltb, ℤ, pos, ◌-ℤ◌, length, get_or, set, replicate}
+use Rattle.std.specs.Prelude.{ℕ, zero, suc, ◌+◌, ◌*◌, ◌-◌, Bool, true, false, cond, ◌&&◌, ◌||◌, not, List, [], ◌∷◌, map}
+use Rattle.std.specs.Prelude.{eqb, leb, ltb, ℤ, pos, ◌-ℤ◌, length, get_or, set, replicate}
 use Rattle.std.proofs.Math.Option.{Option, none}
 use Rattle.std.specs.Int.Signed.{le_z, lt_z}
 use Rattle.lists.specs.Every.{every}
@@ -71,7 +72,8 @@ module _ (n : ℕ) (S0 : List Quad) (labels : List ℕ) where
 
   -- "and no further quad"
   abbrev pub no_further : ℕ → ℕ → ℕ → Bool
-  no_further f a c = every (λ j. eqb j f || not (has_corner (get_or S0 j none_quad) a && has_corner (get_or S0 j none_quad) c))
+  no_further f a c =
+      every (λ j. eqb j f || not (has_corner (get_or S0 j none_quad) a && has_corner (get_or S0 j none_quad) c))
       (length S0)
 
   -- not "a diagonal where a quad at either end has one", a barred corner
@@ -138,4 +140,5 @@ next_sheet step s = compact (step s).slots s.labels (step s).points
 
 -- at most k passes: the sheet that is left, and the merges made in all of them
 abbrev pub coarse_run : (Sheet → MergeFits) → (Sheet → Position) → ℕ → Sheet → RunEnd Sheet
-coarse_run fits position k s = run (λ t. (merge_pass fits position t).count) (next_sheet (merge_pass fits position)) k s 0
+coarse_run fits position k s =
+    run (λ t. (merge_pass fits position t).count) (next_sheet (merge_pass fits position)) k s 0

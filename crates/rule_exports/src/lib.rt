@@ -1,1 +1,3 @@
 // The rules of the exports: definitions only, see specs/.
+
+#![tactic(auto)]

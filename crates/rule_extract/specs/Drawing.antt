@@ -66,7 +66,8 @@ points_to g n e = join_to (points_in g n) e
 
 -- the number of the point to which the crossing on the edge e of the cell at c belongs
 unfoldable pub number_of : Grid → ℕ → Site → ℕ → ℕ
-number_of g n c e = length (points_to g n (index_of n c)) + length (join_to (group_points g c) (get_or (cell_groups g c) e 0))
+number_of g n c e =
+    length (points_to g n (index_of n c)) + length (join_to (group_points g c) (get_or (cell_groups g c) e 0))
 
 -- ---- quads
 

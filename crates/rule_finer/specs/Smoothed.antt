@@ -1,6 +1,7 @@
 -- The smoothed sheet of `subdivide`: the quads and labels of the finer sheet, its points smoothed. Document 01,
 -- "The finer sheet and the rows", and `subdivide` of 000.
-use Rattle.std.specs.Prelude.{ℕ, suc, ◌+◌, ◌-◌, ◌*◌, ◌/◌, ◌%◌, Bool, cond, not, ◌&&◌, List, [], ◌∷◌, ◌++◌, map, eqb, ltb, length, get_or, replicate}
+use Rattle.std.specs.Prelude.{ℕ, suc, ◌+◌, ◌-◌, ◌*◌, ◌/◌, ◌%◌, Bool, cond, not, ◌&&◌, List, [], ◌∷◌, ◌++◌, map, eqb}
+use Rattle.std.specs.Prelude.{ltb, length, get_or, replicate}
 use Rattle.lists.specs.Sort.{tabulate, cons_if}
 use Rattle.lists.specs.Every.{count_to}
 use Rattle.points.specs.declared.Point.{Point}

@@ -1,1 +1,3 @@
 // The rules of `refine` and `subdivide`: definitions only, see specs/.
+
+#![tactic(auto)]

@@ -1,5 +1,6 @@
 -- Job files, byte for byte: document 02, Points 1 and 9.
-use Rattle.std.specs.Prelude.{ℕ, ◌+◌, ◌-◌, ◌*◌, ◌/◌, ◌%◌, Bool, cond, ◌&&◌, List, [], ◌∷◌, ◌++◌, eqb, leb, ltb, length, drop}
+use Rattle.std.specs.Prelude.{ℕ, ◌+◌, ◌-◌, ◌*◌, ◌/◌, ◌%◌, Bool, cond, ◌&&◌, List, [], ◌∷◌, ◌++◌, eqb, leb, ltb, length}
+use Rattle.std.specs.Prelude.{drop}
 use Rattle.lists.specs.Regions.{part}
 use Rattle.encoding.specs.Encoding.{little, number, littles, numbers}
 use Rattle.rule_sheet.specs.declared.Counts.{Counts}

@@ -1,1 +1,3 @@
 // The rule of `page`: definitions only, see specs/.
+
+#![tactic(auto)]

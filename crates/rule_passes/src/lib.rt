@@ -1,1 +1,3 @@
 // What the rules of swaps and of merges share: definitions only, see specs/.
+
+#![tactic(auto)]

@@ -1,11 +1,13 @@
 // The rule of `quality`: what it answers here, definitions in specs/.
 
+#![tactic(auto)]
+
 pub mod report;
 
 use points::Point;
 
 // The points at the four corners of a quad, in order round it.
-#[derive(Drop)]
+#[derive(Clone, Copy)]
 pub struct Corners {
     pub p0: Point,
     pub p1: Point,
@@ -14,7 +16,7 @@ pub struct Corners {
 }
 
 // The measures of a sheet that are made of floats.
-#[derive(Drop)]
+#[derive(Clone, Copy)]
 pub struct Measures {
     pub minimum_shape: f64,
     pub shape_size_p05: f64,
@@ -24,7 +26,7 @@ pub struct Measures {
 }
 
 // What `measure` answers.
-#[derive(Drop)]
+#[derive(Clone, Copy)]
 pub enum Measured {
     Done(Measures),
     Refused(u32),

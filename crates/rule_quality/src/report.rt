@@ -4,7 +4,7 @@ ghost use Rattle.std.specs.Prelude.{◌≡◌};
 ghost use Rattle.rule_quality.specs.Quality.{is_valid};
 
 // The measures of a sheet.
-#[derive(Drop)]
+#[derive(Clone, Copy)]
 pub struct Quality {
     pub quads: usize,
     pub irregular_vertices: usize,
@@ -36,7 +36,7 @@ impl Quality {
 }
 
 // The measures and whether the sheet is tight, or the number of a refusal.
-#[derive(Drop)]
+#[derive(Clone, Copy)]
 pub enum Assessed {
     Done(Quality, bool),
     Refused(u32),

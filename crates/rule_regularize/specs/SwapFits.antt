@@ -55,7 +55,8 @@ next_fits at h k held positive = shape_fits (next_shape at h k held.normal) held
 -- they stand, their six corners, the diagonal k, and whether the gain is more than 0
 unfoldable pub fits_with : Field → Float → List Point → List ℕ → Fits
 fits_with f len ps labels S i j h k positive =
-    next_fits (point_in ps) h k (held_of f len (point_in ps) (get_or labels i 0) (get_or S i none_quad) (get_or S j none_quad) h)
+    next_fits (point_in ps) h k
+    (held_of f len (point_in ps) (get_or labels i 0) (get_or S i none_quad) (get_or S j none_quad) h)
     positive
 
 -- the same by what a call brings

@@ -1,6 +1,7 @@
 -- The swapped sheet: the passes of `regularize` and `improve_layout` as functions of the quads. Document 01, "The
 -- swapped sheet". What the rule reads of the points is the test `fits`.
-use Rattle.std.specs.Prelude.{ℕ, suc, ◌+◌, ◌<◌, ◌≡◌, Bool, true, false, cond, ◌&&◌, ◌||◌, not, List, [], ◌∷◌, eqb, ltb, ℤ, pos, ◌+ℤ◌, ◌-ℤ◌, ◌*ℤ◌, length, get_or, set, replicate}
+use Rattle.std.specs.Prelude.{ℕ, suc, ◌+◌, ◌<◌, ◌≡◌, Bool, true, false, cond, ◌&&◌, ◌||◌, not, List, [], ◌∷◌, eqb, ltb}
+use Rattle.std.specs.Prelude.{ℤ, pos, ◌+ℤ◌, ◌-ℤ◌, ◌*ℤ◌, length, get_or, set, replicate}
 use Rattle.std.proofs.Math.Option.{Option, none}
 use Rattle.std.specs.Int.Signed.{le_z, lt_z}
 use Rattle.lists.specs.Sort.{cons_if}
@@ -110,8 +111,8 @@ module _ (S0 : List Quad) (labels : List ℕ) (least_gain : ℕ) (fits : Fits) w
   -- corners must differ and the labels agree". "A swap bars every quad at its six corners for that pass."
   abbrev pub swap_quads : State → ℕ → ℕ → Quad → Quad → Option State
   swap_quads st i j (quad q0 q1 q2 q3) (quad r0 r1 r2 r3) =
-      cond (not (get_or st.barred i true) && not (get_or st.barred j true) && eqb (get_or labels i 8) (get_or labels j 8)
-      && eqb r1 q0 && eqb r0 q1 && six_differ q0 r2 r3 q1 q2 q3)
+      cond (not (get_or st.barred i true) && not (get_or st.barred j true)
+      && eqb (get_or labels i 8) (get_or labels j 8) && eqb r1 q0 && eqb r0 q1 && six_differ q0 r2 r3 q1 q2 q3)
       (choose (may S i j h 1 q0 q1 r2 q2) (may S i j h 2 q0 q1 r3 q3)
       (lt_z (gain_in S q0 q1 r2 q2) (gain_in S q0 q1 r3 q3))
       (record { quads = swap_one S i j q0 r2 r3 q1 q2 q3; barred = bars; count = suc st.count })

@@ -1,6 +1,7 @@
 -- The sheet of `boundary_rows`: a row of quads along the edges between two labels. Document 01, "The finer sheet
 -- and the rows", and `boundary_rows` of 000.
-use Rattle.std.specs.Prelude.{ℕ, zero, suc, ◌+◌, ◌*◌, ◌/◌, ◌%◌, ◌^◌, min, max, Bool, cond, ◌&&◌, List, [], ◌∷◌, ◌++◌, map, eqb, ltb, length, get_or, Float}
+use Rattle.std.specs.Prelude.{ℕ, zero, suc, ◌+◌, ◌*◌, ◌/◌, ◌%◌, ◌^◌, min, max, Bool, cond, ◌&&◌, List, [], ◌∷◌, ◌++◌}
+use Rattle.std.specs.Prelude.{map, eqb, ltb, length, get_or, Float}
 use Rattle.std.specs.Float.{binary64}
 use Rattle.std.specs.Float.Ieee.{of_bits}
 use Rattle.lists.specs.Sort.{tabulate, bucket, keep}
@@ -81,7 +82,8 @@ or_else Refused r = r
 -- n tries are left: the first projection that succeeds of p + d × step, p + d × step / 2, ..
 unfoldable pub try_from : ℕ → Setting → Point → Point → ℕ → Float → Projected
 try_from zero s p d mask step = Refused
-try_from (suc n) s p d mask step = or_else (project_of s (add_p p (mul_p d step)) mask) (try_from n s p d mask (step ⊗ half))
+try_from (suc n) s p d mask step =
+    or_else (project_of s (add_p p (mul_p d step)) mask) (try_from n s p d mask (step ⊗ half))
 
 -- the copy of a key: "trying steps 0.7, 0.35 and so on, twenty in all", onto its label alone
 unfoldable pub copy_of : Setting → Sheet → ℕ → Projected

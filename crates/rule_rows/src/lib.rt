@@ -1,1 +1,3 @@
 // The rule of `boundary_rows`: definitions only, see specs/.
+
+#![tactic(auto)]

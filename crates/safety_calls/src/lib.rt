@@ -1,6 +1,8 @@
 // The claim on lists of calls is about the code: each function is one call of an operation, and its contract is what
 // the claim knows of such a call.
 
+#![tactic(auto)]
+
 ghost use Rattle.setting.specs.Settings.{setting_of};
 ghost use Rattle.rule_sheet.specs.Lent.{lent_of, room_of, work_of};
 ghost use Rattle.safety.specs.Calls.{regularize_call, improve_call, coarsen_call, subdivide_call, Contract};

@@ -1,6 +1,8 @@
 // The claim that a yes to tight means that demand 3 holds is about the code: the function is a call of `quality`, and
 // its contract is what the claim knows of such a call.
 
+#![tactic(auto)]
+
 ghost use Rattle.rule_sheet.specs.Lent.{lent_of};
 ghost use Rattle.safety_tight.specs.Tight.{Assesses};
 

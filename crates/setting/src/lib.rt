@@ -1,1 +1,3 @@
 // What a call brings beside its sheet: see specs/.
+
+#![tactic(auto)]

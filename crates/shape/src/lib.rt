@@ -1,5 +1,7 @@
 // The shape of a quad, as swaps and merges measure it.
 
+#![tactic(auto)]
+
 ghost use Rattle.std.specs.Prelude.{◌≡◌};
 ghost use Rattle.points.specs.Points.{sub_p};
 ghost use Rattle.shape.specs.Shapes.{corner_of, shape_of};

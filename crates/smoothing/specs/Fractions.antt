@@ -1,6 +1,6 @@
 -- Exact fractions.
 use Rattle.std.specs.Prelude.{ℕ, zero, suc, ◌+◌, ◌*◌, ◌<◌, ◌≡◌}
-use Rattle.std.proofs.Common.{mul-pos, arith}
+use Rattle.std.proofs.Common.{mul-pos, zero-lt-suc}
 use Rattle.smoothing.specs.Arithmetic.{Arithmetic}
 
 -- (above − below) / under
@@ -17,13 +17,13 @@ pub record ◌≈◌ (a b : Fraction) : Type 0 where
 
 -- the whole number n
 unfoldable pub whole_q : ℕ → Fraction
-whole_q n = record { above = n; below = 0; under = 1; positive = omega arith }
+whole_q n = record { above = n; below = 0; under = 1; positive = zero-lt-suc 0 }
 
 -- 1 / n; of 0, which has no reciprocal, it is 0
 unfoldable pub reciprocal_q : ℕ → Fraction
 unfolding whole_q
 reciprocal_q zero = whole_q 0
-reciprocal_q (suc n) = record { above = 1; below = 0; under = suc n; positive = omega arith }
+reciprocal_q (suc n) = record { above = 1; below = 0; under = suc n; positive = zero-lt-suc n }
 
 -- the sum
 unfoldable pub plus_q : Fraction → Fraction → Fraction
@@ -65,10 +65,17 @@ unfolding whole_q
       above = a.above;
       below = a.below;
       under = a.under * suc n;
-      positive = mul-pos a.positive (omega arith);
+      positive = mul-pos a.positive (zero-lt-suc n);
     }
 
 -- the arithmetic of exact fractions
 abbrev pub exact : Arithmetic
 exact =
-    record { Number = Fraction; plus = plus_q; minus = minus_q; times = times_q; whole = whole_q; reciprocal = reciprocal_q }
+    record {
+      Number = Fraction;
+      plus = plus_q;
+      minus = minus_q;
+      times = times_q;
+      whole = whole_q;
+      reciprocal = reciprocal_q;
+    }

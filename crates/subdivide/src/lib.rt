@@ -1,5 +1,7 @@
 // The finer sheet with its points smoothed and then projected.
 
+#![tactic(auto)]
+
 ghost use Rattle.std.specs.Prelude.{◌≡◌, true, ◌*◌, ◌≤◌, length};
 ghost use Rattle.lists.specs.Every.{every};
 ghost use Rattle.setting.specs.Settings.{setting_of};

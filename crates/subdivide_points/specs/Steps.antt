@@ -1,6 +1,7 @@
 -- What the loops over the points and edges of a sheet read and leave, over flat lists: coordinates P, corners Q,
 -- and the ends H of the edges, two to an edge.
-use Rattle.std.specs.Prelude.{ℕ, ◌+◌, ◌*◌, ◌/◌, ◌%◌, ◌≤◌, ◌<◌, ◌≡◌, Bool, true, cond, not, List, map, eqb, length, get_or, take, Float}
+use Rattle.std.specs.Prelude.{ℕ, ◌+◌, ◌*◌, ◌/◌, ◌%◌, ◌≤◌, ◌<◌, ◌≡◌, Bool, true, cond, not, List, map, eqb, length}
+use Rattle.std.specs.Prelude.{get_or, take, Float}
 use Rattle.rule_sheet.specs.Lent.{limit}
 use Rattle.lists.specs.Regions.{part, Part, Apart}
 use Rattle.points.specs.declared.Point.{Point}
@@ -120,7 +121,8 @@ unfoldable pub edge_at : List Float → List ℕ → List ℕ → ℕ → ℕ �
 edge_at P Q labels c d =
     cond (not (eqb (get_or labels (c / 4) 0) (get_or labels (d / 4) 0)))
     (halfway pointwise (point_at P (smaller Q c)) (point_at P (larger Q c)))
-    (edge_point pointwise (point_at P (smaller Q c)) (point_at P (larger Q c)) (corner_centre P Q c) (corner_centre P Q d))
+    (edge_point pointwise (point_at P (smaller Q c)) (point_at P (larger Q c)) (corner_centre P Q c)
+    (corner_centre P Q d))
 
 -- the corner of request t
 abbrev pub corner_of : ℕ → ℕ

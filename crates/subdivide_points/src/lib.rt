@@ -1,5 +1,7 @@
 // The finer sheet with its points smoothed by Catmull and Clark's rule, with creases between labels.
 
+#![tactic(auto)]
+
 ghost use Rattle.std.specs.Prelude.{◌≡◌, true, cond, ◌++◌, map, ◌+◌, ◌*◌, ◌/◌, ◌%◌, ◌<◌, ◌≤◌, length, get_or};
 ghost use Rattle.rule_sheet.specs.Lent.{limit};
 ghost use Rattle.lists.specs.Sort.{tabulate};
@@ -44,14 +46,14 @@ const END_LIST: usize = 30;
 const SECONDS: usize = 34;
 
 // The corners of a point in a list of corners by point: where they begin, and how many there are.
-#[derive(Drop)]
+#[derive(Clone, Copy)]
 pub struct Span {
     pub from: usize,
     pub size: usize,
 }
 
 // The crease edges at a point: how many there are, and where the first two lead.
-#[derive(Drop)]
+#[derive(Clone, Copy)]
 pub struct Creases {
     pub count: usize,
     pub first: usize,

@@ -1,0 +1,11 @@
+-- `export_cleanup::improve_after` meets its contract. Assumes nothing.
+use mathlib.Core.Path.{refl}
+use Rattle.export_cleanup.proofs.improve_after.Goals as goal
+
+pub returns-in-Refused : goal.returns-in-Refused
+returns-in-Refused c =
+    record { fact = rw c.in-Refused.is (record { answer = refl; quads = refl }); cleared = c.clear_work.ensures }
+
+pub returns : goal.returns
+returns c =
+    record { fact = rw c.in_default.is c.improve_layout.ensures.sheet; cleared = c.improve_layout.ensures.cleared }

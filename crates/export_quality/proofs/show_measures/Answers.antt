@@ -1,0 +1,15 @@
+-- `export_quality::show_measures` meets its contract. Assumes nothing.
+use borrow.Author.Tests.{lt-ltb, le-ltb}
+use Rattle.export_quality.proofs.Shown.{done-measures, refused-measures}
+use Rattle.export_quality.proofs.show_measures.Goals as goal
+
+pub returns-then-measures-lt-MEASURES : goal.returns-then-measures-lt-MEASURES
+returns-then-measures-lt-MEASURES c = rw (lt-ltb _ _ c.if-measures-lt-MEASURES.true)
+
+pub returns-in-Done : goal.returns-in-Done
+returns-in-Done c =
+    rw (le-ltb _ _ c.if-measures-lt-MEASURES.false) (done-measures _ _ _ _ c.in-Done.is c.put_measures.ensures)
+
+pub returns-in-Refused : goal.returns-in-Refused
+returns-in-Refused c =
+    rw (le-ltb _ _ c.if-measures-lt-MEASURES.false) (refused-measures _ _ _ _ c.in-Refused.is c.no_quality.ensures c.put_measures-in-Refused.ensures)

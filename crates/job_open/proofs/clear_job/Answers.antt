@@ -1,0 +1,6 @@
+-- `job_open::clear_job` meets its contract. Assumes nothing.
+use Rattle.job_open.proofs.clear_job.Goals as goal
+
+pub returns : goal.returns
+returns c =
+    record { header_after = c.clear_u64.ensures; points_after = c.clear_u64-2.ensures; quads_after = c.clear.ensures; labels_after = c.clear_u8.ensures }

@@ -1,0 +1,10 @@
+-- `job_open::starts_at` meets its contract. Assumes nothing.
+use mathlib.Core.Path.{◌∙◌}
+use Rattle.rule_job.specs.Files.{starts_at}
+use Rattle.job_open.proofs.starts_at.Goals as goal
+
+pub returns : goal.returns
+unfolding starts_at
+returns c =
+    c.counts_by.ensures
+    ∙ rw (c.u32_at-t.ensures, c.u32_at-l.ensures, c.u32_at-q.ensures, c.u32_at-p.ensures)
