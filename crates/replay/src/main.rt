@@ -1,9 +1,14 @@
 // Replays the stored answers through the proved functions, and writes for each operation and
 // number how many agree. Standard input holds the records; docs/ORACLE.md has their layout.
+#![tactic(auto)]
+
+mod input;
 mod record;
 mod table;
 
 use replay_records::numbers;
+use std::io;
+use std::io::Read;
 
 // The first words of a file of records, and the version of its layout.
 const MAGIC: u64 = 0x3156_5351;
@@ -19,19 +24,27 @@ fn records_in(head: &[u8]) -> u64 {
 }
 
 // Goes through the records, until one is missing or too long.
-fn replay_all(records: u64, seen: &mut [u64; 1024], agreed: &mut [u64; 1024]) {
-    let mut left = records;
-    while 0 < left && record::replay(seen, agreed) {
-        left -= 1;
+fn replay_all<R: Read>(
+    input: &mut R,
+    records: u64,
+    seen: &mut [u64; 1024],
+    agreed: &mut [u64; 1024],
+) -> io::Result<()> {
+    for _ in 0..records {
+        if !record::replay(input, seen, agreed)? {
+            break;
+        }
     }
+    Ok(())
 }
 
-fn main() {
+fn main(rt: HostRuntime) -> io::Result<()> {
+    let mut input = rt.reader();
     let mut head = [0u8; 16];
-    io::read_full(0, &mut head);
+    input::read_full(&mut input, &mut head)?;
     let records = records_in(&head);
     let mut seen = [0u64; 1024];
     let mut agreed = [0u64; 1024];
-    replay_all(records, &mut seen, &mut agreed);
-    table::print(records, &seen, &agreed);
+    replay_all(&mut input, records, &mut seen, &mut agreed)?;
+    table::print(&rt, records, &seen, &agreed)
 }

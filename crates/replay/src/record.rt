@@ -1,25 +1,33 @@
 // One record: reading it, asking the proved function, comparing.
+use crate::input;
 use replay_records::{numbers, sheets};
+use std::io;
+use std::io::Read;
 
 // Where the floats of a record begin: the band, then a point.
 const FLOATS: usize = 64;
 
 // Reads the bytes from start to end of a record; false if they do not fit or the input ends.
-fn read_part(bytes: &mut [u8], start: usize, end: usize) -> bool {
+fn read_part<R: Read>(
+    input: &mut R,
+    bytes: &mut [u8],
+    start: usize,
+    end: usize,
+) -> io::Result<bool> {
     if end < start || bytes.len() < end {
-        return false;
+        return Ok(false);
     }
-    let got = io::read_full(0, &mut bytes[start..end]);
-    got == end - start
+    let got = input::read_full(input, &mut bytes[start..end])?;
+    Ok(got == end - start)
 }
 
 // Reads a record whole: its head, then as many bytes as that says.
-fn read(bytes: &mut [u8]) -> bool {
-    if !read_part(bytes, 0, 208) {
-        return false;
+fn read<R: Read>(input: &mut R, bytes: &mut [u8]) -> io::Result<bool> {
+    if !read_part(input, bytes, 0, 208)? {
+        return Ok(false);
     }
     let size = numbers::half_at(bytes, 0) as usize;
-    read_part(bytes, 208, size)
+    read_part(input, bytes, 208, size)
 }
 
 // Whether an operation takes a sheet and shows what it makes, measures or saves of it.
@@ -47,15 +55,19 @@ fn agrees(bytes: &[u8], operation: u64, number: u64) -> bool {
 // One more at a place.
 fn count(tally: &mut [u64; 1024], at: usize) {
     if at < 1024 {
-        tally[at] = std::num::wrapping_add_u64(tally[at], 1);
+        tally[at] = tally[at].wrapping_add(1);
     }
 }
 
 // Reads and replays one record; false if there is none.
-pub fn replay(seen: &mut [u64; 1024], agreed: &mut [u64; 1024]) -> bool {
+pub fn replay<R: Read>(
+    input: &mut R,
+    seen: &mut [u64; 1024],
+    agreed: &mut [u64; 1024],
+) -> io::Result<bool> {
     let mut bytes = [0u8; 8192];
-    if !read(&mut bytes) {
-        return false;
+    if !read(input, &mut bytes)? {
+        return Ok(false);
     }
     let operation = numbers::byte_at(&bytes, 4);
     let number = numbers::byte_at(&bytes, 5);
@@ -64,5 +76,5 @@ pub fn replay(seen: &mut [u64; 1024], agreed: &mut [u64; 1024]) -> bool {
     if agrees(&bytes, operation, number) {
         count(agreed, at);
     }
-    true
+    Ok(true)
 }

@@ -1,5 +1,7 @@
 // The operations that alter the lent sheet, asked as a record says, and whether they answer as it.
 
+#![tactic(auto)]
+
 ghost use Rattle.std.specs.Prelude.{◌≤◌, length};
 
 use replay_records::sheets::Sizes;

@@ -1,5 +1,7 @@
 // `save`, `open` and the sum of a file, asked as a record says, and whether they answer as it.
 
+#![tactic(auto)]
+
 mod stored;
 
 ghost use Rattle.std.specs.Prelude.{◌≤◌, length};

@@ -1,6 +1,8 @@
 // What answers with numbers and no sheet, asked as a record says, and whether it answers as it: `quality`,
 // `corners_per_point`, `page`, the functions at a point, and the tests of a band and of a sheet.
 
+#![tactic(auto)]
+
 mod constraints;
 mod measures;
 

@@ -11,7 +11,7 @@ const POINTS: usize = 208;
 const MOST: usize = 64;
 
 // How many points, quads and labels a sheet has.
-#[derive(Drop)]
+#[derive(Clone, Copy)]
 pub struct Sizes {
     pub points: usize,
     pub quads: usize,

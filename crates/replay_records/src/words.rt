@@ -9,7 +9,7 @@ use crate::sheets::Sizes;
 const DIGEST: u64 = 1;
 
 // A sum over words and the sum of its sums, both wrapping.
-#[derive(Drop)]
+#[derive(Clone, Copy)]
 struct Sums {
     a: u64,
     b: u64,
