@@ -1,7 +1,7 @@
 /*
  * quads.h: labelled quad sheets around a band of a scalar field, drawn, refined, cleaned up, measured and saved.
  *
- * The library is target/staticlib/libquads.a, made by `rt staticlib quads`. It needs memcpy and memset and nothing else, allocates nothing,
+ * The library is target/staticlib/libquads.a, made by `tools/staticlib quads`. It needs memcpy and memset and nothing else, allocates nothing,
  * keeps nothing between calls, and may be called from several threads at once.
  *
  * A SLICE is a pointer with the number of its elements after it: `const double *points, size_t points_len`. The pointer is aligned and not

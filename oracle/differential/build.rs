@@ -7,7 +7,7 @@ fn main() {
     let folder = here.join("../../target/staticlib");
     let archive = folder.join("libexport_leaves.a");
     if !archive.is_file() {
-        println!("cargo::error=no {}: run `rt staticlib export_leaves` at the project's root first", archive.display());
+        println!("cargo::error=no {}: run `tools/staticlib export_leaves` at the project's root first", archive.display());
         process::exit(1);
     }
     println!("cargo::rerun-if-changed={}", archive.display());

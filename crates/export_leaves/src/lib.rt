@@ -1,4 +1,7 @@
-// The leaf functions for tests that link them: a field comes as its kind and ten numbers, a box as six bounds.
+// The leaf functions for tests: a field comes as its kind and ten numbers, a box as six bounds. The crate
+// export_leaves_c exports each to C and Rust.
+
+#![tactic(auto)]
 
 ghost use Rattle.std.specs.Prelude.{◌≡◌, length};
 ghost use Rattle.numeric.specs.Root.{sqrt_of};
@@ -31,16 +34,14 @@ fn put(out: &mut [f64], p: Point) -> u32
 }
 
 // The root.
-#[unsafe(no_mangle)]
-pub extern "C" fn leaf_sqrt(x: f64) -> f64
+pub fn leaf_sqrt(x: f64) -> f64
     ensures { result ≡ sqrt_of x }
 {
     numeric::sqrt(x)
 }
 
 // The value of a field, NaN if it has fewer than ten numbers.
-#[unsafe(no_mangle)]
-pub extern "C" fn leaf_value(kind: u32, numbers: &[f64], x: f64, y: f64, z: f64) -> f64
+pub fn leaf_value(kind: u32, numbers: &[f64], x: f64, y: f64, z: f64) -> f64
     ensures { result ≡ value_at kind numbers.now x y z }
 {
     if numbers.len() < export_band::NUMBERS {
@@ -53,8 +54,7 @@ pub extern "C" fn leaf_value(kind: u32, numbers: &[f64], x: f64, y: f64, z: f64)
 }
 
 // Writes the gradient of a band's field to out.
-#[unsafe(no_mangle)]
-pub extern "C" fn leaf_gradient(
+pub fn leaf_gradient(
     kind: u32,
     numbers: &[f64],
     bounds: &[f64],
@@ -77,8 +77,7 @@ pub extern "C" fn leaf_gradient(
 }
 
 // Writes the normal of a label to out.
-#[unsafe(no_mangle)]
-pub extern "C" fn leaf_normal(
+pub fn leaf_normal(
     kind: u32,
     numbers: &[f64],
     bounds: &[f64],
@@ -105,8 +104,7 @@ pub extern "C" fn leaf_normal(
 }
 
 // Writes the projection by a mask to out.
-#[unsafe(no_mangle)]
-pub extern "C" fn leaf_project(
+pub fn leaf_project(
     kind: u32,
     numbers: &[f64],
     bounds: &[f64],
@@ -134,14 +132,7 @@ pub extern "C" fn leaf_project(
 }
 
 // Tests the levels, the bounds and the length of a band.
-#[unsafe(no_mangle)]
-pub extern "C" fn leaf_validate(
-    kind: u32,
-    numbers: &[f64],
-    bounds: &[f64],
-    lower: f64,
-    upper: f64,
-) -> u32
+pub fn leaf_validate(kind: u32, numbers: &[f64], bounds: &[f64], lower: f64, upper: f64) -> u32
     ensures { result ≡ band_number (told_of kind numbers.now bounds.now lower upper) }
 {
     if export_band::is_short_told(numbers.len(), bounds.len()) {
@@ -176,8 +167,7 @@ fn tested(b: Band, points: &[f64], quads: &[u32], labels: &[u8], masks: &mut [u3
 }
 
 // Tests a sheet and its band.
-#[unsafe(no_mangle)]
-pub extern "C" fn leaf_constraints(
+pub fn leaf_constraints(
     points: &[f64],
     quads: &[u32],
     labels: &[u8],

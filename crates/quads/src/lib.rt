@@ -1,7 +1,8 @@
-// The public face: every operation under its name, as a function that C and Rust can link. A slice passes as its
-// pointer and its length. An export that takes a band is told it as a kind, numbers, bounds and levels; the answer
-// slice takes the count of swaps or merges, or of the bytes of a saved file, and the counts of the sheet, or what is
-// said at the export.
+// The public face: every operation under its name; the crate quads_c exports each to C and Rust. A function that takes
+// a band is told it as a kind, numbers, bounds and levels; the answer slice takes the count of swaps or merges, or of
+// the bytes of a saved file, and the counts of the sheet, or what is said at the function.
+
+#![tactic(auto)]
 
 ghost use Rattle.std.specs.Prelude.{◌≡◌, false, ◌||◌, length, replicate};
 ghost use Rattle.rule_sheet.specs.Lent.{lent_of, room_of, work_of};
@@ -18,7 +19,8 @@ ghost use Rattle.rule_extract.specs.Drawing.{extract_rule};
 ghost use Rattle.rule_job.specs.Files.{job_of};
 ghost use Rattle.rule_job.specs.Jobs.{job_room_of, save_rule, sum_rule};
 ghost use Rattle.rule_exports.specs.Told.{told_of, by_told, drawn_by_told};
-ghost use Rattle.rule_exports.specs.Exports.{is_short_answer, with_answer, ExportMakes, ExportAlters, ExportAltersQuads};
+ghost use Rattle.rule_exports.specs.Exports.{is_short_answer, with_answer, ExportMakes, ExportAlters};
+ghost use Rattle.rule_exports.specs.Exports.{ExportAltersQuads};
 ghost use Rattle.rule_exports.specs.Measured.{is_short_counts, is_short_measures, ShowsMeasures};
 ghost use Rattle.rule_exports.specs.Divided.{is_short_ratio, ShowsRatio};
 ghost use Rattle.rule_exports.specs.Paged.{ShowsPage};
@@ -27,8 +29,7 @@ ghost use Rattle.rule_exports.specs.Jobs.{ExportSaves, open_by, ExportOpens, is_
 use rule_sheet::Counts;
 
 // `extract_candidate`: the counts of the drawn sheet go to answer[1..4], answer[0] is 0.
-#[unsafe(no_mangle)]
-pub extern "C" fn quads_extract_candidate(
+pub fn quads_extract_candidate(
     kind: u32,
     numbers: &[f64],
     bounds: &[f64],
@@ -69,8 +70,7 @@ pub extern "C" fn quads_extract_candidate(
 }
 
 // `refine`: the counts of the finer sheet go to answer[1..4], answer[0] is 0.
-#[unsafe(no_mangle)]
-pub extern "C" fn quads_refine(
+pub fn quads_refine(
     points: &[f64],
     quads: &[u32],
     labels: &[u8],
@@ -84,7 +84,7 @@ pub extern "C" fn quads_refine(
     floats: &mut [f64],
     answer: &mut [u64],
 ) -> u32
-    ensures sheet { let x = lent_of (record { points = np; quads = nq; labels = nl }) points.entry.now quads.now
+    ensures sheet { let x = lent_of (record { points = np; quads = nq; labels = nl }) points.now quads.now
         labels.now in
         let room = room_of new_points.old new_quads.old new_labels.old in
         let w = work_of work.old floats.old in
@@ -108,8 +108,7 @@ pub extern "C" fn quads_refine(
 }
 
 // `subdivide`: the counts of the smooth sheet go to answer[1..4], answer[0] is 0.
-#[unsafe(no_mangle)]
-pub extern "C" fn quads_subdivide(
+pub fn quads_subdivide(
     points: &[f64],
     quads: &[u32],
     labels: &[u8],
@@ -128,7 +127,7 @@ pub extern "C" fn quads_subdivide(
     floats: &mut [f64],
     answer: &mut [u64],
 ) -> u32
-    ensures sheet { let x = lent_of (record { points = np; quads = nq; labels = nl }) points.entry.now quads.now
+    ensures sheet { let x = lent_of (record { points = np; quads = nq; labels = nl }) points.now quads.now
         labels.now in
         let t = told_of kind numbers.now bounds.now lower upper in
         let room = room_of new_points.old new_quads.old new_labels.old in
@@ -159,8 +158,7 @@ pub extern "C" fn quads_subdivide(
 }
 
 // `boundary_rows`: the counts of the sheet with rows go to answer[1..4], answer[0] is 0.
-#[unsafe(no_mangle)]
-pub extern "C" fn quads_boundary_rows(
+pub fn quads_boundary_rows(
     points: &[f64],
     quads: &[u32],
     labels: &[u8],
@@ -179,7 +177,7 @@ pub extern "C" fn quads_boundary_rows(
     floats: &mut [f64],
     answer: &mut [u64],
 ) -> u32
-    ensures sheet { let x = lent_of (record { points = np; quads = nq; labels = nl }) points.entry.now quads.now
+    ensures sheet { let x = lent_of (record { points = np; quads = nq; labels = nl }) points.now quads.now
         labels.now in
         let t = told_of kind numbers.now bounds.now lower upper in
         let room = room_of new_points.old new_quads.old new_labels.old in
@@ -211,8 +209,7 @@ pub extern "C" fn quads_boundary_rows(
 
 // `quality`: the eight counts in the record's order, tight and valid go to answer[..10], the four measures to
 // measures[..4].
-#[unsafe(no_mangle)]
-pub extern "C" fn quads_quality(
+pub fn quads_quality(
     points: &[f64],
     quads: &[u32],
     labels: &[u8],
@@ -229,7 +226,7 @@ pub extern "C" fn quads_quality(
     answer: &mut [u64],
     measures: &mut [f64],
 ) -> u32
-    ensures answer { let x = lent_of (record { points = np; quads = nq; labels = nl }) points.entry.now quads.now
+    ensures answer { let x = lent_of (record { points = np; quads = nq; labels = nl }) points.now quads.now
         labels.now in
         let t = told_of kind numbers.now bounds.now lower upper in
         let w = work_of work.old floats.old in
@@ -252,8 +249,7 @@ pub extern "C" fn quads_quality(
 }
 
 // `corners_per_point`: the quotient goes to answer[0], the remainder to answer[1].
-#[unsafe(no_mangle)]
-pub extern "C" fn quads_corners_per_point(
+pub fn quads_corners_per_point(
     points: &[f64],
     quads: &[u32],
     labels: &[u8],
@@ -269,7 +265,7 @@ pub extern "C" fn quads_corners_per_point(
     floats: &mut [f64],
     answer: &mut [u64],
 ) -> u32
-    ensures answer { let x = lent_of (record { points = np; quads = nq; labels = nl }) points.entry.now quads.now
+    ensures answer { let x = lent_of (record { points = np; quads = nq; labels = nl }) points.now quads.now
         labels.now in
         let t = told_of kind numbers.now bounds.now lower upper in
         let w = work_of work.old floats.old in
@@ -292,8 +288,7 @@ pub extern "C" fn quads_corners_per_point(
 }
 
 // `regularize`: the swaps go to answer[0], the counts of the sheet to answer[1..4].
-#[unsafe(no_mangle)]
-pub extern "C" fn quads_regularize(
+pub fn quads_regularize(
     points: &[f64],
     quads: &mut [u32],
     labels: &[u8],
@@ -310,7 +305,7 @@ pub extern "C" fn quads_regularize(
     floats: &mut [f64],
     answer: &mut [u64],
 ) -> u32
-    ensures sheet { let x = lent_of (record { points = np; quads = nq; labels = nl }) points.entry.now quads.old
+    ensures sheet { let x = lent_of (record { points = np; quads = nq; labels = nl }) points.now quads.old
         labels.now in
         let t = told_of kind numbers.now bounds.now lower upper in
         let w = work_of work.old floats.old in
@@ -337,8 +332,7 @@ pub extern "C" fn quads_regularize(
 }
 
 // `improve_layout`: the swaps go to answer[0], the counts of the sheet to answer[1..4].
-#[unsafe(no_mangle)]
-pub extern "C" fn quads_improve_layout(
+pub fn quads_improve_layout(
     points: &[f64],
     quads: &mut [u32],
     labels: &[u8],
@@ -355,7 +349,7 @@ pub extern "C" fn quads_improve_layout(
     floats: &mut [f64],
     answer: &mut [u64],
 ) -> u32
-    ensures sheet { let x = lent_of (record { points = np; quads = nq; labels = nl }) points.entry.now quads.old
+    ensures sheet { let x = lent_of (record { points = np; quads = nq; labels = nl }) points.now quads.old
         labels.now in
         let t = told_of kind numbers.now bounds.now lower upper in
         let w = work_of work.old floats.old in
@@ -382,8 +376,7 @@ pub extern "C" fn quads_improve_layout(
 }
 
 // `coarsen`: the merges go to answer[0], the counts of the sheet that is left to answer[1..4].
-#[unsafe(no_mangle)]
-pub extern "C" fn quads_coarsen(
+pub fn quads_coarsen(
     points: &mut [f64],
     quads: &mut [u32],
     labels: &mut [u8],
@@ -400,13 +393,13 @@ pub extern "C" fn quads_coarsen(
     floats: &mut [f64],
     answer: &mut [u64],
 ) -> u32
-    ensures sheet { let x = lent_of (record { points = np; quads = nq; labels = nl }) points.entry.now quads.old
+    ensures sheet { let x = lent_of (record { points = np; quads = nq; labels = nl }) points.old quads.old
         labels.old in
         let t = told_of kind numbers.now bounds.now lower upper in
         let w = work_of work.old floats.old in
         let l = answer.old in
         ExportAlters (by_told x.counts (is_short_answer l) t (λ s. coarsen_rule s passes x w)) x l result
-        points.exit.now quads.new labels.new answer.new }
+        points.new quads.new labels.new answer.new }
     ensures cleared { Cleared work.old floats.old work.new
         floats.new }
 {
@@ -427,8 +420,7 @@ pub extern "C" fn quads_coarsen(
 }
 
 // `page`: the page goes to the slice of that name, zeros behind its 328 bytes; all zeros after a refusal.
-#[unsafe(no_mangle)]
-pub extern "C" fn quads_page(
+pub fn quads_page(
     points: &[f64],
     quads: &[u32],
     labels: &[u8],
@@ -444,7 +436,7 @@ pub extern "C" fn quads_page(
     floats: &mut [f64],
     page: &mut [u8],
 ) -> u32
-    ensures answer { let x = lent_of (record { points = np; quads = nq; labels = nl }) points.entry.now quads.now
+    ensures answer { let x = lent_of (record { points = np; quads = nq; labels = nl }) points.now quads.now
         labels.now in
         let t = told_of kind numbers.now bounds.now lower upper in
         let w = work_of work.old floats.old in
@@ -466,8 +458,7 @@ pub extern "C" fn quads_page(
 
 // `save`: answer[0] is how many bytes the file has, answer[1..4] are the counts. Header and points are f64 elsewhere;
 // here they pass as their 64 bits.
-#[unsafe(no_mangle)]
-pub extern "C" fn quads_save_job(
+pub fn quads_save_job(
     header: &[u64],
     points: &[u64],
     quads: &[u32],
@@ -479,7 +470,7 @@ pub extern "C" fn quads_save_job(
     file: &mut [u8],
     answer: &mut [u64],
 ) -> u32
-    ensures answer { let x = job_of (record { points = np; quads = nq; labels = nl }) header.now points.entry.now
+    ensures answer { let x = job_of (record { points = np; quads = nq; labels = nl }) header.now points.now
         quads.now labels.now in
         let w = length work.old in
         let m = length file.old in
@@ -498,8 +489,7 @@ pub extern "C" fn quads_save_job(
 }
 
 // `open`: the counts go to answer[1..4], answer[0] is 0. Header and points as in `quads_save_job`.
-#[unsafe(no_mangle)]
-pub extern "C" fn quads_open_job(
+pub fn quads_open_job(
     file: &[u8],
     header: &mut [u64],
     new_points: &mut [u64],
@@ -521,8 +511,7 @@ pub extern "C" fn quads_open_job(
 }
 
 // The squared sum that a job file says, without opening it: answer[0] is 1 where one is written, answer[1] is the sum.
-#[unsafe(no_mangle)]
-pub extern "C" fn quads_job_sum(file: &[u8], answer: &mut [u64]) -> u32
+pub fn quads_job_sum(file: &[u8], answer: &mut [u64]) -> u32
     ensures { let l = answer.old in
         ShowsSum (sum_rule file.now (is_short_sum l)) l result answer.new }
 {

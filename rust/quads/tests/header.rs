@@ -62,7 +62,7 @@ fn header_library_and_crate_declare_the_same() {
     let header = declared("include/quads.h", "uint32_t quads_", from_c);
     assert_eq!(header.len(), 13);
     assert_eq!(header, declared("rust/quads/src/ffi.rs", "fn quads_", str::to_string));
-    assert_eq!(header, declared("crates/quads/src/lib.rt", "extern \"C\" fn quads_", from_rattle));
+    assert_eq!(header, declared("crates/quads_c/src/lib.rt", "extern \"C\" fn quads_", from_rattle));
 }
 
 /// Runs a program to its end: what it wrote, if it went well.
