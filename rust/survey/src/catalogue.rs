@@ -4,7 +4,7 @@ use std::collections::BTreeSet;
 use std::io;
 use std::path::Path;
 
-/// A line of crates.txt.
+/// A line of crates.txt, `NAME: CRATE CRATE ..`. Words between the name and the mark, as `staticlib`, say how it is built.
 #[derive(Debug, Clone, PartialEq)]
 pub struct Crate {
     /// Its name.
@@ -14,6 +14,9 @@ pub struct Crate {
     /// The crates that it lists.
     pub uses: Vec<String>,
 }
+
+/// The kit's library, which no crate lists.
+pub const LIBRARY: &str = "std";
 
 /// All lines of crates.txt.
 #[derive(Debug, Default)]
@@ -35,9 +38,10 @@ impl Catalogue {
         for line in text.lines() {
             if let Some(comment) = line.strip_prefix('#') {
                 family = comment.trim().to_string();
-            } else if let Some((name, uses)) = line.split_once(':') {
+            } else if let Some((head, uses)) = line.split_once(':') {
+                let name = head.split_whitespace().next().unwrap_or_default().to_string();
                 let uses = uses.split_whitespace().map(String::from).collect();
-                crates.push(Crate { name: name.trim().to_string(), family: family.clone(), uses });
+                crates.push(Crate { name, family: family.clone(), uses });
             }
         }
         Catalogue { crates }
@@ -58,6 +62,12 @@ impl Catalogue {
     pub fn family(&self, name: &str) -> Option<&str> {
         self.crates.iter().find(|one| one.name == name).map(|one| one.family.as_str())
     }
+
+    /// Whether a crate is the kit's: its library, or a crate that is listed without a line of its own.
+    pub fn is_of_kit(&self, name: &str) -> bool {
+        let listed = || self.crates.iter().any(|one| one.uses.iter().any(|used| used == name));
+        self.family(name).is_none() && (name == LIBRARY || listed())
+    }
 }
 
 #[cfg(test)]
@@ -66,10 +76,22 @@ mod tests {
 
     #[test]
     fn crates_stand_in_the_family_above_them() {
-        let catalogue = Catalogue::parse("# words\nnumbers:\nlists: numbers\n\n# rules\nrule_one: numbers lists\n");
-        assert_eq!(catalogue.families(), ["words", "rules"]);
+        let catalogue = Catalogue::parse(
+            "# words\nnumbers:\nlists: numbers\n\n# rules\nrule_one: numbers lists\n# tests\nreplay: io\n",
+        );
+        assert_eq!(catalogue.families(), ["words", "rules", "tests"]);
         assert_eq!(catalogue.family("lists"), Some("words"));
-        assert_eq!(catalogue.family("libc"), None);
+        assert_eq!(catalogue.family("io"), None);
+        assert!(catalogue.is_of_kit("std") && catalogue.is_of_kit("io"));
+        assert!(!catalogue.is_of_kit("lists") && !catalogue.is_of_kit("libc"));
         assert_eq!(catalogue.of("rules").next().unwrap().uses, ["numbers", "lists"]);
+    }
+
+    #[test]
+    fn a_static_library_is_a_crate() {
+        let catalogue = Catalogue::parse("# faces\nquads: lists\nquads_c staticlib: lists quads\n");
+        assert_eq!(catalogue.family("quads_c"), Some("faces"));
+        assert_eq!(catalogue.crates[1].name, "quads_c");
+        assert_eq!(catalogue.crates[1].uses, ["lists", "quads"]);
     }
 }

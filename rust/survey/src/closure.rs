@@ -25,12 +25,15 @@ struct Scope {
 impl Scope {
     /// Adds a name. An operator is used by the parts of its name between its operands.
     fn add(&mut self, name: &str, node: &Node) {
-        for part in name.split('_').filter(|part| name.contains('_') && !part.is_empty()) {
+        for part in name.split(OPERAND).filter(|part| name.contains(OPERAND) && !part.is_empty()) {
             self.names.insert(part.to_string(), node.clone());
         }
         self.names.insert(name.to_string(), node.clone());
     }
 }
+
+/// What stands in the name of an operator for an operand.
+const OPERAND: char = '◌';
 
 /// How often an import is followed that hands on another.
 const LONGEST_WAY: usize = 8;
@@ -90,8 +93,8 @@ impl<'a> Graph<'a> {
 
     /// What a name of a module means.
     fn find(&self, place: &Place, name: &str, left: usize) -> Option<Node> {
-        let Some(library) = &place.library else {
-            return Some(Node::Kit(place.path.join("."), name.to_string()));
+        let Some(library) = place.library.as_ref().filter(|library| !self.tree.catalogue.is_of_kit(library)) else {
+            return Some(Node::Kit(place.to_string(), name.to_string()));
         };
         if place.path.first().is_some_and(|first| first == "declared") {
             let is_type = |name: &&String| name.starts_with(char::is_uppercase);
@@ -149,14 +152,17 @@ impl<'a> Graph<'a> {
         scope
     }
 
-    /// What a word with the name of a module before it means; none where the word has none.
+    /// What a word with the name of a module before it means; none where the word has none. Fields may follow on the
+    /// name: the longest part of the word that means something counts.
     fn qualified(&self, scope: &Scope, word: &str) -> Option<Option<Node>> {
         let (first, rest) = word.split_once('.')?;
         let place = scope.modules.get(first)?;
-        let mut path = place.path.clone();
-        path.extend(rest.split('.').map(String::from));
-        let name = path.pop()?;
-        Some(self.find(&Place { library: place.library.clone(), path }, &name, LONGEST_WAY))
+        let rest: Vec<String> = rest.split('.').map(String::from).collect();
+        let meaning = |last: usize| {
+            let path = [place.path.as_slice(), &rest[..last]].concat();
+            self.find(&Place { library: place.library.clone(), path }, &rest[last], LONGEST_WAY)
+        };
+        Some((0..rest.len()).rev().find_map(meaning))
     }
 
     /// What the words of a text mean in a scope.

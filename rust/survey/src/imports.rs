@@ -1,12 +1,29 @@
 //! What a file imports.
+use crate::catalogue::LIBRARY;
+use std::fmt;
 
-/// A module: of the specs/ of a crate, or of the kit.
+/// What the path of a module of a crate begins with.
+const ROOT: &str = "Rattle";
+
+/// The folder of the definitions of a crate, and its name in paths of modules.
+const SPECS: &str = "specs";
+
+/// A module: of the specs/ of a crate, which may be the kit's, or another one of the kit.
 #[derive(Debug, Clone, PartialEq)]
 pub struct Place {
-    /// The crate; none for a module of the kit.
+    /// The crate; none for a module of the kit that stands in no specs/.
     pub library: Option<String>,
     /// The names that lead to the module.
     pub path: Vec<String>,
+}
+
+impl fmt::Display for Place {
+    fn fmt(&self, f: &mut fmt::Formatter<'_>) -> fmt::Result {
+        if let Some(library) = &self.library {
+            write!(f, "{ROOT}.{library}.{SPECS}.")?;
+        }
+        f.write_str(&self.path.join("."))
+    }
 }
 
 /// What an import brings.
@@ -29,15 +46,16 @@ pub struct Import {
     pub public: bool,
 }
 
-/// The module that a path names: `Rattle·NAME.specs.FILE`, `Rattle·NAME·specs.specs.FILE`, or one of the kit.
+/// The module that a path names: `Rattle.NAME.specs.FILE`, or one of the kit that stands in no folder of definitions. What
+/// is proved of a crate is none.
 fn place(text: &str) -> Option<Place> {
-    let mut names = text.split('.').map(String::from);
-    let Some(library) = text.strip_prefix("Rattle·") else {
-        return Some(Place { library: None, path: names.collect() });
-    };
-    let library = library.split(['·', '.']).next().map(String::from);
-    names.find(|name| name == "specs")?;
-    Some(Place { library, path: names.collect() })
+    let names: Vec<String> = text.split('.').map(String::from).collect();
+    match names.as_slice() {
+        [first, library, part, path @ ..] if first == ROOT && (part == SPECS || library != LIBRARY) => {
+            (part == SPECS).then(|| Place { library: Some(library.clone()), path: path.to_vec() })
+        }
+        _ => Some(Place { library: None, path: names }),
+    }
 }
 
 /// A name of a list, `NAME` or `NAME as OTHER`.
@@ -92,7 +110,7 @@ mod tests {
 
     #[test]
     fn an_import_brings_names_or_a_module() {
-        let found = imports("use Rattle·one.specs.Rules.{a, b as c}\npub use Rattle·two·specs.specs.Rules as rules\n");
+        let found = imports("use Rattle.one.specs.Rules.{a, b as c}\npub use Rattle.two.specs.Rules as rules\n");
         assert_eq!(found[0].place, place_of("one", &["Rules"]));
         assert_eq!(found[0].what, What::Names(vec![("a".into(), "a".into()), ("b".into(), "c".into())]));
         assert_eq!(found[1].place, place_of("two", &["Rules"]));
@@ -100,13 +118,22 @@ mod tests {
     }
 
     #[test]
-    fn a_list_may_stand_on_several_lines_and_the_kit_has_no_crate() {
-        let found = imports("ghost use lib.ListN.{length,\n    replicate};\nuse points::Point;\n");
-        assert_eq!(found.len(), 1);
-        assert_eq!(found[0].place, place_of("", &["lib", "ListN"]));
-        assert_eq!(
-            found[0].what,
-            What::Names(vec![("length".into(), "length".into()), ("replicate".into(), "replicate".into())])
+    fn a_list_may_stand_on_several_lines_and_the_kit_may_have_no_crate() {
+        let found = imports(
+            "ghost use mathlib.Core.List.{map,\n    foldl};\nuse points::Point;\nghost use Rattle.std.specs.Bool.{◌&&◌};\n",
         );
+        assert_eq!(found.len(), 2);
+        assert_eq!(found[0].place, place_of("", &["mathlib", "Core", "List"]));
+        assert_eq!(found[0].what, What::Names(vec![("map".into(), "map".into()), ("foldl".into(), "foldl".into())]));
+        assert_eq!(found[1].place, place_of("std", &["Bool"]));
+        assert_eq!(found[1].what, What::Names(vec![("◌&&◌".into(), "◌&&◌".into())]));
+    }
+
+    #[test]
+    fn what_is_proved_is_no_definition_unless_the_kit_has_it() {
+        assert_eq!(imports("use Rattle.one.proofs.Laws.{law}\n"), []);
+        let found = imports("use Rattle.std.proofs.Math.Option.{\n  Option,\n  none,\n}\n");
+        assert_eq!(found[0].place, place_of("", &["Rattle", "std", "proofs", "Math", "Option"]));
+        assert_eq!(found[0].what, What::Names(["Option", "none"].map(|name| (name.into(), name.into())).to_vec()));
     }
 }

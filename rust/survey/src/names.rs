@@ -8,9 +8,12 @@ use std::path::Path;
 const FOLDERS: [&str; 4] = ["crates", "include", "oracle", "rust"];
 const ENDINGS: [&str; 6] = ["rt", "antt", "h", "c", "rs", "toml"];
 
+/// What a name of the logic may have, and code has around a letter.
+const PRIME: char = '\'';
+
 /// Characters of a name.
 fn is_of_name(character: char) -> bool {
-    character.is_alphanumeric() || "_-′".contains(character)
+    character.is_alphanumeric() || "_-".contains(character) || character == PRIME
 }
 
 /// Whether a text is one name. The beginning of names, `rule_`, and a form of names, `rule_NAME`, are none.
@@ -22,7 +25,11 @@ fn is_name(text: &str) -> bool {
 /// All words of the code, the definitions, the proofs and crates.txt.
 pub fn words(root: &Path) -> io::Result<BTreeSet<String>> {
     let mut found = BTreeSet::new();
-    let mut add = |text: &str| found.extend(text.split(|one| !is_of_name(one)).map(String::from));
+    let mut add = |text: &str| {
+        for word in text.split(|one| !is_of_name(one)) {
+            found.extend(word.split(PRIME).chain([word]).map(String::from));
+        }
+    };
     add(&files::text(&root.join("crates.txt"))?);
     for folder in FOLDERS {
         for ending in ENDINGS {

@@ -13,7 +13,7 @@ pub struct Function {
     pub public: bool,
     /// Whether C may call it.
     pub export: bool,
-    /// Its parameters, its result and the clauses of its contract.
+    /// Its parameters, its result and the clauses of its contract, without the names of the clauses.
     pub contract: String,
     /// How many lines stand between the braces of its body.
     pub body: usize,
@@ -85,6 +85,15 @@ fn begun(line: &str) -> Option<&str> {
     line.strip_prefix("fn ")?.split(['(', '<']).next()
 }
 
+/// A line without the name of the clause that begins in it, which is no name of the logic.
+fn without_label(line: &str) -> String {
+    let begun = CLAUSES.iter().find_map(|word| Some((word, line.trim_start().strip_prefix(word)?.split_once('{')?)));
+    match begun {
+        Some((word, (_, rest))) => format!("{}{word} {{{rest}", " ".repeat(indent(line))),
+        None => line.to_string(),
+    }
+}
+
 /// The line of the brace that opens the body of the function that begins at a line.
 fn body_at(lines: &[&str], first: usize) -> Option<usize> {
     let mut depth = 0;
@@ -110,13 +119,14 @@ fn body_lines(lines: &[&str], open: usize, indentation: usize) -> usize {
 /// The function of this name that begins at a line.
 fn function(lines: &[&str], first: usize, name: &str) -> Option<Function> {
     let open = body_at(lines, first)?;
+    let clauses: Vec<String> = lines[first..open].iter().map(|line| without_label(line)).collect();
     let last = lines[open].split('{').next().unwrap_or_default();
     Some(Function {
         name: name.to_string(),
         line: first + 1,
         public: lines[first].trim_start().starts_with("pub "),
         export: lines[first].contains("extern \"C\""),
-        contract: format!("{}\n{last}", lines[first..open].join("\n")),
+        contract: format!("{}\n{last}", clauses.join("\n")),
         body: body_lines(lines, open, indent(lines[first])),
     })
 }
@@ -132,11 +142,21 @@ fn type_at(lines: &[&str], first: usize) -> Option<Type> {
     Some(Type { name: name.to_string(), lines: length + comment.count(), text })
 }
 
-/// The types that a line imports, `use CRATE::TYPE;`, each with its crate.
-fn used(line: &str) -> Option<(String, String)> {
-    let path = line.strip_prefix("use ").or(line.strip_prefix("pub use "))?.trim_end_matches(';');
-    let (library, rest) = path.split_once("::")?;
-    Some((rest.rsplit("::").next()?.to_string(), library.to_string()))
+/// The types that the import which begins at a line brings, `use CRATE::TYPE;` or `use CRATE::{TYPE, ..};`, each with
+/// its crate. A list may stand on several lines.
+fn used(lines: &[&str], first: usize) -> Vec<(String, String)> {
+    let Some(begun) = lines[first].strip_prefix("use ").or(lines[first].strip_prefix("pub use ")) else {
+        return vec![];
+    };
+    let rest = lines[first + 1..].iter().copied().take_while(|_| !begun.contains(';'));
+    let end = rest.clone().position(|line| line.contains(';')).map_or(0, |last| last + 1);
+    let statement: String = std::iter::once(begun).chain(rest.take(end)).collect();
+    let Some((library, path)) = statement.split(';').next().unwrap_or_default().split_once("::") else {
+        return vec![];
+    };
+    let list = path.rsplit_once('{').map_or(path, |(_, list)| list).trim_end_matches('}');
+    let names = list.split(',').filter_map(|path| path.trim().rsplit("::").next()).filter(|name| !name.is_empty());
+    names.map(|name| (name.to_string(), library.to_string())).collect()
 }
 
 impl Source {
@@ -148,7 +168,7 @@ impl Source {
         let functions = bare.iter().enumerate().filter_map(|(i, line)| function(&bare, i, begun(line)?));
         Source {
             imports: imports::imports(text),
-            uses: lines.iter().filter_map(|line| used(line)).collect(),
+            uses: (0..bare.len()).flat_map(|i| used(&bare, i)).collect(),
             functions: functions.collect(),
             types: (0..lines.len()).filter_map(|i| type_at(&lines, i)).collect(),
             code: code.clone(),
@@ -162,7 +182,12 @@ mod tests {
 
     const FILE: &str = "\
 use rule_sheet::report::Counts;
-ghost use Rattle·rule_one.specs.Rule.{ruleOf};
+use rule_sheet::{Sheet, Verdict};
+use rule_one::{
+    Limit,
+    Rule,
+};
+ghost use Rattle.rule_one.specs.Rule.{rule_of};
 
 // An answer.
 pub enum Answer {
@@ -171,14 +196,13 @@ pub enum Answer {
 }
 
 // Answers.
-#[no_mangle]
+#[unsafe(no_mangle)]
 pub extern \"C\" fn answer(
     c: Counts,
 ) -> Answer
-    requires { ⌜ Asks c ⌝ }
-    ensures sheet { λ r. ⌜ (
-        let s = record { counts = c } in
-        r ≡ ruleOf s) ⌝ }
+    requires { Asks c }
+    ensures sheet { let s = record { counts = c } in
+        result ≡ rule_of s }
 {
     if c.points == 0 {
         return Answer::Refused(5);
@@ -199,16 +223,18 @@ fn one() -> u32 { 1 }
         let bodies: Vec<(&str, usize)> = functions.iter().map(|one| (one.name.as_str(), one.body)).collect();
         assert_eq!(bodies, [("answer", 4), ("none", 1), ("one", 1)]);
         assert!(functions[0].public && functions[0].export && !functions[1].public);
-        assert!(functions[0].contract.contains("ruleOf s") && functions[0].contract.contains("Asks"));
-        assert!(!functions[0].contract.contains("Refused"));
-        assert!(functions[0].ensures().contains("ruleOf s") && !functions[0].ensures().contains("Asks"));
+        assert!(functions[0].contract.contains("rule_of s") && functions[0].contract.contains("Asks"));
+        assert!(!functions[0].contract.contains("Refused") && !functions[0].contract.contains("sheet"));
+        assert!(functions[0].ensures().contains("rule_of s") && !functions[0].ensures().contains("Asks"));
     }
 
     #[test]
     fn types_are_found_and_whence_others_come() {
         let source = Source::parse(FILE);
         assert_eq!((source.types[0].name.as_str(), source.types[0].lines), ("Answer", 5));
-        assert_eq!(source.uses, [("Counts".to_string(), "rule_sheet".to_string())]);
+        let uses: Vec<(&str, &str)> = source.uses.iter().map(|(name, library)| (&**name, &**library)).collect();
+        let sheet = ["Counts", "Sheet", "Verdict"].map(|name| (name, "rule_sheet"));
+        assert_eq!(uses, [&sheet[..], &[("Limit", "rule_one"), ("Rule", "rule_one")]].concat());
         assert_eq!(source.imports.len(), 1);
     }
 }

@@ -5,7 +5,7 @@ use crate::tokens;
 /// A definition.
 #[derive(Debug, Clone, PartialEq)]
 pub struct Definition {
-    /// Its name; `_` stands where an operator has its operands.
+    /// Its name; `◌` stands where an operator has its operands.
     pub name: String,
     /// The number of its first line, counted from 1, without the comment above it.
     pub line: usize,
@@ -180,14 +180,14 @@ mod tests {
     const FILE: &str = "\
 -- What two lines say. Not a rule: an example
 -- of two lines.
-use lib.Dec.{ltb}
+use Rattle.std.specs.Prelude.{ltb}
 
 -- ---- a part
 
-infixl 65 _⊕_
+infixl 65 ◌⊕◌
 -- the sum
-abbrev pub _⊕_ : ℕ → ℕ → ℕ
-_⊕_ a b = a + b
+abbrev pub ◌⊕◌ : ℕ → ℕ → ℕ
+◌⊕◌ a b = a + b
 
 -- an answer
 pub data Answer (A : Type 0) : Type 0 where
@@ -197,7 +197,7 @@ pub data Answer (A : Type 0) : Type 0 where
     → Answer A
 
 module _ (limit : Limit) where
-  open Limit limit using (most)
+  open Limit limit use {most}
 
   unfoldable pub inner : ℕ
   inner = most -- the most
@@ -218,7 +218,7 @@ pair =
     fn definitions_are_found_with_their_comments() {
         let spec = Spec::parse(FILE);
         let names: Vec<&str> = spec.definitions.iter().map(|one| one.name.as_str()).collect();
-        assert_eq!(names, ["_⊕_", "Answer", "inner", "Pair", "pair"]);
+        assert_eq!(names, ["◌⊕◌", "Answer", "inner", "Pair", "pair"]);
         let counts: Vec<[usize; 3]> = spec.definitions.iter().map(|one| [one.lines, one.code, one.unbroken]).collect();
         assert_eq!(counts, [[4, 2, 4], [6, 4, 5], [2, 2, 2], [2, 2, 2], [3, 3, 2]]);
         assert_eq!(spec.head, "What two lines say. Not a rule: an example of two lines.");

@@ -2,7 +2,7 @@
 
 /// Characters that stand between names.
 fn is_between(character: char) -> bool {
-    character.is_whitespace() || "(){}[];,:⌜⌝".contains(character)
+    character.is_whitespace() || "(){}[];,:".contains(character)
 }
 
 /// A text without its comments, which begin with `mark`.
@@ -15,8 +15,8 @@ pub fn without_comments(text: &str, mark: &str) -> String {
     text.lines().map(code).collect::<Vec<_>>().join("\n")
 }
 
-/// The names that a text uses. What follows on a point is a field and no name; what stands left of `=` is a variable or
-/// a field.
+/// The names that a text uses, each with the fields that follow on it. What follows on the point behind a bracket is a
+/// field and no name; what stands left of `=` is a variable or a field.
 pub fn names(text: &str) -> Vec<&str> {
     let words: Vec<&str> = text.split(is_between).filter(|word| !word.is_empty()).collect();
     let defined = |i: usize| words.get(i + 1) == Some(&"=");
@@ -31,10 +31,10 @@ mod tests {
     #[test]
     fn fields_and_what_is_set_are_no_names() {
         assert_eq!(
-            names("f (x .left) = record { count = g x; sheet = made.Done }"),
-            ["f", "x", "record", "g", "x", "made.Done"]
+            names("f (g x).left = record { count = g x; sheet = made.Done }"),
+            ["f", "g", "x", "record", "g", "x", "made.Done"]
         );
-        assert_eq!(names("λ r. ⌜ r ≡ now («new_points» .exit) ⌝"), ["λ", "r", "r", "≡", "now", "new_points"]);
+        assert_eq!(names("(λ r. r ≡ «data» new_points.new)"), ["λ", "r", "r", "≡", "data", "new_points.new"]);
     }
 
     #[test]

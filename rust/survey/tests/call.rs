@@ -16,7 +16,7 @@ fn the_last_cell_has_what_a_contract_cites() {
     assert_eq!(report.faults, [""; 0]);
     let rows: Vec<&str> = report.text.lines().skip(2).collect();
     let cells =
-        ["| `quads::quads_add` | the face | `addRule` (rule_add) |", "| `add::add` | adds | `addRule` (rule_add) |"];
+        ["| `quads::quads_add` | the face | `add_rule` (rule_add) |", "| `add::add` | adds | `add_rule` (rule_add) |"];
     assert_eq!(rows, cells);
 }
 
@@ -24,14 +24,14 @@ fn the_last_cell_has_what_a_contract_cites() {
 fn words_stand_alone_only() {
     let tree = Tree::new("call_words");
     let words =
-        ADD.replace("specs.Rule.{addRule}", "specs.Rule.{addRule};\nghost use Rattle·numbers.specs.Numbers.{spare}");
+        ADD.replace("specs.Rule.{add_rule}", "specs.Rule.{add_rule};\nghost use Rattle.numbers.specs.Numbers.{spare}");
     let row = |contract: &str| {
-        tree.put("crates/add/src/lib.rt", &words.replace("addRule\n        a b", contract));
+        tree.put("crates/add/src/lib.rt", &words.replace("add_rule\n        a b", contract));
         tree.put("docs/ARCHITECTURE.md", &document("| `add::add` | adds | |\n"));
         call::report(&tree.root).unwrap().text.lines().last().unwrap().to_string()
     };
     assert_eq!(row("spare"), "| `add::add` | adds | `spare` (numbers) |");
-    assert_eq!(row("addRule spare"), "| `add::add` | adds | `addRule` (rule_add) |");
+    assert_eq!(row("add_rule spare"), "| `add::add` | adds | `add_rule` (rule_add) |");
 }
 
 #[test]

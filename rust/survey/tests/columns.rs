@@ -5,7 +5,7 @@ use survey::columns;
 
 /// A function with so many lines in its body.
 fn function(name: &str, lines: usize) -> String {
-    format!("fn {name}() -> u32\n    ensures {{ λ r. ⌜ r ≡ 0 ⌝ }}\n{{\n{}}}\n\n", "    0;\n".repeat(lines))
+    format!("fn {name}() -> u32\n    ensures {{ result ≡ 0 }}\n{{\n{}}}\n\n", "    0;\n".repeat(lines))
 }
 
 #[test]

@@ -24,9 +24,9 @@ fn a_path_that_a_document_names_exists() {
 #[test]
 fn a_name_in_backquotes_stands_in_the_tree() {
     let tree = Tree::new("paths_names");
-    tree.put("README.md", "`addRule` and `add::add` of `rule_add`, `rule_`, `rule_NAME`, `a - b`, not `addRules`.\n");
-    assert_eq!(paths::report(&tree.root).unwrap().faults, ["README.md:1: `addRules` stands nowhere in the tree"]);
-    tree.put("rust/tool/src/lib.rs", "//! addRules\n");
+    tree.put("README.md", "`add_rule` and `add::add` of `rule_add`, `rule_`, `rule_NAME`, `a - b`, not `add_rules`.\n");
+    assert_eq!(paths::report(&tree.root).unwrap().faults, ["README.md:1: `add_rules` stands nowhere in the tree"]);
+    tree.put("rust/tool/src/lib.rs", "//! add_rules\n");
     assert_eq!(paths::report(&tree.root).unwrap().faults, [""; 0]);
     tree.put("rust/tool/CACHEDIR.TAG", "");
     assert_eq!(paths::report(&tree.root).unwrap().faults.len(), 1);

@@ -41,7 +41,7 @@ fn the_picture_and_the_call_are_written_between_their_marks() {
     assert_eq!(run(&tree, &["map", "--write"]), (Some(0), String::new(), String::new()));
     assert_eq!(run(&tree, &["map", "--check"]), (Some(0), String::new(), String::new()));
     let picture = run(&tree, &["map"]).1;
-    let whole = architecture("`addRule` (rule_add)").replace("<!-- /map -->", &format!("{picture}<!-- /map -->"));
+    let whole = architecture("`add_rule` (rule_add)").replace("<!-- /map -->", &format!("{picture}<!-- /map -->"));
     assert_eq!(tree.get("docs/ARCHITECTURE.md"), whole);
 }
 

@@ -26,12 +26,12 @@ quads: rule_add add
 /// The words.
 pub const NUMBERS: &str = "\
 -- Whole numbers. Nothing else.
-use Prim.Native.Nat.{ℕ, _+_}
+use Rattle.std.specs.Prelude.{ℕ, ◌+◌}
 
-infixl 65 _⊕_
+infixl 65 ◌⊕◌
 -- the sum
-abbrev pub _⊕_ : ℕ → ℕ → ℕ
-_⊕_ a b = a + b
+abbrev pub ◌⊕◌ : ℕ → ℕ → ℕ
+◌⊕◌ a b = a + b
 
 -- used by code alone
 abbrev pub spare : ℕ
@@ -41,10 +41,10 @@ spare = 0
 /// The rule.
 pub const RULE: &str = "\
 -- The rule of `add`.
-use Prim.Native.Nat.{ℕ}
-use Rattle·numbers.specs.Numbers.{_⊕_}
-use Rattle·rule_add·specs.specs.declared.Answer.{Answer}
-use Rattle·rule_add·specs.specs.declared.Answer.the-variants as answer
+use Rattle.std.specs.Prelude.{ℕ}
+use Rattle.numbers.specs.Numbers.{◌⊕◌}
+use Rattle.rule_add.specs.declared.Answer.{Answer}
+use Rattle.rule_add.specs.declared.Answer.TheVariants as answer
 
 -- the answer
 pub data Outcome : Type 0 where
@@ -52,8 +52,8 @@ pub data Outcome : Type 0 where
 
 module _ (limit : Limit) where
   -- the sum as an answer
-  abbrev pub addRule : ℕ → ℕ → Outcome
-  addRule a b = gives (a ⊕ b)
+  abbrev pub add_rule : ℕ → ℕ → Outcome
+  add_rule a b = gives (a ⊕ b)
 
 -- what bounds it
 pub record Limit : Type 0 where
@@ -64,13 +64,13 @@ pub record Limit : Type 0 where
 pub const ADD: &str = "\
 // Adds.
 use rule_add::Answer;
-ghost use mathlib.Core.Path.{_≡_};
-ghost use Rattle·rule_add.specs.Rule.{addRule};
+ghost use Rattle.std.specs.Prelude.{◌≡◌};
+ghost use Rattle.rule_add.specs.Rule.{add_rule};
 
 // The sum of two numbers.
 pub fn add(a: u32, b: u32) -> Answer
-    ensures { λ r. ⌜ r ≡ addRule
-        a b ⌝ }
+    ensures { result ≡ add_rule
+        a b }
 {
     inner(a, b)
 }
@@ -79,12 +79,12 @@ pub fn add(a: u32, b: u32) -> Answer
 /// The face.
 pub const QUADS: &str = "\
 // The exports.
-ghost use Rattle·rule_add.specs.Rule as rules;
+ghost use Rattle.rule_add.specs.Rule as rules;
 
 // `add` for C.
-#[no_mangle]
+#[unsafe(no_mangle)]
 pub extern \"C\" fn quads_add(a: u32, b: u32) -> u32
-    ensures { λ r. ⌜ r ≡ rules.addRule a b ⌝ }
+    ensures { result ≡ rules.add_rule a b }
 {
     add::add(a, b)
 }
@@ -93,7 +93,7 @@ pub extern \"C\" fn quads_add(a: u32, b: u32) -> u32
 /// The claim.
 pub const CLAIM: &str = "\
 -- The claim.
-use Rattle·rule_add.specs.Rule.{Outcome, gives}
+use Rattle.rule_add.specs.Rule.{Outcome, gives}
 
 -- what holds of a list
 pub record Claim (o : Outcome) : Type 0 where
