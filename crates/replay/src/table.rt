@@ -1,37 +1,37 @@
 // The table of what was seen and what agreed, at operation × 32 + number.
 use std::io;
 
-// The name of a function at a point, or of a test.
-fn function_name(operation: usize) -> &'static str {
+// Writes the name of a function at a point, or of a test.
+fn print_function(rt: &impl Print, operation: usize) -> io::Result<()> {
     match operation {
-        9 => "project",
-        10 => "value",
-        11 => "gradient",
-        12 => "normal",
-        13 => "sqrt",
-        14 => "constraints",
-        15 => "validate",
-        _ => "unknown",
+        9 => print!(rt; "project "),
+        10 => print!(rt; "value "),
+        11 => print!(rt; "gradient "),
+        12 => print!(rt; "normal "),
+        13 => print!(rt; "sqrt "),
+        14 => print!(rt; "constraints "),
+        15 => print!(rt; "validate "),
+        _ => print!(rt; "unknown "),
     }
 }
 
-// The name of an operation.
-fn name_of(operation: usize) -> &'static str {
+// Writes the name of an operation.
+fn print_name(rt: &impl Print, operation: usize) -> io::Result<()> {
     match operation {
-        1 => "refine",
-        2 => "subdivide",
-        3 => "extract_candidate",
-        4 => "regularize",
-        5 => "improve_layout",
-        6 => "coarsen",
-        7 => "boundary_rows",
-        8 => "quality",
-        16 => "corners_per_point",
-        17 => "page",
-        18 => "save",
-        19 => "open",
-        20 => "sum",
-        _ => function_name(operation),
+        1 => print!(rt; "refine "),
+        2 => print!(rt; "subdivide "),
+        3 => print!(rt; "extract_candidate "),
+        4 => print!(rt; "regularize "),
+        5 => print!(rt; "improve_layout "),
+        6 => print!(rt; "coarsen "),
+        7 => print!(rt; "boundary_rows "),
+        8 => print!(rt; "quality "),
+        16 => print!(rt; "corners_per_point "),
+        17 => print!(rt; "page "),
+        18 => print!(rt; "save "),
+        19 => print!(rt; "open "),
+        20 => print!(rt; "sum "),
+        _ => print_function(rt, operation),
     }
 }
 
@@ -40,9 +40,9 @@ fn print_line(rt: &impl Print, at: usize, seen: u64, agreed: u64) -> io::Result<
     if seen == 0 {
         return Ok(());
     }
-    let name = name_of(at / 32);
+    print_name(rt, at / 32)?;
     let number = at % 32;
-    println!(rt; "{name} {number}: {agreed} of {seen}")
+    println!(rt; "{number}: {agreed} of {seen}")
 }
 
 // The sum of a tally.
