@@ -5,8 +5,6 @@ use lib.ListN.{length}
 use lib.Seq.{length-take-le}
 use borrow.Author.Tests.{le-ltb}
 use Rattle.rule_sheet.specs.declared.Counts.{Counts}
-use Rattle.rule_sheet.specs.declared.Verdict.{Verdict}
-use Rattle.rule_sheet.specs.declared.Verdict.TheVariants.{Accepted}
 use Rattle.rule_sheet.specs.Sheet.{counts_of}
 use Rattle.rule_sheet.specs.Lent.{Lent, Work, held, limit, is_large}
 use Rattle.rule_sheet.specs.Sound.{AcceptedSheet}
@@ -15,6 +13,7 @@ use Rattle.sheet.specs.Sheet.{Few, LentSheet}
 use Rattle.sheet.proofs.Flat.{length-quads}
 use Rattle.sheet.proofs.Tests.{length-points, tested}
 use Rattle.admission.proofs.Admitted.{admitted}
+use Rattle.rule_sheet.specs.Verdicts.{Verdict, Accepted}
 
 -- the counts of the sheet that slices hold
 pub counts-held : (x : Lent) → LentSheet x.counts (length x.points) (length x.quads) (length x.labels) → counts_of (held x) ≡ x.counts

@@ -6,8 +6,6 @@ use native.Mathlib.Omega.{arith}
 use native.Mathlib.Nat.{mul-le-mul_right}
 use lib.ListN.{length, take}
 use Rattle.rule_sheet.specs.declared.Counts.{Counts}
-use Rattle.rule_sheet.specs.declared.Verdict.{Verdict}
-use Rattle.rule_sheet.specs.declared.Verdict.TheVariants.{Accepted, Refused}
 use Rattle.rule_sheet.specs.Flat.{quads_of}
 use Rattle.rule_sheet.specs.Sheet.{sheet_verdict}
 use Rattle.rule_sheet.specs.Lent.{Lent, Work, held, room_in, limit, lent_verdict}
@@ -18,11 +16,14 @@ use Rattle.sheet.specs.Sheet.{LentSheet, LentWork, MasksIf, masks_of}
 use Rattle.admission.specs.Clauses.{MasksAt}
 use borrow.Rule.Slice.PartMut.{put_mid}
 use Rattle.sheet.proofs.Tests.{lent_is}
+use Rattle.std.specs.Prelude.{Ok, Err}
+use Rattle.rule_sheet.specs.Verdicts.{Verdict, Accepted}
+use Rattle.rule_sheet.specs.declared.Refusal.{Refusal}
 
 -- two tests that find nothing together find nothing each
 and-accepted : (u v : Verdict) → and_then u v ≡ Accepted → (u ≡ Accepted) × (v ≡ Accepted)
-and-accepted Accepted v e = (refl, e)
-and-accepted (Refused n) v e = absurd (let z : ◌≡◌ {A = ℕ} 0 1 = cc in omega arith)
+and-accepted (Ok u) v e = (refl, e)
+and-accepted (Err n) v e = absurd (let z : ◌≡◌ {A = ℕ} 0 1 = cc in omega arith)
 
 -- what 12, 13, a test of what the call brings, 5, 6 and 7 leave
 pub record Admitted (v : Verdict) (x : Lent) (w : Work) : Type 0 where
@@ -42,11 +43,11 @@ admitted v x w e =
 
 -- the answers in the order of the tests
 module _ (v : Verdict) (x : Lent) (w : Work) where
-  pub lent-refuses : {n : ℕ} → lent_verdict x.counts (room_in x) w ≡ Refused n → Refused n ≡ admits_after v x w
+  pub lent-refuses : {n : Refusal} → lent_verdict x.counts (room_in x) w ≡ Err n → Err n ≡ admits_after v x w
   unfolding admits_after
   lent-refuses e = rw e
 
-  pub brought-refuses : {n : ℕ} → lent_verdict x.counts (room_in x) w ≡ Accepted → v ≡ Refused n → Refused n ≡ admits_after v x w
+  pub brought-refuses : {n : Refusal} → lent_verdict x.counts (room_in x) w ≡ Accepted → v ≡ Err n → Err n ≡ admits_after v x w
   unfolding admits_after
   brought-refuses e f = rw (e, f)
 
@@ -66,5 +67,5 @@ region-small m p q h a b = let z : m * (p + q) ≤ 64 * (p + q) = mul-le-mul_rig
 pub masks-lent : (r : Verdict) (at : ℕ) (c : Counts) (Q labels v y : List ℕ) → at + c.points ≤ length v → MasksIf r (masks_of c.points (quads_of c.quads Q) (take c.labels labels)) y
     → MasksAt r at c.points (masks_of c.points (quads_of c.quads Q) (take c.labels labels)) (put_mid at (at + c.points - at) v y)
 unfolding masks_of
-masks-lent Accepted at c Q labels v y h m = part-as (lent at c.points v y h (ap length m ∙ length-tab _ c.points)).part m
-masks-lent (Refused k) at c Q labels v y h m = tt
+masks-lent (Ok u) at c Q labels v y h m = part-as (lent at c.points v y h (ap length m ∙ length-tab _ c.points)).part m
+masks-lent (Err k) at c Q labels v y h m = tt

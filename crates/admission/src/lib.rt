@@ -2,8 +2,10 @@
 
 #![tactic(auto)]
 
-ghost use Rattle.std.specs.Prelude.{◌≡◌, ◌+◌, ◌*◌, ◌≤◌, ◌<◌, length, take};
+ghost use Rattle.std.specs.Prelude.{◌≡◌, cond, Err, ◌+◌, ◌*◌, ◌≤◌, ◌<◌, length, take};
 ghost use Rattle.setting.specs.Settings.{domain_of, setting_of};
+ghost use Rattle.rule_sheet.specs.declared.Refusal.TheVariants.{Box};
+ghost use Rattle.rule_sheet.specs.Verdicts.{Accepted};
 ghost use Rattle.rule_sheet.specs.Flat.{quads_of};
 ghost use Rattle.rule_sheet.specs.Sheet.{sheet_of, sheet_verdict};
 ghost use Rattle.rule_sheet.specs.Lent.{lent_of, work_with};
@@ -12,29 +14,27 @@ ghost use Rattle.sheet.specs.Sheet.{masks_of, LentSheet};
 ghost use Rattle.admission.specs.Clauses.{MasksAt};
 
 use band::Band;
-use rule_sheet::{Counts, Verdict};
+use rule_sheet::{Counts, Refusal};
 
-// The number of a refusal: levels, bounds or length that are no band's.
-pub const BOX: u32 = 1;
+// 1, unless the test of a band holds.
+fn box_unless(valid: bool) -> Result<(), Refusal>
+    ensures { result ≡ cond valid Accepted (Err Box) }
+{
+    if valid { Ok(()) } else { Err(Refusal::Box) }
+}
 
 // 1, of a band.
-pub fn band_verdict(b: Band) -> Verdict
+pub fn band_verdict(b: Band) -> Result<(), Refusal>
     ensures { result ≡ domain_verdict (domain_of b) }
 {
-    if band::validate(b) {
-        return Verdict::Accepted;
-    }
-    Verdict::Refused(BOX)
+    box_unless(band::validate(b))
 }
 
 // 1, of a band by which a sheet is only measured.
-pub fn measurable_band_verdict(b: Band) -> Verdict
+pub fn measurable_band_verdict(b: Band) -> Result<(), Refusal>
     ensures { result ≡ measurable_verdict (domain_of b) }
 {
-    if band::measurable(b) {
-        return Verdict::Accepted;
-    }
-    Verdict::Refused(BOX)
+    box_unless(band::measurable(b))
 }
 
 // 5, 6 and 7, of a sheet that its slices hold; the masks of an accepted one go to the region of the work slice from
@@ -46,7 +46,7 @@ fn test_sheet(
     labels: &[u8],
     at: usize,
     w: &mut [u32],
-) -> Verdict
+) -> Result<(), Refusal>
     requires lent_sheet { LentSheet c (length points.now) (length quads.now) (length labels.now) }
     requires points_in_bounds { at + c.points ≤ length w.old }
     ensures value { result ≡ sheet_verdict (sheet_of c points.now quads.now labels.now) }
@@ -59,7 +59,7 @@ fn test_sheet(
 // 12 and 13, then the verdict on what a call brings, then 5, 6 and 7. The masks of an admitted sheet go to a region of
 // the work slice, which is given in units of points and quads together.
 fn admit_after(
-    brought: Verdict,
+    brought: Result<(), Refusal>,
     c: Counts,
     points: &[f64],
     quads: &[u32],
@@ -67,20 +67,15 @@ fn admit_after(
     masks: usize,
     w: &mut [u32],
     floats: usize,
-) -> Verdict
+) -> Result<(), Refusal>
     requires { masks < 64 }
     ensures value { result ≡ admits_after brought (lent_of c points.now quads.now
         labels.now) (work_with (length w.old) floats) }
     ensures masks_at { MasksAt result (masks * (c.points + c.quads)) c.points (masks_of c.points
         (quads_of c.quads quads.now) (take c.labels labels.now)) w.new }
 {
-    let lent = sheet::lent(c, points.len(), quads.len(), labels.len(), w.len(), floats);
-    if let Verdict::Refused(n) = lent {
-        return Verdict::Refused(n);
-    }
-    if let Verdict::Refused(n) = brought {
-        return Verdict::Refused(n);
-    }
+    sheet::lent(c, points.len(), quads.len(), labels.len(), w.len(), floats)?;
+    brought?;
     test_sheet(c, points, quads, labels, masks * (c.points + c.quads), w)
 }
 
@@ -94,7 +89,7 @@ pub fn admit(
     masks: usize,
     w: &mut [u32],
     floats: usize,
-) -> Verdict
+) -> Result<(), Refusal>
     requires { masks < 64 }
     ensures value { result ≡ admits (setting_of b) (lent_of c points.now quads.now
         labels.now) (work_with (length w.old) floats) }
@@ -115,7 +110,7 @@ pub fn measure_verdict(
     labels: &[u8],
     w: &mut [u32],
     floats: usize,
-) -> Verdict
+) -> Result<(), Refusal>
     ensures { result ≡ measurable (domain_of b) (lent_of c points.now quads.now
         labels.now) (work_with (length w.old) floats) }
 {

@@ -1,13 +1,11 @@
 -- The band: its length, gradient, normal, and the two tests of its figures.
-use Rattle.std.specs.Prelude.{ℕ, ◌%◌, Bool, not, ◌&&◌, ◌||◌, cond, eqb, ltb, Float}
+use Rattle.std.specs.Prelude.{ℕ, ◌%◌, Bool, not, ◌&&◌, ◌||◌, cond, eqb, ltb, Float, Some, None, Option}
 use Rattle.std.specs.Float.{binary64}
 use Rattle.std.specs.Float.Ieee.{div, neg, lt, le, eq, of_bits}
 use Rattle.numeric.specs.Num.{zero_f, finite_of}
 use Rattle.points.specs.declared.Point.{Point}
 use Rattle.points.specs.Points.{◌⊕◌, ◌⊖◌, ◌⊗◌, one, two, sub_p, mul_p, norm_p, unit_p}
 use Rattle.field.specs.declared.Field.{Field}
-use Rattle.field.specs.declared.FieldGradient.{FieldGradient}
-use Rattle.field.specs.declared.FieldGradient.TheVariants.{Known, Missing}
 use Rattle.field.specs.Fields.{value_of, field_gradient_of}
 use Rattle.band.specs.declared.Band.{Band}
 
@@ -34,9 +32,9 @@ central_of f p h = record {
 }
 
 -- a field's own gradient, or else q
-abbrev pub own_or : FieldGradient → Point → Point
-own_or (Known g) q = g
-own_or Missing q = q
+abbrev pub own_or : Option Point → Point → Point
+own_or (Some g) q = g
+own_or None q = q
 
 -- without a gradient of the field's own, central differences with h = length × 1e-6
 unfoldable pub gradient_with : Field → Float → Point → Point

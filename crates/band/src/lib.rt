@@ -8,7 +8,7 @@ ghost use Rattle.band.specs.Bands.{length_of, difference_of, central_of, gradien
 ghost use Rattle.band.specs.Bands.{face_normal_of, normal_with, axis_valid_of, box_valid_of, levels_valid_of};
 ghost use Rattle.band.specs.Bands.{measurable_levels_of, valid_of, measurable_of};
 
-use field::{Field, FieldGradient};
+use field::Field;
 use points::Point;
 
 // The box from low to high, the levels lower and upper, and the field.
@@ -41,36 +41,12 @@ pub fn difference(f: Field, a: Point, b: Point, h: f64) -> f64
 pub fn central(f: Field, p: Point, h: f64) -> Point
     ensures { result ≡ central_of f p h }
 {
-    let right = Point {
-        x: p.x + h,
-        y: p.y,
-        z: p.z,
-    };
-    let left = Point {
-        x: p.x - h,
-        y: p.y,
-        z: p.z,
-    };
-    let front = Point {
-        x: p.x,
-        y: p.y + h,
-        z: p.z,
-    };
-    let back = Point {
-        x: p.x,
-        y: p.y - h,
-        z: p.z,
-    };
-    let over = Point {
-        x: p.x,
-        y: p.y,
-        z: p.z + h,
-    };
-    let under = Point {
-        x: p.x,
-        y: p.y,
-        z: p.z - h,
-    };
+    let right = Point { x: p.x + h, ..p };
+    let left = Point { x: p.x - h, ..p };
+    let front = Point { y: p.y + h, ..p };
+    let back = Point { y: p.y - h, ..p };
+    let over = Point { z: p.z + h, ..p };
+    let under = Point { z: p.z - h, ..p };
     let x = difference(f, right, left, h);
     let y = difference(f, front, back, h);
     let z = difference(f, over, under, h);
@@ -83,8 +59,8 @@ pub fn gradient(f: Field, len: f64, p: Point) -> Point
 {
     let own = field::gradient(f, p);
     match own {
-        FieldGradient::Known(g) => g,
-        FieldGradient::Missing => central(f, p, len * 1e-6),
+        Some(g) => g,
+        None => central(f, p, len * 1e-6),
     }
 }
 

@@ -1,7 +1,7 @@
 -- No operation refuses with 2. Assumes nothing.
 use Prim.Native.Nat.{ℕ, ◌+◌}
 use native.Mathlib.Omega.{arith}
-use mathlib.Core.Path.{refl, ap}
+use mathlib.Core.Path.{refl, ap, sym, ◌∙◌}
 use mathlib.Core.Logic.{◌≢◌, inl, inr}
 use mathlib.Core.Bool.{Bool, cond, not, ◌||◌}
 use mathlib.Core.List.{List}
@@ -11,55 +11,59 @@ use Rattle.lists.specs.Every.{every}
 use Rattle.band.specs.Bands.{valid_of, measurable_of}
 use Rattle.setting.specs.Settings.{Domain, Setting, band_in, domain_in, setting_of}
 use Rattle.rule_sheet.specs.declared.Counts.{Counts}
-use Rattle.rule_sheet.specs.declared.Verdict.TheVariants.{Accepted, Refused}
-use Rattle.rule_sheet.specs.Numbers.{box, bare, corner_number, clash, edge_number, short}
 use Rattle.rule_sheet.specs.Quads.{all}
 use Rattle.rule_sheet.specs.Tests.{in_range, good_masks}
 use Rattle.rule_sheet.specs.Sheet.{counts_of, is_bare}
 use Rattle.rule_sheet.specs.Lent.{Lent, Work, Room, work_with, held, room_in, is_large, is_short, lent_verdict}
 use Rattle.rule_sheet.specs.Outcomes.{Outcome, refuses, gives, with_room}
 use Rattle.rule_admission.specs.Admission.{domain_verdict, measurable_verdict, admits, measurable}
-use Rattle.rule_admission.proofs.Numbers.{Number, Refusal, accepted, refused, given, refusing, either_number, either-refusal, after-refusal, said}
+use Rattle.rule_admission.proofs.Numbers.{Number, Refuses, accepted, refused, given, refusing, either_number, either-refusal, after-refusal, said}
 use Rattle.rule_admission.proofs.Numbers.{SheetNumbers, lent-number, before-number, sheet-number, admits-number}
 use Rattle.rule_regularize.specs.Swaps.{regularize_gain, improve_gain}
 use Rattle.rule_regularize.specs.Rule.{swap_rule}
 use Rattle.rule_coarsen.specs.Rule.{coarsen_verdict, coarsen_rule}
 use Rattle.rule_finer.specs.Finer.{finer_sheet, refined, refine_rule}
 use Rattle.rule_finer.specs.Smoothed.{paired, smooth_sheet}
-use Rattle.rule_finer.specs.Subdivide.{astray, lands_at, projected, subdivided, subdivide_rule}
+use Rattle.rule_finer.specs.Subdivide.{lands_at, projected, subdivided, subdivide_rule}
 use Rattle.projection.specs.Project.{is_onto}
-use Rattle.rule_rows.specs.Rows.{row, copies, copy_of, rows_sheet, rows_made, rowed, rows_rule}
-use Rattle.rule_quality.specs.Quality.{Assessment, quality_rule}
+use Rattle.rule_rows.specs.Rows.{copies, copy_of, rows_sheet, rows_made, rowed, rows_rule}
+use Rattle.rule_quality.specs.declared.report.Assessment.{Assessment}
+use Rattle.rule_quality.specs.Quality.{quality_rule}
 use Rattle.rule_quality.proofs.Numbers.{measured-number}
 use Rattle.rule_corners.specs.Corners.{corners_rule}
 use Rattle.rule_page.specs.Page.{page_size, page_outcome, page_rule}
 use Rattle.rule_extract.specs.Grids.{grid_of}
-use Rattle.rule_extract.specs.Drawing.{bottomless, cells_number, samples_number, good_cells, short_work, finite_samples, drawn_sheet, extract_rule}
-use Rattle.rule_job.specs.declared.Trailer.{Trailer}
-use Rattle.rule_job.specs.declared.Trailer.TheVariants.{Found, Broken}
+use Rattle.rule_extract.specs.Drawing.{good_cells, short_work, finite_samples, drawn_sheet, extract_rule}
 use Rattle.rule_job.specs.Files.{Job, sum_of, trailer_of, job_in}
-use Rattle.rule_job.specs.Jobs.{trailer_number, sum_number, JobRoom, is_short_job, is_other, summed, open_with, save_rule, sum_by}
+use Rattle.rule_job.specs.Jobs.{JobRoom, is_short_job, is_other, summed, open_with, save_rule, sum_by}
 use Rattle.rule_exports.specs.Told.{Told, band_of, is_short_told}
 use Rattle.rule_exports.specs.Exports.{is_short_answer}
 use Rattle.band_exact.specs.Exact.{OfDrawing, DrawingNumbers, NeverBottomless, NeverShown}
+use Rattle.std.specs.Prelude.{Err, Some, None, Option}
+use Rattle.rule_job.specs.declared.Trailer.{Trailer}
+use Rattle.rule_sheet.specs.declared.Refusal.TheVariants as refusals
+use Rattle.rule_sheet.specs.declared.Refusal.TheVariants.{Box, Bottomless, Cells, Samples, Bare, Corner, Clash, Edge, Astray, Row, Short}
+use Rattle.rule_sheet.specs.Numbers.{refusal_number}
+use Rattle.rule_sheet.specs.declared.Refusal.{Refusal}
+use Rattle.rule_sheet.specs.Verdicts.{Accepted}
 
 -- ---- the numbers of a drawing
 
-drawn-by : (d : Domain) (cells : ℕ) (w : Work) (room : Room) → Refusal OfDrawing (extract_rule d cells w room)
+drawn-by : (d : Domain) (cells : ℕ) (w : Work) (room : Room) → Refuses OfDrawing (extract_rule d cells w room)
 unfolding extract_rule
 drawn-by d cells w room =
     let g = grid_of d cells in
     let s = drawn_sheet g (cells + 2) in
     let c = counts_of s in
-    let short-drawn : OfDrawing short = inr (inr (inl refl)) in
-    either-refusal OfDrawing (not (valid_of (band_in d))) (refusing OfDrawing box (inl refl))
-    (either-refusal OfDrawing (not (good_cells cells)) (refusing OfDrawing cells_number (inr (inl refl)))
-    (either-refusal OfDrawing (short_work cells w) (refusing OfDrawing short short-drawn)
-    (either-refusal OfDrawing (not (finite_samples g (cells + 3))) (refusing OfDrawing samples_number (inr (inr (inr (inl refl)))))
-    (either-refusal OfDrawing (is_large c || is_short c room) (refusing OfDrawing short short-drawn)
-    (either-refusal OfDrawing (is_bare s) (refusing OfDrawing bare (inr (inr (inr (inr (inl refl))))))
+    let short-drawn : OfDrawing Short = inr (inr (inl refl)) in
+    either-refusal OfDrawing (not (valid_of (band_in d))) (refusing OfDrawing Box (inl refl))
+    (either-refusal OfDrawing (not (good_cells cells)) (refusing OfDrawing Cells (inr (inl refl)))
+    (either-refusal OfDrawing (short_work cells w) (refusing OfDrawing Short short-drawn)
+    (either-refusal OfDrawing (not (finite_samples g (cells + 3))) (refusing OfDrawing Samples (inr (inr (inr (inl refl)))))
+    (either-refusal OfDrawing (is_large c || is_short c room) (refusing OfDrawing Short short-drawn)
+    (either-refusal OfDrawing (is_bare s) (refusing OfDrawing Bare (inr (inr (inr (inr (inl refl))))))
     (either-refusal OfDrawing (good_masks (length s.points) s.quads s.labels) (given OfDrawing s)
-    (refusing OfDrawing clash (inr (inr (inr (inr (inr refl))))))))))))
+    (refusing OfDrawing Clash (inr (inr (inr (inr (inr refl))))))))))))
 
 pub drawing-numbers : DrawingNumbers
 unfolding DrawingNumbers
@@ -67,33 +71,33 @@ drawing-numbers d cells w room n e = said OfDrawing (drawn-by d cells w room) e
 
 -- ---- 2 is none of them
 
-abbrev Other : ℕ → Type 0
-Other n = n ≢ bottomless
+abbrev Other : Refusal → Type 0
+Other n = n ≢ Bottomless
 
 sheet-numbers : SheetNumbers Other
 sheet-numbers = record {
-  at_large = λ e. omega arith;
-  at_short = λ e. omega arith;
-  at_bare = λ e. omega arith;
-  is_corner = λ e. omega arith;
-  is_clash = λ e. omega arith;
+  at_large = λ e. let z = ap refusal_number e in omega arith;
+  at_short = λ e. let z = ap refusal_number e in omega arith;
+  at_bare = λ e. let z = ap refusal_number e in omega arith;
+  is_corner = λ e. let z = ap refusal_number e in omega arith;
+  is_clash = λ e. let z = ap refusal_number e in omega arith;
 }
 
-never : {A : Type 0} {o : Outcome A} → Refusal Other o → o ≢ refuses bottomless
+never : {A : Type 0} {o : Outcome A} → Refuses Other o → o ≢ refuses Bottomless
 never p e = said Other p e refl
 
-apart : (n : ℕ) → OfDrawing n → Other n
-apart n (inl e) k = omega arith
-apart n (inr (inl e)) k = omega arith
-apart n (inr (inr (inl e))) k = omega arith
-apart n (inr (inr (inr (inl e)))) k = omega arith
-apart n (inr (inr (inr (inr (inl e))))) k = omega arith
-apart n (inr (inr (inr (inr (inr e))))) k = omega arith
+apart : (n : Refusal) → OfDrawing n → Other n
+apart n (inl e) k = let z = ap refusal_number (sym e ∙ k) in omega arith
+apart n (inr (inl e)) k = let z = ap refusal_number (sym e ∙ k) in omega arith
+apart n (inr (inr (inl e))) k = let z = ap refusal_number (sym e ∙ k) in omega arith
+apart n (inr (inr (inr (inl e)))) k = let z = ap refusal_number (sym e ∙ k) in omega arith
+apart n (inr (inr (inr (inr (inl e))))) k = let z = ap refusal_number (sym e ∙ k) in omega arith
+apart n (inr (inr (inr (inr (inr e))))) k = let z = ap refusal_number (sym e ∙ k) in omega arith
 
 -- ---- the tests of a call
 
-box-other : Number Other (Refused box)
-box-other = refused Other box (λ e. omega arith)
+box-other : Number Other (Err Box)
+box-other = refused Other Box (λ e. let z = ap refusal_number e in omega arith)
 
 domain-number : (d : Domain) → Number Other (domain_verdict d)
 unfolding domain_verdict
@@ -112,82 +116,82 @@ measured-by d x w = admits-number Other sheet-numbers x w (measurable-number d)
 lent_by : (x : Lent) (w : Work) → Number Other (lent_verdict x.counts (room_in x) w)
 lent_by x w = lent-number Other sheet-numbers x.counts (room_in x) w
 
-room_for : {A : Type 0} (c : Counts) (r : Room) {o : Outcome A} → Refusal Other o → Refusal Other (with_room c r o)
-room_for c r p = either-refusal Other (is_large c || is_short c r) (refusing Other short (λ e. omega arith)) p
+room_for : {A : Type 0} (c : Counts) (r : Room) {o : Outcome A} → Refuses Other o → Refuses Other (with_room c r o)
+room_for c r p = either-refusal Other (is_large c || is_short c r) (refusing Other Short (λ e. let z = ap refusal_number e in omega arith)) p
 
 -- ---- the operations
 
-swapped : (g : ℕ) (s : Setting) (k : ℕ) (x : Lent) (w : Work) → Refusal Other (swap_rule g s k x w)
+swapped : (g : ℕ) (s : Setting) (k : ℕ) (x : Lent) (w : Work) → Refuses Other (swap_rule g s k x w)
 unfolding swap_rule
 swapped g s k x w = after-refusal Other (admitted s x w) (given Other _)
 
-coarsened : (s : Setting) (k : ℕ) (x : Lent) (w : Work) → Refusal Other (coarsen_rule s k x w)
+coarsened : (s : Setting) (k : ℕ) (x : Lent) (w : Work) → Refuses Other (coarsen_rule s k x w)
 unfolding coarsen_rule coarsen_verdict
 coarsened s k x w = after-refusal Other (either_number Other (eqb k 0) (lent_by x w) (admitted s x w)) (given Other _)
 
-refined-by : (x : Lent) (w : Work) (room : Room) → Refusal Other (refine_rule x w room)
+refined-by : (x : Lent) (w : Work) (room : Room) → Refuses Other (refine_rule x w room)
 unfolding refine_rule refined
 refined-by x w room =
     let s = held x in
     after-refusal Other (lent_by x w) (either-refusal Other (eqb (length s.labels) (length s.quads))
     (either-refusal Other (all (in_range (length s.points)) s.quads) (room_for (counts_of (finer_sheet s)) room (given Other _))
-    (refusing Other corner_number (λ e. omega arith))) (refusing Other bare (λ e. omega arith)))
+    (refusing Other Corner (λ e. let z = ap refusal_number e in omega arith))) (refusing Other Bare (λ e. let z = ap refusal_number e in omega arith)))
 
-subdivided-by : (s : Setting) (x : Lent) (w : Work) (room : Room) → Refusal Other (subdivide_rule s x w room)
+subdivided-by : (s : Setting) (x : Lent) (w : Work) (room : Room) → Refuses Other (subdivide_rule s x w room)
 unfolding subdivide_rule subdivided projected
 subdivided-by s x w room =
     let t = smooth_sheet (held x) in
     after-refusal Other (admitted s x w) (room_for (counts_of (finer_sheet (held x))) room
     (either-refusal Other (paired (length (held x).points) (held x).quads)
     (after-refusal Other (sheet-number Other sheet-numbers t)
-    (either-refusal Other (every (lands_at s t) (length t.points)) (given Other _) (refusing Other astray (λ e. omega arith))))
-    (refusing Other edge_number (λ e. omega arith))))
+    (either-refusal Other (every (lands_at s t) (length t.points)) (given Other _) (refusing Other Astray (λ e. let z = ap refusal_number e in omega arith))))
+    (refusing Other Edge (λ e. let z = ap refusal_number e in omega arith))))
 
-rows-by : (s : Setting) (x : Lent) (w : Work) (room : Room) → Refusal Other (rows_rule s x w room)
+rows-by : (s : Setting) (x : Lent) (w : Work) (room : Room) → Refuses Other (rows_rule s x w room)
 unfolding rows_rule rowed rows_made
 rows-by s x w room =
     let t = rows_sheet s (held x) in
     after-refusal Other (admitted s x w) (room_for (counts_of t) room
     (either-refusal Other (all (λ k. is_onto (copy_of s (held x) k)) (copies (held x)))
     (either-refusal Other (paired (length (held x).points) (held x).quads)
-    (after-refusal Other (sheet-number Other sheet-numbers t) (given Other t)) (refusing Other edge_number (λ e. omega arith)))
-    (refusing Other row (λ e. omega arith))))
+    (after-refusal Other (sheet-number Other sheet-numbers t) (given Other t)) (refusing Other Edge (λ e. let z = ap refusal_number e in omega arith)))
+    (refusing Other Row (λ e. let z = ap refusal_number e in omega arith))))
 
-quality-by : (d : Domain) (x : Lent) (w : Work) → Refusal Other (quality_rule d x w)
+quality-by : (d : Domain) (x : Lent) (w : Work) → Refuses Other (quality_rule d x w)
 unfolding quality_rule
-quality-by d x w = after-refusal Other (measured-by d x w) (measured-number Other (λ e. omega arith) (length (held x).points) (held x).quads d (held x))
+quality-by d x w = after-refusal Other (measured-by d x w) (measured-number Other (λ e. let z = ap refusal_number e in omega arith) (length (held x).points) (held x).quads d (held x))
 
-corners-by : (d : Domain) (x : Lent) (w : Work) → Refusal Other (corners_rule d x w)
+corners-by : (d : Domain) (x : Lent) (w : Work) → Refuses Other (corners_rule d x w)
 unfolding corners_rule
 corners-by d x w = after-refusal Other (measured-by d x w) (given Other _)
 
-paged : {o : Outcome Assessment} → Refusal Other o → Refusal Other (page_outcome o)
+paged : {o : Outcome Assessment} → Refuses Other o → Refuses Other (page_outcome o)
 paged {o = refuses n} p = record { is = p.is }
 paged {o = gives a} p = given Other _
 
-page-by : (d : Domain) (x : Lent) (w : Work) (n : ℕ) → Refusal Other (page_rule d x w n)
+page-by : (d : Domain) (x : Lent) (w : Work) (n : ℕ) → Refuses Other (page_rule d x w n)
 unfolding page_rule
 page-by d x w n = after-refusal Other (before-number Other sheet-numbers x.counts (ltb n page_size)) (paged (quality-by d x w))
 
-saved-by : (j : Job) (w n : ℕ) → Refusal Other (save_rule j w n)
+saved-by : (j : Job) (w n : ℕ) → Refuses Other (save_rule j w n)
 unfolding save_rule
 saved-by j w n = after-refusal Other (before-number Other sheet-numbers j.counts _) (given Other _)
 
-opened-by : (F : List ℕ) (room : JobRoom) (t : Trailer) → Refusal Other (open_with F room t)
+opened-by : (F : List ℕ) (room : JobRoom) (t : Option Trailer) → Refuses Other (open_with F room t)
 unfolding open_with summed
-opened-by F room (Found c s) =
-    after-refusal Other (before-number Other sheet-numbers c (is_short_job c room))
-    (either-refusal Other (is_other s (sum_of (job_in F c))) (refusing Other sum_number (λ e. omega arith)) (given Other _))
-opened-by F room Broken = refusing Other trailer_number (λ e. omega arith)
+opened-by F room (Some t) =
+    after-refusal Other (before-number Other sheet-numbers t.counts (is_short_job t.counts room))
+    (either-refusal Other (is_other t.sum (sum_of (job_in F t.counts))) (refusing Other refusals.Sum (λ e. let z = ap refusal_number e in omega arith)) (given Other _))
+opened-by F room None = refusing Other refusals.Trailer (λ e. let z = ap refusal_number e in omega arith)
 
-summed_by : (t : Trailer) (too_short : Bool) → Refusal Other (sum_by t too_short)
+summed_by : (t : Option Trailer) (too_short : Bool) → Refuses Other (sum_by t too_short)
 unfolding sum_by
-summed_by (Found c s) too_short = either-refusal Other too_short (refusing Other short (λ e. omega arith)) (given Other s)
-summed_by Broken too_short = refusing Other trailer_number (λ e. omega arith)
+summed_by (Some t) too_short = either-refusal Other too_short (refusing Other Short (λ e. let z = ap refusal_number e in omega arith)) (given Other t.sum)
+summed_by None too_short = refusing Other refusals.Trailer (λ e. let z = ap refusal_number e in omega arith)
 
 pub never-bottomless : NeverBottomless
 never-bottomless = record {
-  extract = λ d cells w room e. apart bottomless (said OfDrawing (drawn-by d cells w room) e) refl;
+  extract = λ d cells w room e. apart Bottomless (said OfDrawing (drawn-by d cells w room) e) refl;
   refine = λ x w room. never (refined-by x w room);
   subdivide = λ s x w room. never (subdivided-by s x w room);
   rows = λ s x w room. never (rows-by s x w room);
@@ -204,12 +208,12 @@ never-bottomless = record {
 
 -- ---- the exports
 
-other-refusal : {A : Type 0} (o : Outcome A) → o ≢ refuses bottomless → Refusal Other o
+other-refusal : {A : Type 0} (o : Outcome A) → o ≢ refuses Bottomless → Refuses Other o
 other-refusal (refuses n) p = refusing Other n (λ e. p (ap refuses e))
 other-refusal (gives x) p = given Other x
 
-short-told : (t : Told) → Number Other (cond (is_short_told t) (Refused short) Accepted)
-short-told t = either_number Other (is_short_told t) (refused Other short (λ e. omega arith)) (accepted Other)
+short-told : (t : Told) → Number Other (cond (is_short_told t) (Err Short) Accepted)
+short-told t = either_number Other (is_short_told t) (refused Other Short (λ e. let z = ap refusal_number e in omega arith)) (accepted Other)
 
 pub never-shown : NeverShown
 never-shown = record {

@@ -10,9 +10,6 @@ use Rattle.points.specs.Points.{one}
 use Rattle.band.specs.declared.Band.{Band}
 use Rattle.band.specs.Bands.{length_of, normal_of, box_valid_of, levels_valid_of, measurable_levels_of, valid_of, measurable_of}
 use Rattle.setting.specs.Settings.{Domain, Setting, band_in, domain_in, domain_of}
-use Rattle.rule_sheet.specs.declared.Verdict.{Verdict}
-use Rattle.rule_sheet.specs.declared.Verdict.TheVariants.{Accepted, Refused}
-use Rattle.rule_sheet.specs.Numbers.{box}
 use Rattle.rule_sheet.specs.Sheet.{Sheet, sheet_verdict}
 use Rattle.rule_sheet.specs.Lent.{Lent, Work, held, room_in, lent_verdict}
 use Rattle.rule_sheet.specs.Outcomes.{Outcome, refuses, after_test}
@@ -27,6 +24,9 @@ use Rattle.rule_corners.specs.Corners.{corners_rule}
 use Rattle.rule_page.specs.Page.{page_rule}
 use Rattle.rule_extract.specs.Drawing.{extract_rule}
 use Rattle.band_exact.specs.Exact.{EveryTest, LowerNotFinite, box_after_lent, EveryRefusal, NoPass, EveryOldCore, band_from, EveryMeasure}
+use Rattle.std.specs.Prelude.{Ok, Err}
+use Rattle.rule_sheet.specs.Verdicts.{Verdict}
+use Rattle.rule_sheet.specs.declared.Refusal.TheVariants.{Box}
 
 -- ---- the two tests
 
@@ -47,14 +47,14 @@ not_valid : (d : Domain) → LowerNotFinite d → valid_of (band_in d) ≡ false
 unfolding EveryTest
 not_valid d h = every-test (band_in d) ∙ rw h (and-false (measurable_of (band_in d)))
 
-not-admitted : (d : Domain) → LowerNotFinite d → domain_verdict d ≡ Refused box
+not-admitted : (d : Domain) → LowerNotFinite d → domain_verdict d ≡ Err Box
 unfolding domain_verdict
 not-admitted d h = rw (not_valid d h)
 
 -- 12 and 13 come before it, the tests of the sheet behind it
-box-first : {A : Type 0} (u v : Verdict) (o : Outcome A) → after_test (and_then u (and_then (Refused box) v)) o ≡ after_test u (refuses box)
-box-first Accepted v o = refl
-box-first (Refused n) v o = refl
+box-first : {A : Type 0} (u v : Verdict) (o : Outcome A) → after_test (and_then u (and_then (Err Box) v)) o ≡ after_test u (refuses Box)
+box-first (Ok u) v o = refl
+box-first (Err n) v o = refl
 
 module _ (s : Setting) (h : LowerNotFinite (domain_in s)) where
   box-after : {A : Type 0} (x : Lent) (w : Work) (o : Outcome A) → after_test (admits s x w) o ≡ box_after_lent x w

@@ -1,7 +1,8 @@
 -- The cases that document 01 marks with *, "proved of the definitions together, by a table and one theorem about it",
 -- and those of tight, of the corners per point, of the page, of job files and of a band without a lower level. A row
 -- says what is asked of the rules and what they must answer.
-use Rattle.std.specs.Prelude.{ℕ, ◌+◌, ◌-◌, ◌*◌, ◌≡◌, Bool, true, false, List, [], ◌∷◌, ◌++◌, map, ℤ, pos, negsuc, ◌+ℤ◌}
+use Rattle.std.specs.Prelude.{ℕ, ◌+◌, ◌-◌, ◌*◌, ◌≡◌, Bool, true, false, List, [], ◌∷◌, ◌++◌, map, ℤ, pos, negsuc}
+use Rattle.std.specs.Prelude.{◌+ℤ◌, Some, None}
 use Rattle.std.specs.Prelude.{◌-ℤ◌, length, drop, replicate, Float}
 use Prim.Native.String.{String}
 use Rattle.std.specs.Float.{fin, inf, binary64}
@@ -12,8 +13,6 @@ use Rattle.points.specs.declared.Point.{Point}
 use Rattle.points.specs.Points.{one, origin}
 use Rattle.field.specs.declared.Field.TheVariants.{Plane}
 use Rattle.setting.specs.Settings.{Setting, domain_in, setting_of}
-use Rattle.rule_sheet.specs.declared.Verdict.TheVariants.{Accepted}
-use Rattle.rule_sheet.specs.Numbers.{box}
 use Rattle.rule_sheet.specs.Quads.{Quad, quad, num, valence}
 use Rattle.rule_sheet.specs.Flat.{flat_quads}
 use Rattle.rule_sheet.specs.Edges.{join_of}
@@ -34,9 +33,11 @@ use Rattle.rule_quality.specs.declared.report.Quality.{Quality}
 use Rattle.rule_quality.specs.Quality.{eight_counts, quality_rule}
 use Rattle.rule_corners.specs.Corners.{corners_rule}
 use Rattle.rule_page.specs.Page.{bytes_of, line_end, page_of}
-use Rattle.rule_job.specs.declared.Sum.TheVariants.{Missing, Written}
 use Rattle.rule_job.specs.Files.{Job, job_of, sum_of, file_with, file_of}
-use Rattle.rule_job.specs.Jobs.{sum_number, JobRoom, room_in, save_rule, open_rule}
+use Rattle.rule_job.specs.Jobs.{JobRoom, room_in, save_rule, open_rule}
+use Rattle.rule_sheet.specs.declared.Refusal.TheVariants as refusals
+use Rattle.rule_sheet.specs.declared.Refusal.TheVariants.{Box}
+use Rattle.rule_sheet.specs.Verdicts.{Accepted}
 
 -- ---- what the rules are asked with
 
@@ -242,17 +243,17 @@ Holds (page_case counts lines) =
 Holds (bottomless_case s tight quotient remainder) =
     Gives (quality_rule (domain_in bottomless_box) (lent_sheet s) (work_for s)) (λ a. a.is_tight ≡ tight)
     × HasCorners bottomless_box s quotient remainder
-    × (regularize_rule bottomless_box 0 (lent_sheet s) (work_for s) ≡ refuses box)
-    × (improve_rule bottomless_box 0 (lent_sheet s) (work_for s) ≡ refuses box)
-    × (subdivide_rule bottomless_box (lent_sheet s) (work_for s) (room_for 0 0) ≡ refuses box)
-    × (rows_rule bottomless_box (lent_sheet s) (work_for s) (room_for 0 0) ≡ refuses box)
-    × (coarsen_rule bottomless_box 1 (lent_sheet s) (work_for s) ≡ refuses box)
+    × (regularize_rule bottomless_box 0 (lent_sheet s) (work_for s) ≡ refuses Box)
+    × (improve_rule bottomless_box 0 (lent_sheet s) (work_for s) ≡ refuses Box)
+    × (subdivide_rule bottomless_box (lent_sheet s) (work_for s) (room_for 0 0) ≡ refuses Box)
+    × (rows_rule bottomless_box (lent_sheet s) (work_for s) (room_for 0 0) ≡ refuses Box)
+    × (coarsen_rule bottomless_box 1 (lent_sheet s) (work_for s) ≡ refuses Box)
     × Gives (coarsen_rule bottomless_box 0 (lent_sheet s) (work_for s)) (λ e. e.count ≡ 0)
 Holds (job_case s size trailer) =
     Gives (save_rule (job_for s) (length s.points) size) (λ j. IsFile (file_of j) (job_for s) size trailer)
-Holds (older_job_case s size trailer) = IsFile (file_with Missing (job_for s)) (job_for s) size trailer
+Holds (older_job_case s size trailer) = IsFile (file_with None (job_for s)) (job_for s) size trailer
 Holds (other_sum_case s n) =
-    open_rule (file_with (Written n) (job_for s)) (room_for_job (job_for s)) ≡ refuses sum_number
+    open_rule (file_with (Some n) (job_for s)) (room_for_job (job_for s)) ≡ refuses refusals.Sum
 Holds (sum_case points quads corners n) =
     sum_of (job_of (record { points = points; quads = quads; labels = 0 }) [] [] corners []) ≡ n
 Holds (root_case of is) = sqrt_of of ≡ is

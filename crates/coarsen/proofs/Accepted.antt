@@ -8,8 +8,6 @@ use lib.Seq.{length-take-le}
 use borrow.Author.Tests.{le-ltb, ne_eqb, eqb-true}
 use Rattle.setting.specs.Settings.{Setting}
 use Rattle.rule_sheet.specs.declared.Counts.{Counts}
-use Rattle.rule_sheet.specs.declared.Verdict.{Verdict}
-use Rattle.rule_sheet.specs.declared.Verdict.TheVariants.{Accepted, Refused}
 use Rattle.rule_sheet.specs.Sheet.{Sheet, counts_of, sheet_verdict}
 use Rattle.rule_sheet.specs.Lent.{Lent, Room, Work, held, room_in, is_short, is_short_work, lent_verdict}
 use Rattle.rule_sheet.specs.Outcomes.{Outcome, gives, RunEnd, after_test}
@@ -22,6 +20,8 @@ use Rattle.admission.proofs.Admitted.{admitted}
 use Rattle.safety_rules.proofs.Fine.{Fine}
 use Rattle.coarsen.specs.Tested.{tested_run}
 use Rattle.coarsen_passes.proofs.Fine.{not_large, fine-by, passes-fine, passes-accepted, passes-fewer, run_from, run-next, run-last}
+use Rattle.std.specs.Prelude.{Ok, Err}
+use Rattle.rule_sheet.specs.Verdicts.{Verdict, Accepted}
 
 -- ---- 12 and 13
 
@@ -83,6 +83,6 @@ module _ (s : Setting) where
       sym (rw (A.brought, A.accepted) at (tested-run A.brought (suc k) (held x) 0 F A.accepted))))
     where
       both : (u v : Verdict) (o p : Outcome (RunEnd Sheet)) → (and_then u v ≡ Accepted → o ≡ p) → after_test (and_then u v) o ≡ after_test u (after_test v p)
-      both Accepted Accepted o p h = h refl
-      both Accepted (Refused n) o p h = refl
-      both (Refused n) v o p h = refl
+      both (Ok u) (Ok w) o p h = h refl
+      both (Ok u) (Err n) o p h = refl
+      both (Err n) v o p h = refl

@@ -9,7 +9,7 @@ ghost use Rattle.rule_sheet.specs.Results.{Alters, Cleared};
 ghost use Rattle.rule_coarsen.specs.Rule.{coarsen_verdict, coarsen_rule};
 
 use band::Band;
-use rule_sheet::{Answer, Counts, Verdict};
+use rule_sheet::{Counts, Refusal, Tally};
 
 // The tests before the passes: 12 and 13 alone if there is none, else all.
 fn coarsen_verdict(
@@ -21,7 +21,7 @@ fn coarsen_verdict(
     labels: &[u8],
     w: &mut [u32],
     floats: usize,
-) -> Verdict
+) -> Result<(), Refusal>
     ensures { result ≡ coarsen_verdict (setting_of b) passes (lent_of c points.now quads.now
         labels.now) (work_with (length w.old) floats) }
 {
@@ -41,18 +41,15 @@ fn coarsen_or_refusal(
     labels: &mut [u8],
     work: &mut [u32],
     floats: &mut [f64],
-) -> Answer
+) -> Result<Tally, Refusal>
     ensures { let x = lent_of c points.old quads.old labels.old in
         Alters (coarsen_rule (setting_of b) passes x (work_of work.old floats.old)) x result
         points.new quads.new labels.new }
 {
-    let v = coarsen_verdict(b, passes, c, points, quads, labels, work, floats.len());
-    if let Verdict::Refused(n) = v {
-        return Answer::Refused(n);
-    }
+    coarsen_verdict(b, passes, c, points, quads, labels, work, floats.len())?;
     let t = coarsen_passes::merge_passes(b, passes, c, points, quads, labels, work, floats);
     sheet::clear_unused(t.sheet, points, quads, labels);
-    Answer::Done(t)
+    Ok(t)
 }
 
 // Merges opposite corners of quads, at most so many passes. The sheet is altered in place; the answer has the
@@ -66,7 +63,7 @@ pub fn coarsen(
     labels: &mut [u8],
     work: &mut [u32],
     floats: &mut [f64],
-) -> Answer
+) -> Result<Tally, Refusal>
     ensures sheet { let x = lent_of c points.old quads.old labels.old in
         Alters (coarsen_rule (setting_of b) passes x (work_of work.old floats.old)) x result
         points.new quads.new labels.new }

@@ -14,7 +14,7 @@ use Rattle.lists.proofs.Laws.{get_or-tab, is-tab}
 use Rattle.lists.proofs.Regions.{part_of, part-len, part-get, part-set, part-set-out, part-as, part-kept, kept_set, kept_refl, kept_then, kept_less}
 use Rattle.rule_sheet.specs.Flat.{corner}
 use Rattle.sheet.specs.Edges.{point_corners}
-use Rattle.coarsen_merge.specs.declared.Span.{Span}
+use Rattle.std.specs.declared.ops.Range.{Range}
 use Rattle.coarsen_merge.specs.Steps.{unmarked, free_around}
 use Rattle.coarsen_bars.specs.Steps.{marked_by, marked_in, reaches, marked_to, joins, marked_near, renamed_quads, marked_both}
 use Rattle.pass_map.specs.Regions.{was_at, points_at, was_in}
@@ -121,13 +121,11 @@ touch-marking {np} {nq} q G h = let r = G.map.work.long in quad-marking (touched
 
 -- the loop that bars them: v is the slice as it came
 pub record Barring (np nq q : ℕ) (v w : List ℕ) (j : ℕ) : Type 0 where
-  pub j≤ : j ≤ 4
   pub grounds : StartHolds np nq w
   pub barred : BarLeaves np nq (tabulate (marked_by (part (was_at np nq + 4 * q) 4 v) (used_in np nq v) j) np) v w
 
 pub barring-start : {np nq : ℕ} {v : List ℕ} (q : ℕ) → StartHolds np nq v → TouchedHolds np nq v → q < nq → Barring np nq q v v 0
 barring-start {np} {nq} {v} q G T h = let r = G.map.work.long in record {
-  j≤ = omega arith;
   grounds = G;
   barred = record { used = (pointing-start (quad-marking (used_at np nq) q G h (omega arith) (omega arith))).marks; touched = T; kept = kept_refl _ v };
 }
@@ -148,7 +146,6 @@ bar-turn {np} {nq} {q} {v} {w} {j} c G q< B h e =
       at< = omega (arith, P.fits);
       c< = c<;
       next = λ w' N. record {
-        j≤ = omega arith;
         grounds = start-kept B.grounds (only-points np nq N.kept);
         barred = record {
           used = part-as N.used (ap (λ (u : List ℕ). set u c 1) B.barred.used.is ∙ more-points xs (used_in np nq v) np j c c< ce);
@@ -158,9 +155,8 @@ bar-turn {np} {nq} {q} {v} {w} {j} c G q< B h e =
       };
     }
 
-pub barring-end : {np nq q : ℕ} {v w : List ℕ} {j : ℕ} → StartHolds np nq v → q < nq → Barring np nq q v w j → 4 ≤ j → BarLeaves np nq (tabulate (marked_in (was_in np nq v) (used_in np nq v) q) np) v w
-barring-end {np} {nq} {q} {v} {w} {j} G h B l =
-    let e : j ≡ 4 = omega (arith, B.j≤) in
+pub barring-end : {np nq q : ℕ} {v w : List ℕ} {j : ℕ} → StartHolds np nq v → q < nq → Barring np nq q v w j → j ≡ 4 → BarLeaves np nq (tabulate (marked_in (was_in np nq v) (used_in np nq v) q) np) v w
+barring-end {np} {nq} {q} {v} {w} {j} G h B e =
     record {
       used = quad-marks (was_in np nq v) (used_in np nq v) (part (was_at np nq + 4 * q) 4 v) q (λ i k. quad-listed q i G h k) (rw e at B.barred.used);
       touched = B.barred.touched;
@@ -169,89 +165,95 @@ barring-end {np} {nq} {q} {v} {w} {j} G h B l =
 
 -- ---- the loops over the quads around a point x, which mark their corners in the np elements at `at`: v is the slice as it came, and `keeps` says where it stays
 
-pub record Rounding (at : ℕ) (keeps : ℕ → Type 0) (np nq x from m : ℕ) (v w : List ℕ) (t : ℕ) : Type 0 where
-  pub t≤ : t ≤ m
+pub record Rounding (at : ℕ) (keeps : ℕ → Type 0) (np nq x from to : ℕ) (v w : List ℕ) (i : ℕ) : Type 0 where
   pub grounds : StartHolds np nq w
+  pub from≤ : from ≤ i
+  pub i≤ : i ≤ to
   pub begin : points_at np nq ≤ from
-  pub end : from + m ≤ points_at np nq + 4 * nq
-  pub list : Part from m (point_corners (was_in np nq v) nq x) v
-  pub marks : Part at np (tabulate (marked_to (point_corners (was_in np nq v) nq x) (was_in np nq v) (part at np v) t) np) w
+  pub end : to ≤ points_at np nq + 4 * nq
+  pub list : Part from (to - from) (point_corners (was_in np nq v) nq x) v
+  pub marks : Part at np (tabulate (marked_to (point_corners (was_in np nq v) nq x) (was_in np nq v) (part at np v) (i - from)) np) w
   pub kept : Kept keeps v w
 
-rounding-start : {np nq x : ℕ} {s : Span} {v : List ℕ} (at : ℕ) (keeps : ℕ → Type 0) → StartHolds np nq v → CornersOfLeaves np nq x s v → at + np ≤ length v → Rounding at keeps np nq x s.from (s.to - s.from) v v 0
+rounding-start : {np nq x : ℕ} {s : Range ℕ} {v : List ℕ} (at : ℕ) (keeps : ℕ → Type 0) → StartHolds np nq v → CornersOfLeaves np nq x s v → at + np ≤ length v → Rounding at keeps np nq x s.start s.end v v s.start
 rounding-start {np} {nq} {x} {s} {v} at keeps G S f =
     let P = part_of at np v f in
     let cs = point_corners (was_in np nq v) nq x in
     let l = S.low in
+    let none : s.start - s.start ≡ 0 = omega arith in
     record {
-      t≤ = omega arith;
       grounds = G;
+      from≤ = omega arith;
+      i≤ = S.low;
       begin = S.begin;
-      end = omega (arith, S.end);
+      end = S.end;
       list = record { fits = omega (arith, S.high); is = S.list };
-      marks = part-as P (is-tab (part at np v) (marked_to cs (was_in np nq v) (part at np v) 0) np (part-len P) (λ u h. rw (some-zero (reaches cs (was_in np nq v) u))));
+      marks = rw none (part-as P (is-tab (part at np v) (marked_to cs (was_in np nq v) (part at np v) 0) np (part-len P) (λ u h. rw (some-zero (reaches cs (was_in np nq v) u)))));
       kept = kept_refl keeps v;
     }
 
-pub record RoundTurn (at : ℕ) (keeps : ℕ → Type 0) (np nq x from m : ℕ) (v w : List ℕ) (t c : ℕ) : Type 0 where
-  pub at< : from + t < length w
+pub record RoundTurn (at : ℕ) (keeps : ℕ → Type 0) (np nq x from to : ℕ) (v w : List ℕ) (i c : ℕ) : Type 0 where
   pub q< : c / 4 < nq
-  pub next : (w' : List ℕ) → Part at np (tabulate (marked_in (was_in np nq w) (part at np w) (c / 4)) np) w' → Kept keeps w w' → Rounding at keeps np nq x from m v w' (t + 1)
+  pub next : (w' : List ℕ) → Part at np (tabulate (marked_in (was_in np nq w) (part at np w) (c / 4)) np) w' → Kept keeps w w' → Rounding at keeps np nq x from to v w' (i + 1)
 
-round-turn : {at : ℕ} {keeps : ℕ → Type 0} {np nq x from m : ℕ} {v w : List ℕ} {t : ℕ} (c : ℕ) → ((i : ℕ) → Steady np nq i → keeps i) → StartHolds np nq v → Rounding at keeps np nq x from m v w t → t < m → c ≡ get_or w (from + t) 0
-    → RoundTurn at keeps np nq x from m v w t c
-round-turn {at} {keeps} {np} {nq} {x} {from} {m} {v} {w} {t} c free G B h e =
+round-turn : {at : ℕ} {keeps : ℕ → Type 0} {np nq x from to : ℕ} {v w : List ℕ} {i j : ℕ} (c : ℕ) → ((k : ℕ) → Steady np nq k → keeps k) → StartHolds np nq v → Rounding at keeps np nq x from to v w i → 0 < to - i → j ≡ i → c ≡ get_or w j 0
+    → RoundTurn at keeps np nq x from to v w i c
+round-turn {at} {keeps} {np} {nq} {x} {from} {to} {v} {w} {i} {j} c free G B h same_place e =
+    let low = B.from≤ in
     let sb = B.begin in
     let se = B.end in
     let Q = was_in np nq v in
     let cs = point_corners Q nq x in
-    let P' : Part from m cs w = part-kept B.list B.kept (λ i a b. free i (omega arith)) in
-    let ce : c ≡ get_or cs t 0 = e ∙ part-get 0 t P' h in
-    let l : get_or cs t 0 < 4 * nq = (corners-listed x G).known t (rw (part-len B.list) h) in
+    let P' : Part from (to - from) cs w = part-kept B.list B.kept (λ k a b. free k (omega arith)) in
+    let t< : i - from < to - from = omega arith in
+    let place : j ≡ from + (i - from) = omega arith in
+    let ce : c ≡ get_or cs (i - from) 0 = e ∙ ap (λ (k : ℕ). get_or w k 0) place ∙ part-get 0 (i - from) P' t< in
+    let l : get_or cs (i - from) 0 < 4 * nq = (corners-listed x G).known (i - from) (rw (part-len B.list) t<) in
     let same = was-steady G (kept_less B.kept free) in
+    let more : i + 1 - from ≡ i - from + 1 = omega arith in
     record {
-      at< = omega (arith, P'.fits);
       q< = omega arith;
       next = λ w' M K. record {
-        t≤ = omega arith;
         grounds = start-kept B.grounds (kept_less K free);
+        from≤ = omega arith;
+        i≤ = omega arith;
         begin = B.begin;
         end = B.end;
         list = B.list;
-        marks = more-marks cs Q (part at np v) (part at np w) t c ce B.marks.is (rw same at M);
+        marks = rw more (more-marks cs Q (part at np v) (part at np w) (i - from) c ce B.marks.is (rw same at M));
         kept = kept_then B.kept K (λ i o. (o, o));
       };
     }
 
-pub rounding-end : {at : ℕ} {keeps : ℕ → Type 0} {np nq x from m : ℕ} {v w : List ℕ} {t : ℕ} → Rounding at keeps np nq x from m v w t → m ≤ t
+pub rounding-end : {at : ℕ} {keeps : ℕ → Type 0} {np nq x from to : ℕ} {v w : List ℕ} {i : ℕ} → Rounding at keeps np nq x from to v w i → to - i ≡ 0
     → Part at np (tabulate (marked_near (was_in np nq v) (part at np v) nq x) np) w × Kept keeps v w
-rounding-end {at} {keeps} {np} {nq} {x} {from} {m} {v} {w} {t} B h =
-    let e : t ≡ length (point_corners (was_in np nq v) nq x) = omega (arith, B.t≤, part-len B.list) in
+rounding-end {at} {keeps} {np} {nq} {x} {from} {to} {v} {w} {i} B h =
+    let e : i - from ≡ length (point_corners (was_in np nq v) nq x) = omega (arith, part-len B.list, B.from≤, B.i≤) in
     (near-marks (was_in np nq v) (part at np v) nq x (rw e at B.marks), B.kept)
 
 -- the loop that touches
 abbrev pub TouchingAround : ℕ → ℕ → ℕ → ℕ → ℕ → List ℕ → List ℕ → ℕ → Type 0
-TouchingAround np nq x from m v w t = Rounding (touched_at np nq) (Out (touched_at np nq) np) np nq x from m v w t
+TouchingAround np nq x from to v w i = Rounding (touched_at np nq) (Out (touched_at np nq) np) np nq x from to v w i
 
-pub touching-start : {np nq x : ℕ} {s : Span} {v : List ℕ} → StartHolds np nq v → CornersOfLeaves np nq x s v → TouchingAround np nq x s.from (s.to - s.from) v v 0
+pub touching-start : {np nq x : ℕ} {s : Range ℕ} {v : List ℕ} → StartHolds np nq v → CornersOfLeaves np nq x s v → TouchingAround np nq x s.start s.end v v s.start
 touching-start {np} {nq} G S = let r = G.map.work.long in rounding-start (touched_at np nq) (Out (touched_at np nq) np) G S (omega arith)
 
-pub touching-turn : {np nq x from m : ℕ} {v w : List ℕ} {t : ℕ} (c : ℕ) → StartHolds np nq v → TouchingAround np nq x from m v w t → t < m → c ≡ get_or w (from + t) 0
-    → RoundTurn (touched_at np nq) (Out (touched_at np nq) np) np nq x from m v w t c
-touching-turn c G B h e = round-turn c (λ i o a b. omega arith) G B h e
+pub touching-turn : {np nq x from to : ℕ} {v w : List ℕ} {i j : ℕ} (c : ℕ) → StartHolds np nq v → TouchingAround np nq x from to v w i → 0 < to - i → j ≡ i → c ≡ get_or w j 0
+    → RoundTurn (touched_at np nq) (Out (touched_at np nq) np) np nq x from to v w i c
+touching-turn c G B h p e = round-turn c (λ i o a b. omega arith) G B h p e
 
 -- the loop that bars
 abbrev pub BarringAround : ℕ → ℕ → ℕ → ℕ → ℕ → List ℕ → List ℕ → ℕ → Type 0
-BarringAround np nq x from m v w t = Rounding (used_at np nq) (Out2 (used_at np nq) np (touched_at np nq) np) np nq x from m v w t × TouchedHolds np nq w
+BarringAround np nq x from to v w i = Rounding (used_at np nq) (Out2 (used_at np nq) np (touched_at np nq) np) np nq x from to v w i × TouchedHolds np nq w
 
-pub around-start : {np nq x : ℕ} {s : Span} {v : List ℕ} → StartHolds np nq v → TouchedHolds np nq v → CornersOfLeaves np nq x s v → BarringAround np nq x s.from (s.to - s.from) v v 0
+pub around-start : {np nq x : ℕ} {s : Range ℕ} {v : List ℕ} → StartHolds np nq v → TouchedHolds np nq v → CornersOfLeaves np nq x s v → BarringAround np nq x s.start s.end v v s.start
 around-start {np} {nq} G T S = let r = G.map.work.long in (rounding-start (used_at np nq) (Out2 (used_at np nq) np (touched_at np nq) np) G S (omega arith), T)
 
-pub around-turn : {np nq x from m : ℕ} {v w : List ℕ} {t : ℕ} (c : ℕ) → StartHolds np nq v → BarringAround np nq x from m v w t → t < m → c ≡ get_or w (from + t) 0
-    → RoundTurn (used_at np nq) (Out2 (used_at np nq) np (touched_at np nq) np) np nq x from m v w t c
-around-turn c G B h e = round-turn c (λ i o. ((λ a b. omega arith), (λ a b. omega arith))) G B.0 h e
+pub around-turn : {np nq x from to : ℕ} {v w : List ℕ} {i j : ℕ} (c : ℕ) → StartHolds np nq v → BarringAround np nq x from to v w i → 0 < to - i → j ≡ i → c ≡ get_or w j 0
+    → RoundTurn (used_at np nq) (Out2 (used_at np nq) np (touched_at np nq) np) np nq x from to v w i c
+around-turn c G B h p e = round-turn c (λ i o. ((λ a b. omega arith), (λ a b. omega arith))) G B.0 h p e
 
-pub around-end : {np nq x from m : ℕ} {v w : List ℕ} {t : ℕ} → BarringAround np nq x from m v w t → m ≤ t → BarLeaves np nq (tabulate (marked_near (was_in np nq v) (used_in np nq v) nq x) np) v w
+pub around-end : {np nq x from to : ℕ} {v w : List ℕ} {i : ℕ} → BarringAround np nq x from to v w i → to - i ≡ 0 → BarLeaves np nq (tabulate (marked_near (was_in np nq v) (used_in np nq v) nq x) np) v w
 around-end B h = let E = rounding-end B.0 h in record { used = E.0; touched = B.1; kept = E.1 }
 
 -- ---- a merge: u, v and w are the work slice as it came, once the points near a are barred, and those near c; then the quad goes out

@@ -1,7 +1,7 @@
 -- The loops that mark points and rename corners. Assumes nothing.
 use mathlib.Core.Path.{◌≡◌, refl, sym, ap, ◌∙◌}
 use mathlib.Core.Bool.{Bool, true, false, cond, ◌&&◌, or-true, or-false}
-use Prim.Native.Nat.{ℕ, ◌+◌, ◌*◌, ◌/◌, ◌≤◌, ◌<◌, zero-le, ◌-◌}
+use Prim.Native.Nat.{ℕ, ◌+◌, ◌*◌, ◌/◌, ◌≤◌, ◌<◌, ◌-◌}
 use mathlib.Core.List.{List}
 use native.Mathlib.Omega.{arith}
 use native.Mathlib.Numerals.{add-one}
@@ -24,7 +24,7 @@ use Rattle.coarsen_bars.specs.Steps.{is_at, marked_by, marked_in, reaches, marke
 use Rattle.coarsen_bars.specs.Conditions.{MarkPointsAsks, RenameAsks}
 use Rattle.coarsen_merge.proofs.Corners.{has_one}
 use borrow.Rule.Slice.PartMut.{mid_of}
-use Rattle.coarsen_merge.specs.declared.Span.{Span}
+use Rattle.std.specs.declared.ops.Range.{Range}
 use Rattle.coarsen_merge.specs.Conditions.{StartHolds, CornersOfLeaves}
 use Rattle.pass_map.specs.Regions.{was_in}
 use Rattle.coarsen_merge.proofs.Start.{corners-listed}
@@ -48,7 +48,6 @@ more-points xs U np j c h e = tab-set (marked_by xs U j) (marked_by xs U (j + 1)
     (λ q _ ne. rw (some-other (is_at xs q) j (ne_eqb (get_or xs j 0) q (λ z. ne (sym z ∙ sym e)))))
 
 pub record Pointing (xs U : List ℕ) (from m to np : ℕ) (v w : List ℕ) (j : ℕ) : Type 0 where
-  pub j≤ : j ≤ m
   pub reads : MarkPointsAsks from m to np xs w
   pub marks : Part to np (tabulate (marked_by xs U j) np) w
   pub kept : Kept (Out to np) v w
@@ -57,7 +56,6 @@ pub pointing-start : {xs v : List ℕ} {from m to np : ℕ} → MarkPointsAsks f
 pointing-start {xs} {v} {from} {m} {to} {np} M =
     let P : Part to np (part to np v) v = part_of to np v M.in_to in
     record {
-      j≤ = zero-le;
       reads = M;
       marks = part-as P (is-tab (part to np v) (marked_by xs (part to np v) 0) np (part-len P) (λ q h. rw (some-zero (is_at xs q))));
       kept = kept_refl (Out to np) v;
@@ -79,7 +77,6 @@ point-turn {xs} {U} {from} {m} {to} {np} {v} {w} {j} c B h e =
       c< = c<;
       at< = omega (arith, M.in_to);
       again = record {
-        j≤ = omega arith;
         reads = record {
           at = part-set-out (to + c) 1 M.at (λ p q. M.apart (to + c) p q (omega arith) (omega arith));
           known = M.known;
@@ -91,9 +88,9 @@ point-turn {xs} {U} {from} {m} {to} {np} {v} {w} {j} c B h e =
       };
     }
 
-pub pointing-end : {xs U : List ℕ} {from m to np : ℕ} {v w : List ℕ} {j : ℕ} → Pointing xs U from m to np v w j → m ≤ j
+pub pointing-end : {xs U : List ℕ} {from m to np : ℕ} {v w : List ℕ} {j : ℕ} → Pointing xs U from m to np v w j → j ≡ m
     → Part to np (tabulate (marked_by xs U m) np) w × Kept (Out to np) v w
-pointing-end {xs} {U} {from} {m} {to} {np} {v} {w} {j} B h = let e : j ≡ m = omega (arith, B.j≤) in (rw e at B.marks, B.kept)
+pointing-end {xs} {U} {from} {m} {to} {np} {v} {w} {j} B h = (rw h at B.marks, B.kept)
 
 -- ---- the corners of a quad, as a list of four
 
@@ -149,13 +146,12 @@ more-marks {at} {np} {w} cs Q U X t c e x P = part-as P (tab-ext (marked_in Q X 
 -- ---- the renaming loop: Q is the slice as it came
 
 pub record Naming (cs Q : List ℕ) (a : ℕ) (R : List ℕ) (t : ℕ) : Type 0 where
-  pub t≤ : t ≤ length cs
   pub known : RenameAsks cs (length Q)
   pub len : length R ≡ length Q
   pub is : R ≡ tabulate (renamed_at cs Q a t) (length Q)
 
 pub naming-start : (cs Q : List ℕ) (a : ℕ) → RenameAsks cs (length Q) → Naming cs Q a Q 0
-naming-start cs Q a h = record { t≤ = zero-le; known = h; len = refl; is = is-tab Q (renamed_at cs Q a 0) (length Q) refl (λ i l. rw (some-zero (is_at cs i))) }
+naming-start cs Q a h = record { known = h; len = refl; is = is-tab Q (renamed_at cs Q a 0) (length Q) refl (λ i l. rw (some-zero (is_at cs i))) }
 
 pub record NameTurn (cs Q : List ℕ) (a : ℕ) (R : List ℕ) (t c : ℕ) : Type 0 where
   pub at< : c < length R
@@ -169,7 +165,6 @@ name-turn {cs} {Q} {R} {a} {t} c N h e =
     record {
       at< = omega arith;
       again = record {
-        t≤ = omega arith;
         known = N.known;
         len = length-set R c a ∙ N.len;
         is = ap (λ (r : List ℕ). set r c a) N.is ∙ tab-set (renamed_at cs Q a t) (renamed_at cs Q a (t + 1)) (length Q) c a c<
@@ -178,14 +173,14 @@ name-turn {cs} {Q} {R} {a} {t} c N h e =
       };
     }
 
-pub naming-end : {cs Q R : List ℕ} {a t : ℕ} → Naming cs Q a R t → length cs ≤ t → R ≡ tabulate (renamed_at cs Q a (length cs)) (length Q)
-naming-end {cs} {Q} {R} {a} {t} N h = let e : t ≡ length cs = omega (arith, N.t≤) in rw e at N.is
+pub naming-end : {cs Q R : List ℕ} {a t : ℕ} → Naming cs Q a R t → t ≡ length cs → R ≡ tabulate (renamed_at cs Q a (length cs)) (length Q)
+naming-end {cs} {Q} {R} {a} {t} N h = rw h at N.is
 
 -- ---- the corners of a point in a slice of quads
-pub nameable-lent : {np nq x : ℕ} {s : Span} {w : List ℕ} (n : ℕ) → StartHolds np nq w → CornersOfLeaves np nq x s w → 4 * nq ≤ n → RenameAsks (mid_of s.from (s.to - s.from) w) n
+pub nameable-lent : {np nq x : ℕ} {s : Range ℕ} {w : List ℕ} (n : ℕ) → StartHolds np nq w → CornersOfLeaves np nq x s w → 4 * nq ≤ n → RenameAsks (mid_of s.start (s.end - s.start) w) n
 nameable-lent {np} {nq} {x} {s} {w} n G S h = rw S.list (record { known = λ i l. let k = (corners-listed x G).known i l in omega arith })
 
-pub renamed-lent : {np nq x : ℕ} {s : Span} {w : List ℕ} (a : ℕ) (Q R : List ℕ) → CornersOfLeaves np nq x s w
-    → R ≡ tabulate (renamed_at (mid_of s.from (s.to - s.from) w) Q a (length (mid_of s.from (s.to - s.from) w))) (length Q) → R ≡ renamed_quads (was_in np nq w) nq x a Q
+pub renamed-lent : {np nq x : ℕ} {s : Range ℕ} {w : List ℕ} (a : ℕ) (Q R : List ℕ) → CornersOfLeaves np nq x s w
+    → R ≡ tabulate (renamed_at (mid_of s.start (s.end - s.start) w) Q a (length (mid_of s.start (s.end - s.start) w))) (length Q) → R ≡ renamed_quads (was_in np nq w) nq x a Q
 unfolding renamed_quads
 renamed-lent {np} {nq} {x} {s} {w} a Q R S h = rw S.list at h

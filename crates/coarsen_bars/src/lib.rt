@@ -21,11 +21,9 @@ fn mark_points(from: usize, m: usize, to: usize, np: usize, w: &mut [u32])
         (tabulate (marked_by (part from m w.old) (part to np w.old) m) np) w.new }
     ensures kept { Kept (Out to np) w.old w.new }
 {
-    let mut j = 0;
-    while j < m {
+    for j in 0..m {
         let v = w[from + j] as usize;
         w[to + v] = 1;
-        j += 1;
     }
 }
 
@@ -56,13 +54,8 @@ fn touch_around(np: usize, nq: usize, x: usize, w: &mut [u32])
         w.new }
     ensures kept { Kept (Out (touched_at np nq) np) w.old w.new }
 {
-    let s = coarsen_merge::corners_of(np, nq, x, w);
-    let from = s.from;
-    let m = s.to - from;
-    let mut t = 0;
-    while t < m {
-        touch_quad(np, nq, lists::at(w, from + t) / 4, w);
-        t += 1;
+    for i in coarsen_merge::corners_of(np, nq, x, w) {
+        touch_quad(np, nq, lists::at(w, i) / 4, w);
     }
 }
 
@@ -92,10 +85,8 @@ fn bar_quad(np: usize, nq: usize, q: usize, w: &mut [u32])
         w.old w.new }
 {
     let from = pass_map::WAS * (np + nq) + 4 * q;
-    let mut j = 0;
-    while j < 4 {
+    for j in 0..4 {
         bar_point(np, nq, lists::at(w, from + j), w);
-        j += 1;
     }
 }
 
@@ -108,13 +99,8 @@ fn bar_around(np: usize, nq: usize, v: usize, w: &mut [u32])
         (tabulate (marked_near (was_in np nq w.old) (used_in np nq w.old) nq v) np)
         w.old w.new }
 {
-    let s = coarsen_merge::corners_of(np, nq, v, w);
-    let from = s.from;
-    let m = s.to - from;
-    let mut t = 0;
-    while t < m {
-        bar_quad(np, nq, lists::at(w, from + t) / 4, w);
-        t += 1;
+    for i in coarsen_merge::corners_of(np, nq, v, w) {
+        bar_quad(np, nq, lists::at(w, i) / 4, w);
     }
 }
 
@@ -125,10 +111,8 @@ fn rename_corners(cs: &[u32], a: u32, quads: &mut [u32])
         tabulate (renamed_at cs.now quads.old a (length cs.now))
         (length quads.old) }
 {
-    let mut t = 0;
-    while t < cs.len() {
-        quads[cs[t] as usize] = a;
-        t += 1;
+    for c in cs {
+        quads[*c as usize] = a;
     }
 }
 
@@ -140,10 +124,7 @@ fn rename(np: usize, nq: usize, c: usize, a: usize, quads: &mut [u32], w: &[u32]
     requires nq_in_bounds { 4 * nq ≤ length quads.old }
     ensures { quads.new ≡ renamed_quads (was_in np nq w.now) nq c a quads.old }
 {
-    let s = coarsen_merge::corners_of(np, nq, c, w);
-    let from = s.from;
-    let to = s.to;
-    rename_corners(&w[from..to], a as u32, quads);
+    rename_corners(&w[coarsen_merge::corners_of(np, nq, c, w)], a as u32, quads);
 }
 
 // The merge of the corners a and c of quad f at the point p.

@@ -23,7 +23,7 @@ use Rattle.rule_sheet.proofs.FirstUse.{is_same, is-other, place_in, place-new, f
 use Rattle.rule_sheet.proofs.FirstUse as first-use
 use Rattle.rule_sheet.proofs.Sums.{upto, sum-append}
 use Rattle.sheet.specs.Results.{Front}
-use Rattle.sheet.proofs.Fronts.{front-none, front-filled, front-point, length-with}
+use Rattle.sheet.proofs.Fronts.{front-none, front-point, length-with}
 use Rattle.rule_coarsen.proofs.Renumber.{OnceEach, firsts-apart, firsts-some, sum-by-point}
 use Rattle.coarsen_compact.specs.Compact.{used_in, number_in, points_in, Meeting, Numbering}
 use Rattle.lists.specs.Steps.{nth}
@@ -270,9 +270,3 @@ module _ {np m : ℕ} {P : List Float} {Q : List ℕ} {numbers : ℕ} {u : List 
         some = rw e (omega arith);
         again = record { filled = rw e (filled-turn _ L.filled l (omega arith)); given = G };
       }
-
-  pub number-end : m ≤ c → (used ≡ length (used_in Q m)) × (Front (tabulate (number_in Q m) m) s × (Front (flat_points (points_in P (used_in Q m))) h × Kept (Out numbers np) u w))
-  number-end l =
-      let e : c ≡ m = omega (arith, L.filled.i≤) in
-      let G = L.given in
-      (rw e at G.used_is, (front-filled L.filled l, (rw e at G.front, G.kept)))

@@ -2,7 +2,7 @@
 use Prim.Native.Nat.{ℕ, zero, suc, ◌+◌, ◌*◌, ◌/◌, ◌≤◌, ◌<◌}
 use mathlib.Core.Path.{◌≡◌, refl, sym, ap, ap₂, ◌∙◌}
 use mathlib.Core.Bool.{Bool, true, false, cond}
-use mathlib.Core.Logic.{◌⊎◌, ⊎_elim}
+use mathlib.Core.Logic.{⊎_elim}
 use mathlib.Core.List.{List, [], ◌∷◌, ◌++◌, map, append_assoc, append-nil}
 use native.Mathlib.Omega.{arith}
 use lib.ListN.{length, get_or, take, replicate, length-append, length-map, get_or-append}
@@ -10,7 +10,7 @@ use lib.Seq.{get_or-append-add, get_or-take, take-suc, length-take-le}
 use lib.Ieee.{Float}
 use Rattle.lists.specs.Sort.{tabulate}
 use Rattle.lists.specs.Regions.{part, Part}
-use Rattle.lists.proofs.Laws.{lt-or-le, get_or-tab, tab-suc, tab-take, map-tab}
+use Rattle.lists.proofs.Laws.{lt-or-le, get_or-tab, tab-take, map-tab}
 use Rattle.points.specs.Points.{point_at, origin}
 use Rattle.rule_sheet.specs.declared.Counts.{Counts}
 use Rattle.rule_sheet.specs.Quads.{Quad, quad, is, sum}
@@ -23,7 +23,7 @@ use Rattle.sheet.proofs.Results.{length-flat-points}
 use Rattle.rule_coarsen.specs.Merges.{Slot, out, slot, live, live_labels, rename_quad, order, renumber, gathered}
 use Rattle.rule_coarsen.proofs.MergePass.{live-length}
 use Rattle.rule_coarsen.proofs.Renumber.{renumber-length}
-use Rattle.coarsen_compact.specs.Compact.{compacted, Begins, Compacting, quad_stays, corner_stays, packed, used_in, number_in, points_in, Numbering}
+use Rattle.coarsen_compact.specs.Compact.{compacted, Begins, Compacting, quad_stays, element_stays, packed, used_in, number_in, points_in, Numbering}
 use Rattle.lists.specs.Steps.{nth}
 use Rattle.rule_coarsen.specs.Invariants.{slot_at, slots_of}
 use Rattle.rule_coarsen.proofs.Slots.{length-slots}
@@ -31,10 +31,6 @@ use Rattle.coarsen_compact.proofs.Packing.{packed-suc}
 use Rattle.coarsen_compact.proofs.Numbers.{used-few, used-below}
 
 -- ---- one quad more
-
-slots-suc : (n : ℕ) (Q R : List ℕ) → slots_of (suc n) Q R ≡ slots_of n Q R ++ (slot_at Q R n ∷ [])
-unfolding slots_of
-slots-suc n Q R = tab-suc (slot_at Q R) n
 
 live-append : (S T : List Slot) → live (S ++ T) ≡ live S ++ live T
 live-append [] T = refl
@@ -56,7 +52,7 @@ flat_append (quad a b c d ∷ S) T = rw (flat_append S T)
 -- ---- what stays
 
 -- the labels that stay are those of the rule
-pub packed-labels : (n : ℕ) (Q R labels : List ℕ) → n ≤ length labels → packed (quad_stays R) labels n ≡ live_labels (slots_of n Q R) (take n labels)
+pub packed-labels : (n : ℕ) (Q R labels : List ℕ) → n ≤ length labels → packed (quad_stays R) 0 labels n ≡ live_labels (slots_of n Q R) (take n labels)
 unfolding packed slots_of tabulate
 packed-labels zero Q R labels h = refl
 packed-labels (suc n) Q R labels h =
@@ -67,18 +63,29 @@ packed-labels (suc n) Q R labels h =
     one true = refl
     one false = refl
 
+-- with one element a quad, element i is that of quad i
+packed-ext : {A : Type 0} (p q : ℕ → Bool) (d : A) (l : List A) (n : ℕ) → ((i : ℕ) → p i ≡ q i) → packed p d l n ≡ packed q d l n
+unfolding packed
+packed-ext p q d l zero e = refl
+packed-ext p q d l (suc n) e = rw (packed-ext p q d l n e, e n)
+
+packed-one : (R labels : List ℕ) (n : ℕ) → packed (element_stays 1 R) 0 labels (1 * n) ≡ packed (quad_stays R) 0 labels n
+packed-one R labels n =
+    let e : 1 * n ≡ n = omega arith in
+    rw e (packed-ext (element_stays 1 R) (quad_stays R) 0 labels n (λ i. let d : i / 1 ≡ i = omega arith in ap (quad_stays R) d))
+
 -- the corners that stay are those of the quads that do
 module _ (Q R : List ℕ) where
   -- corner j of quad n alone if the quad stays
   abbrev corner_if : ℕ → ℕ → List ℕ
   corner_if n j = cond (quad_stays R n) (corner Q n j ∷ []) []
 
-  corner-next : (n j k : ℕ) → j < 4 → k ≡ 4 * n + j → packed (corner_stays R) Q (k + 1) ≡ packed (corner_stays R) Q k ++ corner_if n j
+  corner-next : (n j k : ℕ) → j < 4 → k ≡ 4 * n + j → packed (element_stays 4 R) 0 Q (k + 1) ≡ packed (element_stays 4 R) 0 Q k ++ corner_if n j
   corner-next n j k h e =
       let d : k / 4 ≡ n = omega arith in
-      packed-suc (corner_stays R) Q k ∙ rw (d, e)
+      packed-suc (element_stays 4 R) 0 Q k ∙ rw (d, e)
 
-  quad-next : (n : ℕ) → packed (corner_stays R) Q (4 * suc n) ≡ (((packed (corner_stays R) Q (4 * n) ++ corner_if n 0) ++ corner_if n 1) ++ corner_if n 2) ++ corner_if n 3
+  quad-next : (n : ℕ) → packed (element_stays 4 R) 0 Q (4 * suc n) ≡ (((packed (element_stays 4 R) 0 Q (4 * n) ++ corner_if n 0) ++ corner_if n 1) ++ corner_if n 2) ++ corner_if n 3
   quad-next n =
       let e : 4 * suc n ≡ 4 * n + 1 + 1 + 1 + 1 = omega arith in
       rw e (corner-next n 3 (4 * n + 1 + 1 + 1) (omega arith) (omega arith)
@@ -95,11 +102,11 @@ module _ (Q R : List ℕ) where
       go true = simp append_assoc
       go false = simp append-nil
 
-  pub packed-corners : (n : ℕ) → packed (corner_stays R) Q (4 * n) ≡ flat_quads (live (slots_of n Q R))
+  pub packed-corners : (n : ℕ) → packed (element_stays 4 R) 0 Q (4 * n) ≡ flat_quads (live (slots_of n Q R))
   unfolding packed flat_quads slots_of tabulate
   packed-corners zero = refl
   packed-corners (suc n) =
-      quad-next n ∙ quad-corners n (packed (corner_stays R) Q (4 * n))
+      quad-next n ∙ quad-corners n (packed (element_stays 4 R) 0 Q (4 * n))
       ∙ rw (packed-corners n) (sym (rw (live-append (slots_of n Q R) (slot_at Q R n ∷ [])) (flat_append (live (slots_of n Q R)) (live (slot_at Q R n ∷ [])))))
 
 -- ---- the numbers
@@ -132,23 +139,23 @@ gathered-is np P (v ∷ l) h =
     ap₂ ◌∷◌ (sym (get_or-tab (point_at P) np v origin (h v (omega (arith, is_same v v refl))))) (gathered-is np P l (λ x k. h x (omega arith)))
 
 -- every corner that stays is one of the corners that came
-packed-below : (p : ℕ → Bool) (l : List ℕ) (np n : ℕ) → ((i : ℕ) → i < n → get_or l i 0 < np) → (i : ℕ) → i < length (packed p l n) → get_or (packed p l n) i 0 < np
+packed-below : (p : ℕ → Bool) (l : List ℕ) (np n : ℕ) → ((i : ℕ) → i < n → get_or l i 0 < np) → (i : ℕ) → i < length (packed p 0 l n) → get_or (packed p 0 l n) i 0 < np
 unfolding packed
 packed-below p l np zero b i h = absurd (omega arith)
 packed-below p l np (suc n) b i h = go (p n) h (packed-below p l np n (λ j c. b j (omega arith)) i)
   where
-    last : (t : Bool) → i < length (packed p l n ++ cond t (get_or l n 0 ∷ []) []) → length (packed p l n) ≤ i → get_or (packed p l n ++ cond t (get_or l n 0 ∷ []) []) i 0 < np
+    last : (t : Bool) → i < length (packed p 0 l n ++ cond t (get_or l n 0 ∷ []) []) → length (packed p 0 l n) ≤ i → get_or (packed p 0 l n ++ cond t (get_or l n 0 ∷ []) []) i 0 < np
     last true k a =
-        let z : length (packed p l n ++ (get_or l n 0 ∷ [])) ≡ length (packed p l n) + 1 = length-append (packed p l n) (get_or l n 0 ∷ []) in
-        let y : i ≡ length (packed p l n) + 0 = omega arith in
-        rw (y, get_or-append-add (packed p l n) (get_or l n 0 ∷ []) 0 0) (b n (omega arith))
-    last false k a = absurd (let z : length (packed p l n ++ []) ≡ length (packed p l n) = ap length (append-nil (packed p l n)) in omega arith)
+        let z : length (packed p 0 l n ++ (get_or l n 0 ∷ [])) ≡ length (packed p 0 l n) + 1 = length-append (packed p 0 l n) (get_or l n 0 ∷ []) in
+        let y : i ≡ length (packed p 0 l n) + 0 = omega arith in
+        rw (y, get_or-append-add (packed p 0 l n) (get_or l n 0 ∷ []) 0 0) (b n (omega arith))
+    last false k a = absurd (let z : length (packed p 0 l n ++ []) ≡ length (packed p 0 l n) = ap length (append-nil (packed p 0 l n)) in omega arith)
 
-    go : (t : Bool) → i < length (packed p l n ++ cond t (get_or l n 0 ∷ []) []) → (i < length (packed p l n) → get_or (packed p l n) i 0 < np) → get_or (packed p l n ++ cond t (get_or l n 0 ∷ []) []) i 0 < np
+    go : (t : Bool) → i < length (packed p 0 l n ++ cond t (get_or l n 0 ∷ []) []) → (i < length (packed p 0 l n) → get_or (packed p 0 l n) i 0 < np) → get_or (packed p 0 l n ++ cond t (get_or l n 0 ∷ []) []) i 0 < np
     go t k ih = ⊎_elim
-        (λ (a : i < length (packed p l n)). rw (get_or-append (packed p l n) (cond t (get_or l n 0 ∷ []) []) 0 i a) (ih a))
-        (λ (a : length (packed p l n) ≤ i). last t k a)
-        (lt-or-le i (length (packed p l n)))
+        (λ (a : i < length (packed p 0 l n)). rw (get_or-append (packed p 0 l n) (cond t (get_or l n 0 ∷ []) []) 0 i a) (ih a))
+        (λ (a : length (packed p 0 l n) ≤ i). last t k a)
+        (lt-or-le i (length (packed p 0 l n)))
 
 -- ---- the sheet
 
@@ -161,12 +168,12 @@ module _ {np nq : ℕ} (P : List Float) {Q : List ℕ} (labels : List ℕ) {remo
   abbrev rest : List Quad
   rest = live (slots_of nq Q marks)
 
-  module _ {s : List ℕ} {m : ℕ} (e : m ≡ length (packed (corner_stays marks) Q (4 * nq))) (F : Front (packed (corner_stays marks) Q (4 * nq)) s) where
+  module _ {s : List ℕ} {m : ℕ} (e : m ≡ length (packed (element_stays 4 marks) 0 Q (4 * nq))) (F : Front (packed (element_stays 4 marks) 0 Q (4 * nq)) s) where
     corner-below : (i : ℕ) → i < m → get_or s i 0 < np
     corner-below i h =
-        let k : i < length (packed (corner_stays marks) Q (4 * nq)) = omega arith in
-        let g : get_or s i 0 ≡ get_or (packed (corner_stays marks) Q (4 * nq)) i 0 = sym (ap (λ (l : List ℕ). get_or l i 0) (sym F.is) ∙ get_or-take (length (packed (corner_stays marks) Q (4 * nq))) s i 0 k) in
-        rw g (packed-below (corner_stays marks) Q np (4 * nq) C.sheet.points i k)
+        let k : i < length (packed (element_stays 4 marks) 0 Q (4 * nq)) = omega arith in
+        let g : get_or s i 0 ≡ get_or (packed (element_stays 4 marks) 0 Q (4 * nq)) i 0 = sym (ap (λ (l : List ℕ). get_or l i 0) (sym F.is) ∙ get_or-take (length (packed (element_stays 4 marks) 0 Q (4 * nq))) s i 0 k) in
+        rw g (packed-below (element_stays 4 marks) Q np (4 * nq) C.sheet.points i k)
 
     pub compact-numbering : {w₁ : List ℕ} → Part numbers np (replicate np 0) w₁ → Numbering np m (length P) s numbers w₁ f
     compact-numbering Z = record { few = C.points; fits = omega (arith, F.fits); points = corner-below; held = C.held; floats = C.floats; none = Z }
@@ -175,12 +182,12 @@ module _ {np nq : ℕ} (P : List Float) {Q : List ℕ} (labels : List ℕ) {remo
     pub compact-few : {used : ℕ} → used ≡ length (used_in s m) → used ≤ np
     compact-few u = omega (arith, used-few np m s corner-below)
 
-    pub compact-begins : {used k : ℕ} {h P' : List Float} {s' labels' : List ℕ} → k ≡ length (packed (quad_stays marks) labels nq) → Front (packed (quad_stays marks) labels nq) labels'
+    pub compact-begins : {used k : ℕ} {h P' : List Float} {s' labels' : List ℕ} → k ≡ length (packed (element_stays 1 marks) 0 labels (1 * nq)) → Front (packed (element_stays 1 marks) 0 labels (1 * nq)) labels'
         → used ≡ length (used_in s m) → Front (tabulate (number_in s m) m) s' → Front (flat_points (points_in P (used_in s m))) h → Front (take (3 * used) h) P'
         → Begins (compacted np nq P Q labels marks) (record { points = used; quads = k; labels = k }) P' s' labels'
     compact-begins {used} {k} {h} {P'} {s'} {labels'} ek L eu N H T =
         let c = packed-corners Q marks nq in
-        let l = packed-labels nq Q marks labels C.labels in
+        let l = packed-one marks labels nq ∙ packed-labels nq Q marks labels C.labels in
         let e' : m ≡ length (flat_quads rest) = e ∙ ap length c in
         let F' : Front (flat_quads rest) s = rw c at F in
         let o = order_is rest s m e' F' in

@@ -46,14 +46,14 @@ pub record Compacting (np nq p : ℕ) (Q : List ℕ) (l removed numbers : ℕ) (
 abbrev pub quad_stays : List ℕ → ℕ → Bool
 quad_stays R q = eqb (get_or R q 0) 0
 
--- the quad of corner c stays
-abbrev pub corner_stays : List ℕ → ℕ → Bool
-corner_stays R c = quad_stays R (c / 4)
+-- the quad of element i stays, in a list with `size` elements a quad
+abbrev pub element_stays : ℕ → List ℕ → ℕ → Bool
+element_stays size R i = quad_stays R (i / size)
 
--- the first n elements of a list without those that fail a test of their places
-unfoldable pub packed : (ℕ → Bool) → List ℕ → ℕ → List ℕ
-packed p l zero = []
-packed p l (suc n) = packed p l n ++ cond (p n) (get_or l n 0 ∷ []) []
+-- the first n elements of a list without those that fail a test of their places; d stands behind the list's end
+unfoldable pub packed : {A : Type 0} → (ℕ → Bool) → A → List A → ℕ → List A
+packed p d l zero = []
+packed p d l (suc n) = packed p d l n ++ cond (p n) (get_or l n d ∷ []) []
 
 -- ---- the numbers
 

@@ -10,75 +10,47 @@ ghost use Rattle.points.specs.Points.{point_at};
 ghost use Rattle.points.specs.Steps.{with_point};
 ghost use Rattle.rule_sheet.specs.Sheet.{flat_points};
 ghost use Rattle.sheet.specs.Results.{Front};
-ghost use Rattle.coarsen_compact.specs.Compact.{compacted, Begins, Compacting, quad_stays, corner_stays, packed};
+ghost use Rattle.coarsen_compact.specs.Compact.{compacted, Begins, Compacting, element_stays, packed};
 ghost use Rattle.coarsen_compact.specs.Compact.{used_in, number_in, points_in, Meeting, Numbering};
 
+use lists::Zero;
 use rule_sheet::Counts;
 
-// Moves the label of quad q to place k if the quad is still here; answers the place of the next one.
-fn keep_label(q: usize, k: usize, removed: usize, w: &[u32], labels: &mut [u8]) -> usize
-    requires q_in_bounds { removed + q < length w.now }
-    requires q_in_bounds_2 { q < length labels.old }
-    requires k_le_q { k ≤ q }
-    ensures value { result ≡ cond (eqb (get_or w.now (removed + q) 0) 0) (k + 1) k }
-    ensures labels_after { labels.new ≡ cond (eqb (get_or w.now (removed + q) 0) 0)
-        (set labels.old k (get_or labels.old q 0)) labels.old }
+// Moves element i of xs, which has SIZE elements a quad, to place k if its quad is still here; answers the place of the
+// next one.
+fn keep<T: Zero, const SIZE: usize>(
+    i: usize,
+    k: usize,
+    removed: usize,
+    w: &[u32],
+    xs: &mut [T],
+) -> usize
+    requires size { 0 < SIZE }
+    requires i_in_bounds { removed + i / SIZE < length w.now }
+    requires i_in_bounds_2 { i < length xs.old }
+    requires k_le_i { k ≤ i }
+    ensures value { result ≡ cond (eqb (get_or w.now (removed + i / SIZE) 0) 0) (k + 1) k }
+    ensures xs_after { xs.new ≡ cond (eqb (get_or w.now (removed + i / SIZE) 0) 0)
+        (set xs.old k (get_or xs.old i T.ZERO)) xs.old }
 {
-    if w[removed + q] != 0 {
+    if w[removed + i / SIZE] != 0 {
         return k;
     }
-    labels[k] = labels[q];
+    xs[k] = xs[i];
     k + 1
 }
 
-// The labels of the quads that are still here, in front; answers how many.
-fn pack_labels(nq: usize, removed: usize, w: &[u32], labels: &mut [u8]) -> usize
+// The elements of the quads that are still here, SIZE a quad, in front; answers how many.
+fn pack<T: Zero, const SIZE: usize>(nq: usize, removed: usize, w: &[u32], xs: &mut [T]) -> usize
+    requires size { 0 < SIZE }
     requires nq_in_bounds { removed + nq ≤ length w.now }
-    requires nq_in_bounds_2 { nq ≤ length labels.old }
-    ensures value { result ≡ length (packed (quad_stays (part removed nq w.now)) labels.old nq) }
-    ensures front { Front (packed (quad_stays (part removed nq w.now)) labels.old nq)
-        labels.new }
+    requires nq_in_bounds_2 { SIZE * nq ≤ length xs.old }
+    ensures value { result ≡ length (packed (element_stays SIZE (part removed nq w.now)) T.ZERO xs.old (SIZE * nq)) }
+    ensures front { Front (packed (element_stays SIZE (part removed nq w.now)) T.ZERO xs.old (SIZE * nq)) xs.new }
 {
     let mut k = 0;
-    let mut q = 0;
-    while q < nq {
-        k = keep_label(q, k, removed, w, labels);
-        q += 1;
-    }
-    k
-}
-
-// Moves corner c to place k if its quad is still here; answers the place of the next one.
-fn keep_corner(c: usize, k: usize, removed: usize, w: &[u32], quads: &mut [u32]) -> usize
-    requires c_in_bounds { removed + c / 4 < length w.now }
-    requires c_in_bounds_2 { c < length quads.old }
-    requires k_le_c { k ≤ c }
-    ensures value { result ≡ cond (eqb (get_or w.now (removed + c / 4) 0) 0) (k + 1) k }
-    ensures quads_after { quads.new ≡ cond (eqb (get_or w.now (removed + c / 4) 0) 0)
-        (set quads.old k (get_or quads.old c 0)) quads.old }
-{
-    if w[removed + c / 4] != 0 {
-        return k;
-    }
-    quads[k] = quads[c];
-    k + 1
-}
-
-// The corners of the quads that are still here, in front; answers how many.
-fn pack_corners(nq: usize, removed: usize, w: &[u32], quads: &mut [u32]) -> usize
-    requires nq_in_bounds { removed + nq ≤ length w.now }
-    requires nq_in_bounds_2 { 4 * nq ≤ length quads.old }
-    ensures value { result ≡ length (packed (corner_stays (part removed nq w.now)) quads.old
-        (4 * nq)) }
-    ensures front { Front (packed (corner_stays (part removed nq w.now)) quads.old (4 * nq))
-        quads.new }
-{
-    let n = 4 * nq;
-    let mut k = 0;
-    let mut c = 0;
-    while c < n {
-        k = keep_corner(c, k, removed, w, quads);
-        c += 1;
+    for i in 0..SIZE * nq {
+        k = keep::<T, SIZE>(i, k, removed, w, xs);
     }
     k
 }
@@ -128,27 +100,12 @@ fn number_corners(
     ensures kept { Kept (Out numbers np) w.old w.new }
 {
     let mut used = 0;
-    let mut c = 0;
-    while c < m {
+    for c in 0..m {
         let v = quads[c] as usize;
         used = meet_point(np, v, used, points, numbers, w, floats);
         quads[c] = w[numbers + v] - 1;
-        c += 1;
     }
     used
-}
-
-// Copies the first n elements.
-fn copy_front(n: usize, from: &[f64], to: &mut [f64])
-    requires n_in_bounds { n ≤ length from.now }
-    requires n_in_bounds_2 { n ≤ length to.old }
-    ensures { Front (take n from.now) to.new }
-{
-    let mut i = 0;
-    while i < n {
-        to[i] = from[i];
-        i += 1;
-    }
 }
 
 // Leaves the sheet without the quads whose marks in the region at removed are not 0, its points renumbered by first
@@ -170,11 +127,12 @@ pub fn compact(
         (part removed nq w.old)) result points.new quads.new labels.new }
     ensures kept { Kept (Out numbers np) w.old w.new }
 {
-    let kept = pack_labels(nq, removed, w, labels);
-    let m = pack_corners(nq, removed, w, quads);
+    let kept = pack::<u8, 1>(nq, removed, w, labels);
+    let m = pack::<u32, 4>(nq, removed, w, quads);
     lists::clear(&mut w[numbers..numbers + np]);
     let used = number_corners(np, m, points, quads, numbers, w, floats);
-    copy_front(3 * used, floats, points);
+    let end = 3 * used;
+    points[..end].copy_from_slice(&floats[..end]);
     Counts {
         points: used,
         quads: kept,

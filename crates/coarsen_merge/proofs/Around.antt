@@ -8,7 +8,7 @@ use native.Mathlib.Omega.{arith}
 use lib.Dec.{eqb}
 use lib.ListN.{length, get_or}
 use borrow.Author.Tests.{lt-ltb, ltb-true, eq-eqb, eqb-true}
-use Rattle.lists.specs.Every.{every, some}
+use Rattle.lists.specs.Every.{every}
 use Rattle.lists.specs.Sort.{tabulate, itself}
 use Rattle.lists.proofs.Every.{and_left, and_right, every-at, every-on, every-zero, every-ext, bool_iff, or_split, some_at, some-find}
 use Rattle.lists.proofs.Laws.{eq-or-ne, length-tab, get_or-tab}

@@ -15,7 +15,7 @@ removed_at np nq = 23 * (np + nq)
 abbrev pub touched_at : ℕ → ℕ → ℕ
 touched_at np nq = 25 * (np + nq)
 
--- where the last walk round each point ended, and one more for no point
+-- where the last walk round each point ended
 abbrev pub ended_at : ℕ → ℕ → ℕ
 ended_at np nq = 26 * (np + nq)
 

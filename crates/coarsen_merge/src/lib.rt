@@ -16,6 +16,8 @@ ghost use Rattle.coarsen_merge.specs.Conditions.{ListAsks, StartHolds, TouchedHo
 ghost use Rattle.coarsen_merge.specs.Regions.{used_in};
 ghost use Rattle.pass_map.specs.Regions.{was_in, start_in};
 
+use std::ops::Range;
+
 // Where the regions of a pass begin in the work slice, in units of points and quads together, behind those of its
 // start: the barred points, the quads that are out, the touched points, those at which a quad has a barred corner, and
 // where the last walk round each point ended. The unit before the touched points is the renumbering's.
@@ -26,13 +28,6 @@ pub const REMOVED: usize = 23;
 pub const TOUCHED: usize = 25;
 
 pub const ENDED: usize = 26;
-
-// A part of the work slice, from one place to another.
-#[derive(Clone, Copy)]
-pub struct Span {
-    pub from: usize,
-    pub to: usize,
-}
 
 // The sums over the corners of a quad before a merge and after it.
 #[derive(Clone, Copy)]
@@ -116,13 +111,9 @@ fn none_further(np: usize, nq: usize, cs: &[u32], quads: &[u32], f: usize, v: us
     requires { ListAsks np nq cs.now quads.now }
     ensures { result ≡ every (not_further cs.now quads.now f v) (length cs.now) }
 {
-    let mut t = 0;
-    while t < cs.len() {
-        let q = lists::at(cs, t) / 4;
-        let has = has_corner(quads, q, v);
-        if (q == f) | !has {
-            t += 1;
-        } else {
+    for c in cs {
+        let q = *c as usize / 4;
+        if q != f && has_corner(quads, q, v) {
             return false;
         }
     }
@@ -132,7 +123,7 @@ fn none_further(np: usize, nq: usize, cs: &[u32], quads: &[u32], f: usize, v: us
 // ---- the corners of a point
 
 // Where the corners of point v stand.
-pub fn corners_of(np: usize, nq: usize, v: usize, w: &[u32]) -> Span
+pub fn corners_of(np: usize, nq: usize, v: usize, w: &[u32]) -> Range<usize>
     requires start_holds { StartHolds np nq w.now }
     requires v_lt_np { v < np }
     ensures { CornersOfLeaves np nq v result w.now }
@@ -140,9 +131,9 @@ pub fn corners_of(np: usize, nq: usize, v: usize, w: &[u32]) -> Span
     let n = np + nq;
     let starts = pass_map::POINT_STARTS * n;
     let order = pass_map::POINTS * n;
-    let from = order + lists::at(w, starts + v);
-    let to = order + lists::at(w, starts + v + 1);
-    Span { from, to }
+    let start = order + lists::at(w, starts + v);
+    let end = order + lists::at(w, starts + v + 1);
+    start..end
 }
 
 // No quad at point v has a barred corner.
@@ -161,11 +152,15 @@ fn no_further(np: usize, nq: usize, f: usize, v: usize, u: usize, w: &[u32]) -> 
     requires v_lt_np { v < np }
     ensures { result ≡ none_further (was_in np nq w.now) nq f v u }
 {
-    let s = corners_of(np, nq, v, w);
-    let from = s.from;
-    let to = s.to;
     let was = pass_map::WAS * (np + nq);
-    none_further(np, nq, &w[from..to], &w[was..was + 4 * nq], f, u)
+    none_further(
+        np,
+        nq,
+        &w[corners_of(np, nq, v, w)],
+        &w[was..was + 4 * nq],
+        f,
+        u,
+    )
 }
 
 // The point x is one of two corners, or no neighbour of v.
@@ -206,11 +201,8 @@ fn none_shared(np: usize, nq: usize, cs: &[u32], b: usize, d: usize, v: usize, w
         every (shares_none cs.now (was_in np nq w.now) (start_in np nq w.now) b d v)
         (length cs.now) }
 {
-    let mut t = 0;
-    while t < cs.len() {
-        if shares_none(np, nq, b, d, v, lists::at(cs, t), w) {
-            t += 1;
-        } else {
+    for c in cs {
+        if !shares_none(np, nq, b, d, v, *c as usize, w) {
             return false;
         }
     }
@@ -224,10 +216,7 @@ fn share_only(np: usize, nq: usize, v: usize, b: usize, u: usize, d: usize, w: &
     requires u_lt_np { u < np }
     ensures { result ≡ shared_only (was_in np nq w.now) nq v b u d }
 {
-    let s = corners_of(np, nq, v, w);
-    let from = s.from;
-    let to = s.to;
-    none_shared(np, nq, &w[from..to], b, d, u, w)
+    none_shared(np, nq, &w[corners_of(np, nq, v, w)], b, d, u, w)
 }
 
 // How many quads point v has.

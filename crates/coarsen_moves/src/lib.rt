@@ -13,7 +13,7 @@ use band::Band;
 use field::Field;
 use pass_shapes::Four;
 use points::Point;
-use projection::{LONGEST_MOVE, LOOKS, Projected};
+use projection::{LONGEST_MOVE, LOOKS};
 use rule_coarsen::Merge;
 
 // The halfway point of a and c, projected with their joined mask.
@@ -25,7 +25,7 @@ pub fn new_position(
     a: usize,
     c: usize,
     mask: u8,
-) -> Projected
+) -> Option<Point>
     requires np_in_bounds { 3 * np ≤ length points.now }
     requires a_lt_np { a < np }
     requires c_lt_np { c < np }

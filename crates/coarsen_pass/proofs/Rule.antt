@@ -7,8 +7,6 @@ use lib.Ieee.{Float}
 use lib.ListN.{take}
 use Rattle.points.specs.declared.Point.{Point}
 use Rattle.band.specs.declared.Band.{Band}
-use Rattle.projection.specs.declared.Projected.{Projected}
-use Rattle.projection.specs.declared.Projected.TheVariants.{Onto, Refused}
 use Rattle.rule_sheet.specs.Quads.{Quad}
 use Rattle.rule_sheet.specs.Flat.{quads_of}
 use Rattle.rule_sheet.specs.Sheet.{Sheet, points_of}
@@ -22,6 +20,7 @@ use Rattle.coarsen_search.specs.Steps.{state_in, visits_from}
 use Rattle.coarsen_search.specs.Conditions.{VisitAllLeaves}
 use Rattle.coarsen_pass.specs.Steps.{sheet_in, band_pass}
 use Rattle.coarsen_pass.proofs.Start.{start_is, state-is}
+use Rattle.std.specs.Prelude.{Some, None, Option}
 
 -- ---- the parameters of the rule read the quads and labels of the start, and no points
 
@@ -29,9 +28,9 @@ module _ (b : Band) (S : List Quad) (labels : List ℕ) (p q : List Point) where
   abbrev sheet_with : List Point → Sheet
   sheet_with ps = record { points = ps; quads = S; labels = labels }
 
-  fits-at : (ps : List Point) (f a c : ℕ) (x : Projected) → fits_at b (sheet_with p) ps f a c x ≡ fits_at b (sheet_with q) ps f a c x
-  fits-at ps f a c (Onto y) = refl
-  fits-at ps f a c Refused = refl
+  fits-at : (ps : List Point) (f a c : ℕ) (x : Option Point) → fits_at b (sheet_with p) ps f a c x ≡ fits_at b (sheet_with q) ps f a c x
+  fits-at ps f a c (Some y) = refl
+  fits-at ps f a c None = refl
 
   fits-same : merge_fits b (sheet_with p) ≡ merge_fits b (sheet_with q)
   unfolding merge_fits moved_to

@@ -11,7 +11,6 @@ use lib.Ieee.{Float}
 use borrow.Author.Tests.{le-ltb, eqb-false}
 use Rattle.setting.specs.Settings.{Setting}
 use Rattle.rule_sheet.specs.declared.Counts.{Counts}
-use Rattle.rule_sheet.specs.declared.Verdict.TheVariants.{Accepted}
 use Rattle.rule_sheet.specs.Sheet.{Sheet, sheet_of, counts_of, sheet_verdict}
 use Rattle.rule_sheet.specs.Lent.{limit, is_large}
 use Rattle.rule_sheet.specs.Outcomes.{RunEnd}
@@ -26,6 +25,7 @@ use Rattle.sheet.proofs.Tests.{length-points, tested, tests-accept}
 use Rattle.coarsen_shapes.proofs.MergeFits.{merge-finite}
 use Rattle.safety_rules.proofs.Fine.{Fine, fine_of, accepted-of}
 use Rattle.safety_rules.proofs.Demand.{coarse-fine, coarse-fewer}
+use Rattle.rule_sheet.specs.Verdicts.{Accepted}
 
 pub not_large : (c : Counts) → Few c → is_large c ≡ false
 unfolding is_large

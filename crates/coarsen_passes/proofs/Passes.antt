@@ -1,5 +1,5 @@
 -- Passes one after the other are the rule's run: what is left after each is accepted and no larger, so the slices hold it. Assumes nothing.
-use Prim.Native.Nat.{ℕ, suc, ◌+◌, ◌-◌, ◌≤◌, ◌<◌}
+use Prim.Native.Nat.{ℕ, suc, ◌+◌, ◌≤◌, ◌<◌}
 use mathlib.Core.Path.{◌≡◌, refl, sym, ap, ap₂, ◌∙◌}
 use mathlib.Core.List.{List}
 use native.Mathlib.Omega.{arith}
@@ -87,9 +87,9 @@ module _ {s : Setting} {k : ℕ} {c : Counts} {P₀ : List Float} {Q₀ L₀ w�
           room = D.room;
         }
 
-    pub running_more : {w' : List ℕ} {z' : List Float} → length P' ≡ length P → length Q' ≡ length Q → length L' ≡ length L → length w' ≡ length w → length z' ≡ length z
-        → Running s k c P₀ Q₀ L₀ w₀ z₀ m.sheet P' Q' L' w' z' (total + m.count) (left - 1)
-    running_more {w'} {z'} lp lq ll lw lz = record {
+    pub running_more : {w' : List ℕ} {z' : List Float} {l : ℕ} → left ≡ suc l → length P' ≡ length P → length Q' ≡ length Q → length L' ≡ length L → length w' ≡ length w → length z' ≡ length z
+        → Running s k c P₀ Q₀ L₀ w₀ z₀ m.sheet P' Q' L' w' z' (total + m.count) l
+    running_more {w'} {z'} {l} n lp lq ll lw lz = record {
       ready = record {
         sheet = record {
           few = record {
@@ -111,7 +111,5 @@ module _ {s : Setting} {k : ℕ} {c : Counts} {P₀ : List Float} {Q₀ L₀ w�
       floats = lz ∙ G.floats;
       few = G.few;
       gone = omega (arith, less-quads, G.gone);
-      same =
-          let n : left ≡ suc (left - 1) = omega arith in
-          ap₂ (λ (t : Sheet) (x : ℕ). run_from s (left - 1) t (total + x)) D.sheet D.count ∙ sym (run-next s (left - 1) now_held total) ∙ ap (λ (l : ℕ). run_from s l now_held total) (sym n) ∙ G.same;
+      same = ap₂ (λ (t : Sheet) (x : ℕ). run_from s l t (total + x)) D.sheet D.count ∙ sym (run-next s l now_held total) ∙ ap (λ (x : ℕ). run_from s x now_held total) (sym n) ∙ G.same;
     }

@@ -2,11 +2,11 @@
 use Rattle.std.specs.Prelude.{ℕ, ◌<◌, ◌≡◌, List, length, Float}
 use Rattle.rule_sheet.specs.declared.Counts.{Counts}
 use Rattle.rule_sheet.specs.declared.Tally.{Tally}
-use Rattle.rule_sheet.specs.declared.Verdict.TheVariants.{Accepted}
 use Rattle.rule_sheet.specs.Sheet.{Sheet, sheet_of, sheet_verdict}
 use Rattle.rule_sheet.specs.Outcomes.{RunEnd}
 use Rattle.sheet.specs.Sheet.{LentSheet, LentWork}
 use Rattle.sheet.specs.Results.{HoldsCounts}
+use Rattle.rule_sheet.specs.Verdicts.{Accepted}
 
 -- what the tests before k passes leave of the slices: 12 and 13, and if there is a pass 5, 6 and 7; f is the length of
 -- the floats

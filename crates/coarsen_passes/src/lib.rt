@@ -70,8 +70,7 @@ pub fn merge_passes(
     let len = band::length(b);
     let mut sheet = c;
     let mut total: usize = 0;
-    let mut left = passes;
-    while left > 0 {
+    for _ in 0..passes {
         let m = merge_once(b, len, sheet, points, quads, labels, w, floats);
         sheet = m.sheet;
         if m.count == 0 {
@@ -81,7 +80,6 @@ pub fn merge_passes(
             };
         }
         total += m.count;
-        left -= 1;
     }
     Tally {
         count: total,

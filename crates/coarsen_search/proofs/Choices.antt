@@ -1,7 +1,7 @@
 -- The choice between two diagonals is the rule's. Assumes nothing.
 use mathlib.Core.Path.{◌≡◌, refl, sym, ap, ◌∙◌}
 use mathlib.Core.Logic.{◌⊎◌, inl, inr}
-use mathlib.Core.Bool.{Bool, true, false, not, ◌&&◌, and-false}
+use mathlib.Core.Bool.{Bool, true, false, ◌&&◌, and-false}
 use Prim.Native.Nat.{ℕ, zero, suc, ◌+◌, ◌≤◌, ◌<◌}
 use mathlib.Core.List.{List}
 use native.Mathlib.Omega.{arith}
@@ -9,13 +9,11 @@ use native.Mathlib.Numerals.{add-one}
 use lib.Dec.{leb}
 use lib.Ieee.{Float}
 use lib.ListN.{get_or}
-use borrow.Author.Tests.{leb-true, not-false}
+use borrow.Author.Tests.{leb-true}
 use Rattle.lists.proofs.Every.{and_left, and_right}
 use Rattle.points.specs.declared.Point.{Point}
 use Rattle.field.specs.declared.Field.{Field}
 use Rattle.band.specs.declared.Band.{Band}
-use Rattle.projection.specs.declared.Projected.{Projected}
-use Rattle.projection.specs.declared.Projected.TheVariants.{Onto, Refused}
 use Rattle.rule_sheet.specs.Quads.{valence}
 use Rattle.rule_coarsen.specs.Coarse.{sum_before, sum_after}
 use Rattle.coarsen_masks.specs.Masks.{masks_joined}
@@ -23,12 +21,12 @@ use Rattle.coarsen_merge.specs.Conditions.{StartHolds}
 use Rattle.coarsen_merge.specs.Steps.{no_labels, gain_of, worth_it, allowed_in}
 use Rattle.pass_map.specs.Regions.{start_in}
 use Rattle.coarsen_search.specs.declared.Diagonal.{Diagonal}
-use Rattle.coarsen_search.specs.declared.Choice.{Choice}
-use Rattle.coarsen_search.specs.declared.Choice.TheVariants.{None}
 use Rattle.coarsen_search.specs.declared.Candidate.{Candidate}
 use Rattle.coarsen_search.specs.declared.Ends.{Ends}
-use Rattle.coarsen_search.specs.Steps.{diagonal_of, better_of, landing_of, stay_around, candidate_of, weighed_of, after_diagonal, found_to}
+use Rattle.std.specs.Prelude.{None, Result, Ok, Err, IfErr}
+use Rattle.coarsen_search.specs.Steps.{Choice, diagonal_of, better_of, landing_of, stay_around, candidate_of, weighed_of, after_diagonal, found_to}
 use Rattle.coarsen_search.specs.Conditions.{DiagonalAsks, LandingAsks, SearchAsks, InOrder}
+use Rattle.std.specs.Prelude.{Some, None, Option}
 
 -- an allowed merge gains
 pub allowed-gains : (np nq f a b c d : ℕ) (w : List ℕ) → allowed_in np nq f a b c d w ≡ true → (gain_of np nq a b c d w).after ≤ (gain_of np nq a b c d w).before
@@ -49,24 +47,28 @@ allowed-joins np nq f a b c d w e =
 
 -- ---- a diagonal whose merge lands
 
--- x and y tell whether the quads at its ends stay
 module _ (np nq : ℕ) (g : Diagonal) (f : Field) (len : Float) (p : Point) (P : List Float) (labels w : List ℕ) (best : Choice) where
-  pub falls_at : (v : ℕ) (x : Bool) → (v ≡ g.a) ⊎ (v ≡ g.c) → x ≡ stay_around np nq g f len p P labels w v → x ≡ false → best ≡ weighed_of np nq g f len p P labels w best
+  pub falls_at : (v : ℕ) → (v ≡ g.a) ⊎ (v ≡ g.c) → stay_around np nq g f len p P labels w v ≡ false → best ≡ weighed_of np nq g f len p P labels w best
   unfolding weighed_of
-  falls_at v x (inl i) e h = let d : stay_around np nq g f len p P labels w g.a ≡ false = sym (e ∙ ap (stay_around np nq g f len p P labels w) i) ∙ h in rw d refl
-  falls_at v x (inr i) e h = let d : stay_around np nq g f len p P labels w g.c ≡ false = sym (e ∙ ap (stay_around np nq g f len p P labels w) i) ∙ h in rw (d, and-false (stay_around np nq g f len p P labels w g.a)) refl
+  falls_at v (inl i) h = let d : stay_around np nq g f len p P labels w g.a ≡ false = sym (ap (stay_around np nq g f len p P labels w) i) ∙ h in rw d refl
+  falls_at v (inr i) h = let d : stay_around np nq g f len p P labels w g.c ≡ false = sym (ap (stay_around np nq g f len p P labels w) i) ∙ h in rw (d, and-false (stay_around np nq g f len p P labels w g.a)) refl
 
-  pub both-stay : (n : Ends) (x y : Bool) (z : Candidate) (r : Choice) → InOrder g n → x ≡ stay_around np nq g f len p P labels w n.first → not x ≡ false → y ≡ stay_around np nq g f len p P labels w n.second → y ≡ true
+  pub both-stay : (n : Ends) (z : Candidate) (r : Choice) → InOrder g n → stay_around np nq g f len p P labels w n.first ≡ true → stay_around np nq g f len p P labels w n.second ≡ true
       → z ≡ candidate_of np nq g p w → r ≡ better_of best z → r ≡ weighed_of np nq g f len p P labels w best
   unfolding weighed_of
-  both-stay n x y z r (inl i) e h d k c b =
-      let first : stay_around np nq g f len p P labels w g.a ≡ true = sym (e ∙ ap (stay_around np nq g f len p P labels w) i.0) ∙ not-false x h in
-      let second : stay_around np nq g f len p P labels w g.c ≡ true = sym (d ∙ ap (stay_around np nq g f len p P labels w) i.1) ∙ k in
+  both-stay n z r (inl i) h k c b =
+      let first : stay_around np nq g f len p P labels w g.a ≡ true = sym (ap (stay_around np nq g f len p P labels w) i.0) ∙ h in
+      let second : stay_around np nq g f len p P labels w g.c ≡ true = sym (ap (stay_around np nq g f len p P labels w) i.1) ∙ k in
       rw (first, second, ← c) b
-  both-stay n x y z r (inr i) e h d k c b =
-      let first : stay_around np nq g f len p P labels w g.c ≡ true = sym (e ∙ ap (stay_around np nq g f len p P labels w) i.0) ∙ not-false x h in
-      let second : stay_around np nq g f len p P labels w g.a ≡ true = sym (d ∙ ap (stay_around np nq g f len p P labels w) i.1) ∙ k in
+  both-stay n z r (inr i) h k c b =
+      let first : stay_around np nq g f len p P labels w g.c ≡ true = sym (ap (stay_around np nq g f len p P labels w) i.0) ∙ h in
+      let second : stay_around np nq g f len p P labels w g.a ≡ true = sym (ap (stay_around np nq g f len p P labels w) i.1) ∙ k in
       rw (first, second, ← c) b
+
+-- where a walk ended lies below a greater bound too
+pub ended-below : {U : Type 0} (r : Result U ℕ) (x y : ℕ) → x ≤ y → IfErr r (λ at. at ≤ x) → IfErr r (λ at. at ≤ y)
+ended-below (Ok u) x y h e = e
+ended-below (Err i) x y h e = omega arith
 
 -- each of the two ends is one of the diagonal, and a point
 pub first-end : (g : Diagonal) (n : Ends) → InOrder g n → (n.first ≡ g.a) ⊎ (n.first ≡ g.c)
@@ -113,15 +115,15 @@ module _ (np nq : ℕ) (b : Band) (len : Float) (P : List Float) (Q labels w : L
   found-forbidden k g x best e d l h = rw (add-one k, ← d, ← l, h) e
 
   -- one whose landing is refused
-  pub found-refused : (k : ℕ) (g : Diagonal) (x : Bool) (r : Projected) (best : Choice) → best ≡ found_to np nq b len P Q labels w f k → g ≡ diagonal_of Q f k
-      → x ≡ allowed_in np nq g.face g.a g.b g.c g.d w → x ≡ true → r ≡ landing_of g b len P w → r ≡ Refused
+  pub found-refused : (k : ℕ) (g : Diagonal) (x : Bool) (r : Option Point) (best : Choice) → best ≡ found_to np nq b len P Q labels w f k → g ≡ diagonal_of Q f k
+      → x ≡ allowed_in np nq g.face g.a g.b g.c g.d w → x ≡ true → r ≡ landing_of g b len P w → r ≡ None
       → best ≡ found_to np nq b len P Q labels w f (k + 1)
   unfolding found_to after_diagonal
   found-refused k g x r best e d l h m n = rw (add-one k, ← d, ← l, h, ← m, n) e
 
   -- one whose merge lands at p
-  pub found-onto : (k : ℕ) (g : Diagonal) (x : Bool) (r : Projected) (p : Point) (best next : Choice) → best ≡ found_to np nq b len P Q labels w f k → g ≡ diagonal_of Q f k
-      → x ≡ allowed_in np nq g.face g.a g.b g.c g.d w → x ≡ true → r ≡ landing_of g b len P w → r ≡ Onto p
+  pub found-onto : (k : ℕ) (g : Diagonal) (x : Bool) (r : Option Point) (p : Point) (best next : Choice) → best ≡ found_to np nq b len P Q labels w f k → g ≡ diagonal_of Q f k
+      → x ≡ allowed_in np nq g.face g.a g.b g.c g.d w → x ≡ true → r ≡ landing_of g b len P w → r ≡ Some p
       → next ≡ weighed_of np nq g b.field len p P labels w best → next ≡ found_to np nq b len P Q labels w f (k + 1)
   unfolding found_to after_diagonal
   found-onto k g x r p best next e d l h m n o = rw (add-one k, ← d, ← l, h, ← m, n, ← e) o

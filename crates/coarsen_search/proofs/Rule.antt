@@ -16,8 +16,6 @@ use Rattle.lists.proofs.Regions.{part-get}
 use Rattle.points.specs.declared.Point.{Point}
 use Rattle.band.specs.declared.Band.{Band}
 use Rattle.band.specs.Bands.{length_of}
-use Rattle.projection.specs.declared.Projected.{Projected}
-use Rattle.projection.specs.declared.Projected.TheVariants.{Onto, Refused}
 use Rattle.rule_sheet.specs.Quads.{valence, mask_of}
 use Rattle.rule_sheet.specs.Flat.{corner, quad_at}
 use Rattle.rule_sheet.specs.Sheet.{points_of}
@@ -36,11 +34,10 @@ use Rattle.coarsen_merge.specs.Conditions.{StartHolds, Masked}
 use Rattle.coarsen_merge.proofs.Masks.{masks-join}
 use Rattle.coarsen_merge.proofs.Around.{used-get}
 use Rattle.coarsen_search.specs.declared.Candidate.{Candidate}
-use Rattle.coarsen_search.specs.declared.Choice.{Choice}
-use Rattle.coarsen_search.specs.declared.Choice.TheVariants.{None, Take}
 use Rattle.coarsen_search.specs.declared.Diagonal.{Diagonal}
 use Rattle.coarsen_search.proofs.Choices.{allowed-gains, allowed-joins}
-use Rattle.coarsen_search.specs.Steps.{diagonal_of, better_of, landing_of, stay_around, weighed_of, after_landing, after_diagonal, found_to, start_sheet, fits_in, position_in}
+use Rattle.std.specs.Prelude.{None, Some, Option as Landing}
+use Rattle.coarsen_search.specs.Steps.{Choice, diagonal_of, better_of, landing_of, stay_around, weighed_of, after_landing, after_diagonal, found_to, start_sheet, fits_in, position_in}
 
 zero-add : (v : ℕ) → v ≡ 0 + v
 zero-add v = omega arith
@@ -135,7 +132,7 @@ module _ (np nq : ℕ) (b : Band) (P : List Float) (labels w : List ℕ) (G : St
       passed : may_at g ≡ false → best ≡ cond (may_at g) (better_of best (rule_candidate g)) best
       passed m = sym (ap (λ x. cond x (better_of best (rule_candidate g)) best) m)
 
-      taken : (p : Point) → allowed_in np nq g.face g.a g.b g.c g.d w ≡ true → moved_to b (start_sheet np nq labels w) (points_of np P) g.a g.c ≡ Onto p
+      taken : (p : Point) → allowed_in np nq g.face g.a g.b g.c g.d w ≡ true → moved_to b (start_sheet np nq labels w) (points_of np P) g.a g.c ≡ Some p
           → weighed_of np nq g b.field (length_of b) p P labels w best ≡ cond (may_at g) (better_of best (rule_candidate g)) best
       taken p e h = weighed-is np nq g b P labels w best p (merge_fits b (start_sheet np nq labels w) (points_of np P) S g.face g.a g.c)
           (merge-onto b np nq nq P (was_in np nq w) labels (start_sheet np nq labels w) S g.face g.a g.c p G.map.points.sheet (omega arith) refl refl h)
@@ -144,10 +141,10 @@ module _ (np nq : ℕ) (b : Band) (P : List Float) (labels w : List ℕ) (G : St
           ∙ ap (λ q. cond (may_at g) (better_of best (record { gain = sum_before np (start_in np nq w) (take nq labels) g.a g.b g.c g.d - sum_after np (start_in np nq w) (take nq labels) g.a g.b g.c g.d; a = g.a; c = g.c; to = q })) best)
           (sym (position-onto b (start_sheet np nq labels w) (points_of np P) g.a g.c p h)))
 
-      moved : (m : Projected) → allowed_in np nq g.face g.a g.b g.c g.d w ≡ true → moved_to b (start_sheet np nq labels w) (points_of np P) g.a g.c ≡ m
+      moved : (m : Landing Point) → allowed_in np nq g.face g.a g.b g.c g.d w ≡ true → moved_to b (start_sheet np nq labels w) (points_of np P) g.a g.c ≡ m
           → after_landing np nq g b.field (length_of b) P labels w best (landing_of g b (length_of b) P w) ≡ cond (may_at g) (better_of best (rule_candidate g)) best
-      moved Refused e h = ap (after_landing np nq g b.field (length_of b) P labels w best) (lands g ha hc e ∙ h) ∙ passed (sym may ∙ rw (e, merge-refused b (start_sheet np nq labels w) (points_of np P) S g.face g.a g.c h) refl)
-      moved (Onto p) e h = ap (after_landing np nq g b.field (length_of b) P labels w best) (lands g ha hc e ∙ h) ∙ taken p e h
+      moved None e h = ap (after_landing np nq g b.field (length_of b) P labels w best) (lands g ha hc e ∙ h) ∙ passed (sym may ∙ rw (e, merge-refused b (start_sheet np nq labels w) (points_of np P) S g.face g.a g.c h) refl)
+      moved (Some p) e h = ap (after_landing np nq g b.field (length_of b) P labels w best) (lands g ha hc e ∙ h) ∙ taken p e h
 
       go : (x : Bool) → allowed_in np nq g.face g.a g.b g.c g.d w ≡ x
           → cond x (after_landing np nq g b.field (length_of b) P labels w best (landing_of g b (length_of b) P w)) best ≡ cond (may_at g) (better_of best (rule_candidate g)) best
@@ -157,7 +154,7 @@ module _ (np nq : ℕ) (b : Band) (P : List Float) (labels w : List ℕ) (G : St
   -- the state that a choice leads to
   abbrev pub applied : ℕ → MergeState → Choice → Option MergeState
   applied f st None = none
-  applied f st (Take x) = some (merged_state np (start_in np nq w) (take nq labels) (fits_in b np nq labels w) (position_in b np nq labels w) st f x.a x.c)
+  applied f st (Some x) = some (merged_state np (start_in np nq w) (take nq labels) (fits_in b np nq labels w) (position_in b np nq labels w) st f x.a x.c)
 
   -- the choice of the rule is what was found
   chosen_is : (f : ℕ) (st : MergeState) (m n : Bool) (x y : Candidate) → applied f st (cond n (better_of (cond m (better_of None x) None) y) (cond m (better_of None x) None))
@@ -166,7 +163,7 @@ module _ (np nq : ℕ) (b : Band) (P : List Float) (labels w : List ℕ) (G : St
   unfolding better_of
   chosen_is f st true true x y = go (ltb x.gain y.gain)
     where
-      go : (z : Bool) → applied f st (cond z (Take y) (Take x)) ≡ choose true true z (merged_state np (start_in np nq w) (take nq labels) (fits_in b np nq labels w) (position_in b np nq labels w) st f x.a x.c)
+      go : (z : Bool) → applied f st (cond z (Some y) (Some x)) ≡ choose true true z (merged_state np (start_in np nq w) (take nq labels) (fits_in b np nq labels w) (position_in b np nq labels w) st f x.a x.c)
           (merged_state np (start_in np nq w) (take nq labels) (fits_in b np nq labels w) (position_in b np nq labels w) st f y.a y.c)
       go true = refl
       go false = refl

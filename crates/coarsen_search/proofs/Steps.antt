@@ -49,9 +49,8 @@ use Rattle.coarsen_merge.proofs.Start.{lent-used, was-steady, start-kept}
 use Rattle.coarsen_bars.proofs.States.{stands, state-merged}
 use Rattle.rule_coarsen.proofs.Slots.{slot-get}
 use Rattle.coarsen_search.specs.declared.Candidate.{Candidate}
-use Rattle.coarsen_search.specs.declared.Choice.{Choice}
-use Rattle.coarsen_search.specs.declared.Choice.TheVariants.{None, Take}
-use Rattle.coarsen_search.specs.Steps.{diagonal_of, better_of, found_to, fits_in, position_in, visited, state_in, visits_from, tried_in}
+use Rattle.std.specs.Prelude.{None, Some}
+use Rattle.coarsen_search.specs.Steps.{Choice, diagonal_of, better_of, found_to, fits_in, position_in, visited, state_in, visits_from, tried_in}
 use Rattle.coarsen_search.specs.Conditions.{SearchAsks, MergePassHolds, VisitLeaves, VisitAllLeaves, TakeAsks, TakeLeaves}
 use Rattle.coarsen_search.proofs.Rule.{mask_at, rule_candidate, may_at, applied, found-is, face-is, face-barred}
 
@@ -111,27 +110,27 @@ tried-is {np} {nq} {f} {w} Q m r G h e g =
 
 -- ---- the two cases of a choice
 
-pub takeable-at : (np nq f p q : ℕ) (x : Choice) (m : Candidate) → x ≡ Take m → TakeAsks np nq f x p q → MergeAsks np nq f m.a m.c p q
+pub takeable-at : (np nq f p q : ℕ) (x : Choice) (m : Candidate) → x ≡ Some m → TakeAsks np nq f x p q → MergeAsks np nq f m.a m.c p q
 takeable-at np nq f p q x m e h = subst (λ y. TakeAsks np nq f y p q) e h
 
 pub taken_none : (np nq f : ℕ) (x : Choice) (P : List Float) (Q w : List ℕ) → x ≡ None → TakeLeaves np nq f x 0 P Q w P Q w
 taken_none np nq f x P Q w e = subst (λ y. TakeLeaves np nq f y 0 P Q w P Q w) (sym e) (record { none = refl; points = refl; quads = refl; work = refl })
 
-pub taken_made : (np nq f : ℕ) (x : Choice) (m : Candidate) (P : List Float) (Q w : List ℕ) (P' : List Float) (Q' w' : List ℕ) → x ≡ Take m → P' ≡ with_point P m.a m.to → MergeLeaves np nq f m.a m.c Q w Q' w'
+pub taken_made : (np nq f : ℕ) (x : Choice) (m : Candidate) (P : List Float) (Q w : List ℕ) (P' : List Float) (Q' w' : List ℕ) → x ≡ Some m → P' ≡ with_point P m.a m.to → MergeLeaves np nq f m.a m.c Q w Q' w'
     → TakeLeaves np nq f x 1 P Q w P' Q' w'
 taken_made np nq f x m P Q w P' Q' w' e d j = subst (λ y. TakeLeaves np nq f y 1 P Q w P' Q' w') (sym e) (record { one = refl; points = d; joined = j })
 
 -- ---- the choice in a quad
 
-take-inj : (x y : Candidate) → Take x ≡ Take y → x ≡ y
+take-inj : (x y : Candidate) → Some x ≡ Some y → x ≡ y
 take-inj x y e = cc
 
 -- what is chosen is one of two candidates
-one_of : (m n : Bool) (x y z : Candidate) → cond n (better_of (cond m (better_of None x) None) y) (cond m (better_of None x) None) ≡ Take z → (x ≡ z) ⊎ (y ≡ z)
+one_of : (m n : Bool) (x y z : Candidate) → cond n (better_of (cond m (better_of None x) None) y) (cond m (better_of None x) None) ≡ Some z → (x ≡ z) ⊎ (y ≡ z)
 unfolding better_of
 one_of true true x y z e = go (ltb x.gain y.gain) e
   where
-    go : (k : Bool) → cond k (Take y) (Take x) ≡ Take z → (x ≡ z) ⊎ (y ≡ z)
+    go : (k : Bool) → cond k (Some y) (Some x) ≡ Some z → (x ≡ z) ⊎ (y ≡ z)
     go true e = inr (take-inj y z e)
     go false e = inl (take-inj x z e)
 one_of true false x y z e = inl (take-inj x z e)
@@ -140,9 +139,9 @@ one_of false false x y z e = absurd (none-take z e)
   where
     is_take : Choice → Bool
     is_take None = false
-    is_take (Take x) = true
+    is_take (Some x) = true
 
-    none-take : (z : Candidate) → None ≡ Take z → ⊥
+    none-take : (z : Candidate) → None ≡ Some z → ⊥
     none-take z e = false≢true (ap is_take e)
 
 -- a chosen merge: its corners are opposite corners of the quad, and it lands where the rule says
@@ -157,7 +156,7 @@ module _ (b : Band) (np nq f : ℕ) (P : List Float) (labels Q w : List ℕ) (R 
   corners< : (j : ℕ) → j < 4 → corner Q f j < np
   corners< = corner< np nq f (length P) labels Q w R f<
 
-  pub chosen_of : (z : Candidate) → found_to np nq b (length_of b) P Q labels w f 2 ≡ Take z → Chosen b np nq f P labels Q w z
+  pub chosen_of : (z : Candidate) → found_to np nq b (length_of b) P Q labels w f 2 ≡ Some z → Chosen b np nq f P labels Q w z
   unfolding diagonal_of
   chosen_of z e = ⊎_elim
       (λ (h : rule_candidate np nq b P labels w R.start R.masked R.labelled (slots_of nq Q (removed_in np nq w)) 0 (diagonal_of Q f 0) ≡ z).
@@ -168,7 +167,7 @@ module _ (b : Band) (np nq f : ℕ) (P : List Float) (labels Q w : List ℕ) (R 
 
   pub takeable-of : (x : Choice) → x ≡ found_to np nq b (length_of b) P Q labels w f 2 → TakeAsks np nq f x (length P) (length Q)
   takeable-of None e = tt
-  takeable-of (Take z) e =
+  takeable-of (Some z) e =
       let C = chosen_of z (sym e) in
       let j< = C.j< in
       record {
@@ -259,7 +258,7 @@ module _ (b : Band) (np nq f : ℕ) (P : List Float) (labels Q w : List ℕ) (R 
       → VisitLeaves b np nq labels f r P Q w P' Q' w'
   visit-taken t None r P' Q' w' e S =
       rw (S.none, S.points, S.quads, S.work) (visit-same (λ k. is-tried k t ∙ ap (applied np nq b P labels w R.start R.masked R.labelled (slots_of nq Q (removed_in np nq w)) k f (state_in np nq P Q w k)) (sym e)))
-  visit-taken t (Take z) r P' Q' w' e M =
+  visit-taken t (Some z) r P' Q' w' e M =
       let J = M.joined in
       record {
         state = λ k. ap (λ (x : ℕ). state_in np nq P' Q' w' (k + x)) M.one ∙ (same k ∙ sym (ap (take_or (state_in np nq P Q w k)) (took k)));
@@ -285,7 +284,7 @@ module _ (b : Band) (np nq f : ℕ) (P : List Float) (labels Q w : List ℕ) (R 
       C = chosen_of b np nq f P labels Q w R f< t z (sym e)
 
       T : MergeAsks np nq f z.a z.c (length P) (length Q)
-      T = takeable-of b np nq f P labels Q w R f< t (Take z) e
+      T = takeable-of b np nq f P labels Q w R f< t (Some z) e
 
       long : length P' ≡ length P
       long = ap length M.points ∙ length-put P z.a z.to
@@ -299,7 +298,7 @@ module _ (b : Band) (np nq f : ℕ) (P : List Float) (labels Q w : List ℕ) (R 
       same : (k : ℕ) → state_in np nq P' Q' w' (k + 1) ≡ merged_state np (start_in np nq w) (take nq labels) (fits_in b np nq labels w) (position_in b np nq labels w) (state_in np nq P Q w k) f z.a z.c
       same k = state-merged np nq f z.a z.c k P P' Q w Q' w' (take nq labels) (fits_in b np nq labels w) (position_in b np nq labels w) z.to R.start T R.inv unbarred C.to_is M.points M.joined
 
-      took : (k : ℕ) → try_now k ≡ applied np nq b P labels w R.start R.masked R.labelled (slots_of nq Q (removed_in np nq w)) k f (state_in np nq P Q w k) (Take z)
+      took : (k : ℕ) → try_now k ≡ applied np nq b P labels w R.start R.masked R.labelled (slots_of nq Q (removed_in np nq w)) k f (state_in np nq P Q w k) (Some z)
       took k = is-tried k t ∙ ap (applied np nq b P labels w R.start R.masked R.labelled (slots_of nq Q (removed_in np nq w)) k f (state_in np nq P Q w k)) (sym e)
 
       inv-now : MInv (start_in np nq w) (slots_of nq Q' (removed_in np nq w')) (Used (used_of np (used_in np nq w')))
@@ -307,17 +306,17 @@ module _ (b : Band) (np nq f : ℕ) (P : List Float) (labels Q w : List ℕ) (R 
 
 -- ---- where the walks ended
 
-used-noted : {np nq : ℕ} {v w : List ℕ} → StartHolds np nq v → Kept (Out (ended_at np nq) (np + 1)) v w → used_in np nq w ≡ used_in np nq v
+used-noted : {np nq : ℕ} {v w : List ℕ} → StartHolds np nq v → Kept (Out (ended_at np nq) np) v w → used_in np nq w ≡ used_in np nq v
 used-noted {np} {nq} {v} {w} G K = let r = G.map.work.long in (part-kept (part_of (used_at np nq) np v (omega arith)) K (λ i a b c d. omega arith)).is
 
-removed-noted : {np nq : ℕ} {v w : List ℕ} → StartHolds np nq v → Kept (Out (ended_at np nq) (np + 1)) v w → removed_in np nq w ≡ removed_in np nq v
+removed-noted : {np nq : ℕ} {v w : List ℕ} → StartHolds np nq v → Kept (Out (ended_at np nq) np) v w → removed_in np nq w ≡ removed_in np nq v
 removed-noted {np} {nq} {v} {w} G K = let r = G.map.work.long in (part-kept (part_of (removed_at np nq) nq v (omega arith)) K (λ i a b c d. omega arith)).is
 
 -- no region that a pass reads
-pub only-ended : (np nq : ℕ) {v w : List ℕ} → Kept (Out (ended_at np nq) (np + 1)) v w → Kept (Steady np nq) v w
+pub only-ended : (np nq : ℕ) {v w : List ℕ} → Kept (Out (ended_at np nq) np) v w → Kept (Steady np nq) v w
 only-ended np nq K = kept_less K (λ i o a b. omega arith)
 
-pub holds-noted : {np nq p : ℕ} {labels Q v w : List ℕ} → MergePassHolds np nq labels p Q v → Kept (Out (ended_at np nq) (np + 1)) v w → MergePassHolds np nq labels p Q w
+pub holds-noted : {np nq p : ℕ} {labels Q v w : List ℕ} → MergePassHolds np nq labels p Q v → Kept (Out (ended_at np nq) np) v w → MergePassHolds np nq labels p Q w
 holds-noted {np} {nq} {p} {labels} {Q} {v} {w} R K =
     let r = R.start.map.work.long in
     let S = was-steady R.start (only-ended np nq K) in
@@ -337,7 +336,7 @@ holds-noted {np} {nq} {p} {labels} {Q} {v} {w} R K =
     }
 
 -- the visit leaves the rule's state whatever is kept there
-pub visit-noted : {b : Band} {np nq : ℕ} {labels : List ℕ} {f r : ℕ} {P : List Float} {Q u : List ℕ} {P' : List Float} {Q' v w : List ℕ} → VisitLeaves b np nq labels f r P Q u P' Q' v → Kept (Out (ended_at np nq) (np + 1)) v w
+pub visit-noted : {b : Band} {np nq : ℕ} {labels : List ℕ} {f r : ℕ} {P : List Float} {Q u : List ℕ} {P' : List Float} {Q' v w : List ℕ} → VisitLeaves b np nq labels f r P Q u P' Q' v → Kept (Out (ended_at np nq) np) v w
     → VisitLeaves b np nq labels f r P Q u P' Q' w
 visit-noted {b} {np} {nq} {labels} {f} {r} {P} {Q} {u} {P'} {Q'} {v} {w} F K = record {
   state = λ k. rw (used-noted F.holds.start K, removed-noted F.holds.start K) (F.state k);
@@ -355,7 +354,6 @@ by_length b np nq f P labels Q w len x e h = h ∙ ap (λ l. found_to np nq b l 
 -- ---- the quads in order: P0, Q0 and w0 are the slices as they came
 
 pub record Visiting (b : Band) (np nq : ℕ) (labels : List ℕ) (P0 : List Float) (Q0 w0 : List ℕ) (P : List Float) (Q w : List ℕ) (f count : ℕ) : Type 0 where
-  pub f≤ : f ≤ nq
   pub most : count ≤ f
   pub holds : MergePassHolds np nq labels (length P) Q w
   pub kept : Kept (Steady np nq) w0 w
@@ -368,7 +366,6 @@ sub-zero n = omega arith
 
 pub visiting-start : {np nq : ℕ} {labels : List ℕ} (b : Band) (P : List Float) (Q w : List ℕ) → MergePassHolds np nq labels (length P) Q w → Visiting b np nq labels P Q w P Q w 0 0
 visiting-start {np} {nq} {labels} b P Q w R = record {
-  f≤ = omega arith;
   most = omega arith;
   holds = R;
   kept = kept_refl (Steady np nq) w;
@@ -380,7 +377,6 @@ visiting-start {np} {nq} {labels} b P Q w R = record {
 pub visiting-turn : {b : Band} {np nq : ℕ} {labels : List ℕ} {P0 : List Float} {Q0 w0 : List ℕ} {P : List Float} {Q w : List ℕ} {f count r : ℕ} {P' : List Float} {Q' w' : List ℕ} → StartHolds np nq w0
     → Visiting b np nq labels P0 Q0 w0 P Q w f count → f < nq → VisitLeaves b np nq labels f r P Q w P' Q' w' → Visiting b np nq labels P0 Q0 w0 P' Q' w' (f + 1) (count + r)
 visiting-turn {b} {np} {nq} {labels} {P0} {Q0} {w0} {P} {Q} {w} {f} {count} {r} {P'} {Q'} {w'} G I h F = record {
-  f≤ = omega arith;
   most = omega (arith, I.most, F.most);
   holds = F.holds;
   kept = kept_then I.kept F.kept (λ i o. (o, o));
@@ -405,14 +401,14 @@ visiting-turn {b} {np} {nq} {labels} {P0} {Q0} {w0} {P} {Q} {w} {f} {count} {r} 
         ∙ (ap (λ (x : ℕ). visits_from b np nq labels w0 (nq - (f + 1)) x (visited b np nq labels w0 f (state_in np nq P Q w (k + count)))) (add-one f)
         ∙ sym (ap (λ (x : ℕ). visits_from b np nq labels w0 x f (state_in np nq P Q w (k + count))) (less nq f h))))
 
-pub visiting-end : {b : Band} {np nq : ℕ} {labels : List ℕ} {P0 : List Float} {Q0 w0 : List ℕ} {P : List Float} {Q w : List ℕ} {f count : ℕ} → Visiting b np nq labels P0 Q0 w0 P Q w f count → nq ≤ f
+pub visiting-end : {b : Band} {np nq : ℕ} {labels : List ℕ} {P0 : List Float} {Q0 w0 : List ℕ} {P : List Float} {Q w : List ℕ} {f count : ℕ} → Visiting b np nq labels P0 Q0 w0 P Q w f count → f ≡ nq
     → VisitAllLeaves b np nq labels count P0 Q0 w0 P Q w
 visiting-end {b} {np} {nq} {labels} {P0} {Q0} {w0} {P} {Q} {w} {f} {count} I h = record {
-  state = λ k. sym (ap (λ (x : ℕ). visits_from b np nq labels w0 x f (state_in np nq P Q w (k + count))) (none nq f h)) ∙ I.state k;
+  state = λ k. sym (ap (λ (x : ℕ). visits_from b np nq labels w0 x f (state_in np nq P Q w (k + count))) none) ∙ I.state k;
   holds = I.holds;
   kept = I.kept;
-  most = omega (arith, I.most, I.f≤);
+  most = omega (arith, I.most);
 }
   where
-    none : (n f : ℕ) → n ≤ f → n - f ≡ 0
-    none n f h = omega arith
+    none : nq - f ≡ 0
+    none = omega arith

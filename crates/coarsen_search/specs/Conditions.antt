@@ -13,12 +13,11 @@ use Rattle.coarsen_merge.specs.Steps.{used_of}
 use Rattle.coarsen_merge.specs.Conditions.{StartHolds, TouchedHolds, Masked, FaceAsks}
 use Rattle.coarsen_bars.specs.Conditions.{MergeAsks, MergeLeaves}
 use Rattle.coarsen_search.specs.declared.Candidate.{Candidate}
-use Rattle.coarsen_search.specs.declared.Choice.{Choice}
-use Rattle.coarsen_search.specs.declared.Choice.TheVariants.{None, Take}
 use Rattle.coarsen_search.specs.declared.Diagonal.{Diagonal}
 use Rattle.coarsen_search.specs.declared.Ended.{Ended}
 use Rattle.coarsen_search.specs.declared.Ends.{Ends}
-use Rattle.coarsen_search.specs.Steps.{diagonal_of, visited, state_in, visits_from}
+use Rattle.std.specs.Prelude.{None, Some}
+use Rattle.coarsen_search.specs.Steps.{Choice, diagonal_of, visited, state_in, visits_from}
 
 -- what the merge of a diagonal asks
 pub record DiagonalAsks (np nq : ℕ) (g : Diagonal) (w : List ℕ) : Type 0 where
@@ -50,10 +49,9 @@ pub record Holding (np nq p q l : ℕ) : Type 0 where
 abbrev pub InOrder : Diagonal → Ends → Type 0
 InOrder g e = ((e.first ≡ g.a) × (e.second ≡ g.c)) ⊎ ((e.first ≡ g.c) × (e.second ≡ g.a))
 
--- where a walk ended can be kept: its point is one or none, and its place lies among the corners by point or behind
--- them
+-- where a walk ended can be kept: its point is one, and its place lies among the corners by point or behind them
 pub record Noted (np nq : ℕ) (e : Ended) : Type 0 where
-  pub point≤ : e.point ≤ np
+  pub point< : e.point < np
   pub place≤ : e.place ≤ points_at np nq + 4 * nq
 
 -- ---- a visit
@@ -84,7 +82,7 @@ pub record VisitLeaves (b : Band) (np nq : ℕ) (labels : List ℕ) (f r : ℕ) 
 -- what a choice asks before it is taken
 abbrev pub TakeAsks : ℕ → ℕ → ℕ → Choice → ℕ → ℕ → Type 0
 TakeAsks np nq f None p q = Unit {0}
-TakeAsks np nq f (Take m) p q = MergeAsks np nq f m.a m.c p q
+TakeAsks np nq f (Some m) p q = MergeAsks np nq f m.a m.c p q
 
 -- where none is taken all stays as it is
 pub record NoneTaken (r : ℕ) (P : List Float) (Q w : List ℕ) (P' : List Float) (Q' w' : List ℕ) : Type 0 where
@@ -103,7 +101,7 @@ pub record OneTaken (np nq f : ℕ) (m : Candidate) (r : ℕ) (P : List Float) (
 -- what a choice leaves
 abbrev pub TakeLeaves : ℕ → ℕ → ℕ → Choice → ℕ → List Float → List ℕ → List ℕ → List Float → List ℕ → List ℕ → Type 0
 TakeLeaves np nq f None r P Q w P' Q' w' = NoneTaken r P Q w P' Q' w'
-TakeLeaves np nq f (Take m) r P Q w P' Q' w' = OneTaken np nq f m r P Q w P' Q' w'
+TakeLeaves np nq f (Some m) r P Q w P' Q' w' = OneTaken np nq f m r P Q w P' Q' w'
 
 -- ---- the quads in order
 

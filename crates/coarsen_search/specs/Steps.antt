@@ -1,13 +1,12 @@
 -- The search for the merge in a quad, its two diagonals one after the other; and the visits of all quads in the words
 -- of the rule.
 use Rattle.std.specs.Prelude.{ℕ, zero, suc, ◌+◌, ◌-◌, ◌%◌, max, Bool, cond, ◌&&◌, List, [], ltb, Float, get_or, take}
+use Rattle.std.specs.Prelude.{Option, None, Some}
 use Rattle.lists.specs.Every.{every}
 use Rattle.points.specs.declared.Point.{Point}
 use Rattle.points.specs.Points.{point_at, halfway_p}
 use Rattle.field.specs.declared.Field.{Field}
 use Rattle.band.specs.declared.Band.{Band}
-use Rattle.projection.specs.declared.Projected.{Projected}
-use Rattle.projection.specs.declared.Projected.TheVariants.{Onto, Refused}
 use Rattle.projection.specs.Project.{longest_move, look_count, project_with}
 use Rattle.rule_sheet.specs.Flat.{corner}
 use Rattle.rule_sheet.specs.Sheet.{Sheet}
@@ -20,8 +19,6 @@ use Rattle.pass_map.specs.Regions.{was_in, start_in}
 use Rattle.coarsen_merge.specs.Regions.{used_in, removed_in}
 use Rattle.coarsen_merge.specs.Steps.{unmarked, quad_free, state_of, allowed_in, gain_of}
 use Rattle.coarsen_search.specs.declared.Candidate.{Candidate}
-use Rattle.coarsen_search.specs.declared.Choice.{Choice}
-use Rattle.coarsen_search.specs.declared.Choice.TheVariants.{None, Take}
 use Rattle.coarsen_search.specs.declared.Diagonal.{Diagonal}
 
 -- diagonal k of quad f, whose corners are those of the flat list Q
@@ -35,15 +32,19 @@ diagonal_of Q f k =
       d = corner Q f ((k + 3) % 4);
     }
 
+-- what a search finds
+abbrev pub Choice : Type 0
+Choice = Option Candidate
+
 -- of two candidates the second only if it gains more: "the higher gain wins, the first on a tie"
 unfoldable pub better_of : Choice → Candidate → Choice
-better_of None y = Take y
-better_of (Take x) y = cond (ltb x.gain y.gain) (Take y) (Take x)
+better_of None y = Some y
+better_of (Some x) y = cond (ltb x.gain y.gain) (Some y) (Some x)
 
 -- ---- as the code finds them
 
 -- where a diagonal's merge lands
-unfoldable pub landing_of : Diagonal → Band → Float → List Float → List ℕ → Projected
+unfoldable pub landing_of : Diagonal → Band → Float → List Float → List ℕ → Option Point
 landing_of g b len P w =
     project_with b len longest_move look_count (halfway_p (point_at P g.a) (point_at P g.c))
     (max (get_or w g.a 0) (get_or w g.c 0))
@@ -71,9 +72,10 @@ weighed_of np nq g f len p P labels w best =
     best
 
 -- what a landing makes of what was found: "If projecting the halfway point is refused, that diagonal is passed over."
-abbrev pub after_landing : ℕ → ℕ → Diagonal → Field → Float → List Float → List ℕ → List ℕ → Choice → Projected → Choice
-after_landing np nq g f len P labels w best (Onto p) = weighed_of np nq g f len p P labels w best
-after_landing np nq g f len P labels w best Refused = best
+abbrev pub after_landing
+    : ℕ → ℕ → Diagonal → Field → Float → List Float → List ℕ → List ℕ → Choice → Option Point → Choice
+after_landing np nq g f len P labels w best (Some p) = weighed_of np nq g f len p P labels w best
+after_landing np nq g f len P labels w best None = best
 
 -- what a diagonal makes of it: passed over too where the rule does not allow it
 unfoldable pub after_diagonal : ℕ → ℕ → Diagonal → Band → Float → List Float → List ℕ → List ℕ → Choice → Choice

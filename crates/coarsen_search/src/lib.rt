@@ -2,7 +2,7 @@
 
 #![tactic(auto)]
 
-ghost use Rattle.std.specs.Prelude.{◌≡◌, ◌+◌, ◌*◌, ◌<◌, ◌≤◌, max, length, true};
+ghost use Rattle.std.specs.Prelude.{◌≡◌, ◌+◌, ◌*◌, ◌<◌, ◌≤◌, IfSome, IfErr, MatchResult, max, length, true, false};
 ghost use Rattle.coarsen_merge.specs.Conditions.{StartHolds, TouchedHolds};
 ghost use Rattle.coarsen_merge.specs.Steps.{allowed_in};
 ghost use Rattle.pass_map.specs.Regions.{points_at};
@@ -18,10 +18,8 @@ ghost use Rattle.band.specs.Bands.{length_of};
 ghost use Rattle.incidence.specs.Corners.{Cornered};
 
 use band::Band;
-use coarsen_shapes::Stay;
 use field::Field;
 use points::Point;
-use projection::Projected;
 use rule_coarsen::Merge;
 
 // A diagonal of a quad: the corners a and c that a merge makes one, and the other two.
@@ -43,14 +41,7 @@ pub struct Candidate {
     pub to: Point,
 }
 
-// What a search finds.
-#[derive(Clone, Copy)]
-pub enum Choice {
-    None,
-    Take(Candidate),
-}
-
-// Where the walk round a point ended; the number of points stands for no point.
+// Where the walk round a point ended before it was round.
 #[derive(Clone, Copy)]
 pub struct Ended {
     pub point: usize,
@@ -64,19 +55,19 @@ pub struct Ends {
     pub second: usize,
 }
 
-// The better of what was found and a diagonal, and where the last walk for it ended.
+// The better of what was found and a diagonal, and where a walk for it ended.
 #[derive(Clone, Copy)]
 pub struct Weighing {
-    pub best: Choice,
-    pub ended: Ended,
+    pub best: Option<Candidate>,
+    pub ended: Option<Ended>,
 }
 
-// What a search finds, and where the last walks of its two diagonals ended.
+// What a search finds, and where walks for its two diagonals ended.
 #[derive(Clone, Copy)]
 pub struct Found {
-    pub choice: Choice,
-    pub first: Ended,
-    pub second: Ended,
+    pub choice: Option<Candidate>,
+    pub first: Option<Ended>,
+    pub second: Option<Ended>,
 }
 
 // Diagonal k of quad f.
@@ -104,14 +95,11 @@ fn joined(a: usize, c: usize) -> u8
     requires c_bound { c < 256 }
     ensures { result ≡ max a c }
 {
-    if a <= c {
-        return c as u8;
-    }
-    a as u8
+    a.max(c) as u8
 }
 
 // Where the merge of a diagonal lands: the projection of its halfway point by the joined mask.
-fn landing(np: usize, g: Diagonal, b: Band, len: f64, points: &[f64], w: &[u32]) -> Projected
+fn landing(np: usize, g: Diagonal, b: Band, len: f64, points: &[f64], w: &[u32]) -> Option<Point>
     requires landing_asks { LandingAsks np g w.now }
     requires np_in_bounds { 3 * np ≤ length points.now }
     ensures { result ≡ landing_of g b len points.now w.now }
@@ -121,17 +109,12 @@ fn landing(np: usize, g: Diagonal, b: Band, len: f64, points: &[f64], w: &[u32])
 }
 
 // Of what was found and a new candidate the one that gains more, the first on a tie.
-fn better(best: Choice, next: Candidate) -> Choice
+fn better(best: Option<Candidate>, next: Candidate) -> Option<Candidate>
     ensures { result ≡ better_of best next }
 {
     match best {
-        Choice::None => Choice::Take(next),
-        Choice::Take(old) => {
-            if old.gain < next.gain {
-                return Choice::Take(next);
-            }
-            Choice::Take(old)
-        }
+        Some(old) if next.gain <= old.gain => Some(old),
+        _ => Some(next),
     }
 }
 
@@ -147,8 +130,8 @@ fn merge_of(g: Diagonal, p: Point) -> Merge
     }
 }
 
-// Whether the other quads at the point v stay, if the merge of a diagonal lands at p; the walk begins where the last
-// one round v ended.
+// Whether the other quads at the point v stay, if the merge of a diagonal lands at p; if not, where the walk ended. It
+// begins where the last one round v ended.
 fn stay_around(
     np: usize,
     nq: usize,
@@ -160,14 +143,14 @@ fn stay_around(
     labels: &[u8],
     w: &[u32],
     v: usize,
-) -> Stay
+) -> Result<(), usize>
     requires start_holds { StartHolds np nq w.now }
     requires np_in_bounds { 3 * np ≤ length points.now }
     requires nq_in_bounds { nq ≤ length labels.now }
     requires v_lt_np { v < np }
-    ensures stays_value { result.stays ≡ stay_around np nq g f len p points.now
-        labels.now w.now v }
-    ensures at_bound { result.at ≤ points_at np nq + 4 * nq }
+    ensures stays_value { let stays = stay_around np nq g f len p points.now labels.now w.now v in
+        MatchResult result (λ _. stays ≡ true) (λ _. stays ≡ false) }
+    ensures at_bound { IfErr result (λ at. at ≤ points_at np nq + 4 * nq) }
 {
     let n = np + nq;
     let m = merge_of(g, p);
@@ -237,7 +220,7 @@ fn weighed(
     points: &[f64],
     labels: &[u8],
     w: &[u32],
-    best: Choice,
+    best: Option<Candidate>,
 ) -> Weighing
     requires start_holds { StartHolds np nq w.now }
     requires diagonal_asks { DiagonalAsks np nq g w.now }
@@ -246,26 +229,24 @@ fn weighed(
     requires w_value { allowed_in np nq g.face g.a g.b g.c g.d w.now ≡ true }
     ensures best_value { result.best ≡ weighed_of np nq g f len p points.now
         labels.now w.now best }
-    ensures noted { Noted np nq result.ended }
+    ensures noted { IfSome result.ended (Noted np nq) }
 {
     let ends = ends_of(np, nq, g, w);
-    let one = stay_around(np, nq, g, f, len, p, points, labels, w, ends.first);
-    if !one.stays {
+    if let Err(place) = stay_around(np, nq, g, f, len, p, points, labels, w, ends.first) {
         let point = ends.first;
-        let place = one.at;
-        let ended = Ended { point, place };
+        let ended = Some(Ended { point, place });
         return Weighing { best, ended };
     }
-    let other = stay_around(np, nq, g, f, len, p, points, labels, w, ends.second);
-    let point = ends.second;
-    let place = other.at;
-    let ended = Ended { point, place };
-    if other.stays {
-        let next = candidate_of(np, nq, g, p, w);
-        let best = better(best, next);
+    if let Err(place) = stay_around(np, nq, g, f, len, p, points, labels, w, ends.second) {
+        let point = ends.second;
+        let ended = Some(Ended { point, place });
         return Weighing { best, ended };
     }
-    Weighing { best, ended }
+    let next = candidate_of(np, nq, g, p, w);
+    Weighing {
+        best: better(best, next),
+        ended: None,
+    }
 }
 
 // The merge that the rule takes in quad f.
@@ -286,24 +267,19 @@ fn search(
     requires touched_holds { TouchedHolds np nq w.now }
     ensures choice_value { result.choice ≡ found_to np nq b len points.now quads.now
         labels.now w.now f 2 }
-    ensures noted { Noted np nq result.first }
-    ensures noted_2 { Noted np nq result.second }
+    ensures noted { IfSome result.first (Noted np nq) }
+    ensures noted_2 { IfSome result.second (Noted np nq) }
 {
     let field = b.field;
-    let mut choice = Choice::None;
-    let mut first = Ended {
-        point: np,
-        place: 0,
-    };
-    let mut second = first;
-    let mut k = 0;
-    while k < 2 {
+    let mut choice: Option<Candidate> = None;
+    let mut first: Option<Ended> = None;
+    let mut second: Option<Ended> = None;
+    for k in 0..2 {
         let g = diagonal_at(quads, f, k);
-        k += 1;
         if !coarsen_merge::allowed(np, nq, g.face, g.a, g.b, g.c, g.d, w) {
             continue;
         }
-        let Projected::Onto(p) = landing(np, g, b, len, points, w) else {
+        let Some(p) = landing(np, g, b, len, points, w) else {
             continue;
         };
         let r = weighed(np, nq, g, field, len, p, points, labels, w, choice);
@@ -336,7 +312,7 @@ fn take(
     np: usize,
     nq: usize,
     f: usize,
-    choice: Choice,
+    choice: Option<Candidate>,
     points: &mut [f64],
     quads: &mut [u32],
     w: &mut [u32],
@@ -348,21 +324,23 @@ fn take(
         points.new quads.new w.new }
 {
     match choice {
-        Choice::None => 0,
-        Choice::Take(m) => {
+        None => 0,
+        Some(m) => {
             coarsen_bars::merge(np, nq, f, m.a, m.c, m.to, points, quads, w);
             1
         }
     }
 }
 
-// Keeps where a walk ended for the next one round the same point.
-fn remember(np: usize, nq: usize, e: Ended, w: &mut [u32])
+// Keeps where a walk ended, if one did, for the next one round the same point.
+fn remember(np: usize, nq: usize, ended: Option<Ended>, w: &mut [u32])
     requires start_holds { StartHolds np nq w.old }
-    requires noted { Noted np nq e }
-    ensures { Kept (Out (ended_at np nq) (np + 1)) w.old w.new }
+    requires noted { IfSome ended (Noted np nq) }
+    ensures { Kept (Out (ended_at np nq) np) w.old w.new }
 {
-    w[coarsen_merge::ENDED * (np + nq) + e.point] = e.place as u32;
+    if let Some(e) = ended {
+        w[coarsen_merge::ENDED * (np + nq) + e.point] = e.place as u32;
+    }
 }
 
 // Visits quad f: makes the merge that the rule takes there, if any; answers how many merges that is.
@@ -411,10 +389,8 @@ pub fn visit_all(
         w.old points.new quads.new w.new }
 {
     let mut count = 0;
-    let mut f = 0;
-    while f < nq {
+    for f in 0..nq {
         count += visit(np, nq, f, b, len, points, quads, labels, w);
-        f += 1;
     }
     count
 }

@@ -14,8 +14,6 @@ use Rattle.points.specs.Points.{halfway_p, finite_p, point_at, point_in}
 use Rattle.field.specs.declared.Field.{Field}
 use Rattle.band.specs.declared.Band.{Band}
 use Rattle.band.specs.Bands.{length_of, normal_with}
-use Rattle.projection.specs.declared.Projected.{Projected}
-use Rattle.projection.specs.declared.Projected.TheVariants.{Onto, Refused}
 use Rattle.projection.specs.Project.{longest_move, look_count, project_with, project_of, onto_of}
 use Rattle.projection.proofs.Finite.{project-finite}
 use Rattle.lists.specs.Every.{every}
@@ -38,6 +36,7 @@ use Rattle.rule_coarsen.specs.MergeFits.{joined_mask, moved_to, moved_at, quad_s
 use Rattle.coarsen_shapes.specs.MergeFits.{stays_at}
 use Rattle.coarsen_shapes.proofs.Walk.{unless-then}
 use Rattle.pass_shapes.proofs.Shaped.{point-there, four_below, Agree, shape_same, centre-same}
+use Rattle.std.specs.Prelude.{Some, None, Option}
 
 -- ---- the rule
 
@@ -53,12 +52,12 @@ module _ {np : ℕ} (f g : ℕ → Point) (same : Agree np f g) where
       rw (centre-same f g same q B, shape_same f g same n q B, shape_same (moved_at f m) (moved_at g m) (moved_same m) n q B)
 
 -- a refused projection
-pub merge-refused : (b : Band) (s : Sheet) (ps : List Point) (S : List Slot) (f a c : ℕ) → moved_to b s ps a c ≡ Refused → merge_fits b s ps S f a c ≡ false
+pub merge-refused : (b : Band) (s : Sheet) (ps : List Point) (S : List Slot) (f a c : ℕ) → moved_to b s ps a c ≡ None → merge_fits b s ps S f a c ≡ false
 unfolding merge_fits
 merge-refused b s ps S f a c e = rw e
 
 -- the position
-pub position-onto : (b : Band) (s : Sheet) (ps : List Point) (a c : ℕ) (p : Point) → moved_to b s ps a c ≡ Onto p → merge_position b s ps a c ≡ p
+pub position-onto : (b : Band) (s : Sheet) (ps : List Point) (a c : ℕ) (p : Point) → moved_to b s ps a c ≡ Some p → merge_position b s ps a c ≡ p
 unfolding merge_position
 position-onto b s ps a c p e = rw e
 
@@ -96,7 +95,7 @@ both p q r n h = bool_iff (every p n && every q n) (every r n)
 
 -- the two calls of `quads_stay` decide the rule: the sheet at the pass's start is in flat lists, nl labels of it
 pub merge-onto : (b : Band) (np nq nl : ℕ) (P : List Float) (Q labels : List ℕ) (s : Sheet) (S : List Slot) (f a c : ℕ) (p : Point)
-    → Cornered np nq Q → nq ≤ nl → s.quads ≡ quads_of nq Q → s.labels ≡ take nl labels → moved_to b s (points_of np P) a c ≡ Onto p
+    → Cornered np nq Q → nq ≤ nl → s.quads ≡ quads_of nq Q → s.labels ≡ take nl labels → moved_to b s (points_of np P) a c ≡ Some p
     → (every (stays_at b.field (length_of b) (point_at P) labels Q (merge_at f a c p) a) nq && every (stays_at b.field (length_of b) (point_at P) labels Q (merge_at f a c p) c) nq)
     ≡ merge_fits b s (points_of np P) S f a c
 unfolding merge_fits quads_of
@@ -158,6 +157,6 @@ pub merge-finite : (b : Band) (s : Sheet) (ps : List Point) (S : List Slot) (f a
 unfolding merge_fits merge_position moved_to
 merge-finite b s ps S f a c h = go (moved_to b s ps a c) refl
   where
-    go : (x : Projected) → moved_to b s ps a c ≡ x → fits_at b s ps f a c x ≡ true → finite_p (onto_of x) ≡ true
-    go (Onto p) e t = project-finite b _ _ p e
-    go Refused e t = absurd (false≢true t)
+    go : (x : Option Point) → moved_to b s ps a c ≡ x → fits_at b s ps f a c x ≡ true → finite_p (onto_of x) ≡ true
+    go (Some p) e t = project-finite b _ _ p e
+    go None e t = absurd (false≢true t)

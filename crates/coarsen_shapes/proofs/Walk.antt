@@ -7,15 +7,15 @@ use mathlib.Core.List.{List}
 use native.Mathlib.Omega.{arith}
 use lib.ListN.{length, get_or}
 use lib.Ieee.{Float}
-use lib.Dec.{eqb}
-use borrow.Author.Tests.{eq-eqb, ne_eqb, eqb-true}
+use borrow.Author.Tests.{eq-eqb, eqb-true}
+use Rattle.std.specs.Prelude.{Result, Ok, Err, MatchResult}
 use Rattle.points.specs.declared.Point.{Point}
 use Rattle.field.specs.declared.Field.{Field}
 use Rattle.lists.specs.Every.{every}
 use Rattle.lists.specs.Regions.{part, Part}
 use Rattle.lists.proofs.Regions.{part-get, part-len}
 use Rattle.lists.proofs.Every.{every-at, every-fails, every-each, bool_iff, some_at, some-find}
-use Rattle.lists.proofs.Laws.{eq-or-ne, lt-or-le}
+use Rattle.lists.proofs.Laws.{lt-or-le}
 use Rattle.lists.proofs.Order.{each-bucket, below-tab}
 use Rattle.sheet.specs.Flat.{from}
 use Rattle.rule_sheet.specs.Flat.{quad_at}
@@ -27,7 +27,7 @@ use Rattle.edges.proofs.Maps.{RunAt}
 use Rattle.rule_coarsen.specs.Coarse.{has_corner}
 use Rattle.rule_coarsen.specs.declared.Merge.{Merge}
 use Rattle.incidence.specs.Corners.{Positioned}
-use Rattle.coarsen_shapes.specs.MergeFits.{face_stays, corner_stays, stays_at, CornersIn, FirstFallen}
+use Rattle.coarsen_shapes.specs.MergeFits.{face_stays, corner_stays, stays_at, CornersIn, AllPass, FirstFallen}
 
 -- a test that is passed unless it is not asked
 unless : (a b : Bool) → (a ≡ true → b ≡ true) → (not a || b) ≡ true
@@ -57,19 +57,13 @@ walk-quads p Q nq v =
 
 -- ---- the first place that falls
 
-pub fallen-start : (p : ℕ → Bool) (a : ℕ) → FirstFallen p a a a
-fallen-start p a = record { low = omega arith; high = omega arith; before = λ i h g. absurd (omega arith); falls = λ h. absurd (omega arith) }
+pub pass-start : (p : ℕ → Bool) (a : ℕ) → AllPass p a a
+pass-start p a = record { each = λ i h g. absurd (omega arith) }
 
-pub fallen-next : {p : ℕ → Bool} {a i : ℕ} → FirstFallen p a i i → p i ≡ true → FirstFallen p a (i + 1) (i + 1)
-fallen-next {p} {a} {i} F e = record {
-  low = omega (arith, F.low);
-  high = omega arith;
-  before = λ x h g. ⊎_elim (λ (l : x < i). F.before x h l) (λ (l : i ≤ x). let k : x ≡ i = omega arith in rw k e) (lt-or-le x i);
-  falls = λ h. absurd (omega arith);
+pub pass-next : {p : ℕ → Bool} {a i : ℕ} → AllPass p a i → p i ≡ true → AllPass p a (i + 1)
+pass-next {p} {a} {i} A e = record {
+  each = λ x h g. ⊎_elim (λ (l : x < i). A.each x h l) (λ (l : i ≤ x). let k : x ≡ i = omega arith in rw k e) (lt-or-le x i);
 }
-
-pub fallen-here : {p : ℕ → Bool} {a i : ℕ} (b : ℕ) → FirstFallen p a i i → i ≤ b → (i < b → p i ≡ false) → FirstFallen p a b i
-fallen-here b F h f = record { low = F.low; high = h; before = F.before; falls = f }
 
 -- ---- once round
 
@@ -105,20 +99,23 @@ module _ {s n : ℕ} {w : List ℕ} (nq was v : ℕ) (f : Field) (len : Float) (
   all_stay : ((i : ℕ) → s ≤ i → i < s + n → test i ≡ true) → stayed ≡ true
   all_stay h = let l = part-len P in sym walked ∙ every-each _ (length B) (λ i g. here i (omega arith) ∙ h (s + i) (omega arith) (omega arith))
 
-  -- once round, from the place k on: nothing falls up to the end, and j is the first that falls in front of k
-  pub once-round : (k i j : ℕ) → k ≤ s + n → FirstFallen test k (s + n) i → s + n ≤ i → FirstFallen test s k j → eqb j k ≡ stayed
-  once-round k i j h A g C = ⊎_elim
-      (λ (e : j ≡ k). rw (eq-eqb j k e) (sym (all_stay (λ x a b. ⊎_elim
-      (λ (l : x < k). C.before x a (omega arith))
-      (λ (l : k ≤ x). A.before x l (omega (arith, A.high)))
-      (lt-or-le x k)))))
-      (λ (e : j ≡ k → ⊥). rw (ne_eqb j k e) (sym (one-falls j C.low (omega (arith, C.high, e)) (C.falls (omega (arith, C.high, e))))))
-      (eq-or-ne j k)
+  -- a walk from a place to another falls
+  pub walk-falls : (Q' : List ℕ) (a b r : ℕ) → Q' ≡ Q → s ≤ a → b ≤ s + n → FirstFallen (corner_stays f len at labels Q' m w) a b r → stayed ≡ false
+  walk-falls Q' a b r q h k F = one-falls r (omega (arith, F.low)) (omega (arith, F.high)) (rw q at F.falls)
+
+  -- once round, from the place k on to the end, and from the start to k
+  pub once-round : {U : Type 0} (Q' : List ℕ) (k : ℕ) (r : Result U ℕ) → Q' ≡ Q → k ≤ s + n → AllPass (corner_stays f len at labels Q' m w) k (s + n)
+      → MatchResult r (λ _. AllPass (corner_stays f len at labels Q' m w) s k) (λ i. FirstFallen (corner_stays f len at labels Q' m w) s k i)
+      → MatchResult r (λ _. stayed ≡ true) (λ _. stayed ≡ false)
+  once-round Q' k (Ok x) q h A C = all_stay (λ i a b. ⊎_elim
+      (λ (l : i < k). rw q at (C.each i a l))
+      (λ (l : k ≤ i). rw q at (A.each i l b))
+      (lt-or-le i k))
+  once-round Q' k (Err i) q h A C = walk-falls Q' s k i q (omega arith) h C
 
 -- the quads as they are lent
-pub fallen-lent : {a b r : ℕ} (nq was : ℕ) (f : Field) (len : Float) (at : ℕ → Point) (labels w : List ℕ) (m : Merge)
-    → FirstFallen (corner_stays f len at labels (part was (was + 4 * nq - was) w) m w) a b r → FirstFallen (corner_stays f len at labels (part was (4 * nq) w) m w) a b r
-fallen-lent nq was f len at labels w m F = let g : was + 4 * nq - was ≡ 4 * nq = omega arith in rw g at F
+pub quads-as-lent : (nq was : ℕ) (w : List ℕ) → part was (was + 4 * nq - was) w ≡ part was (4 * nq) w
+quads-as-lent nq was w = let g : was + 4 * nq - was ≡ 4 * nq = omega arith in rw g refl
 
 -- the corners of a point as a region
 pub run-part : {order s e : ℕ} {l w : List ℕ} → RunAt order s e l w → Part (order + s) (order + e - (order + s)) l w

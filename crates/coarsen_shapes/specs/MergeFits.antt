@@ -24,12 +24,16 @@ pub record CornersIn (nq from to : ℕ) (w : List ℕ) : Type 0 where
   pub high : to ≤ length w
   pub each : (i : ℕ) → from ≤ i → i < to → get_or w i 0 < 4 * nq
 
--- r is the first place, from one to another, that does not pass the test p; the end if all pass
+-- every place from one to another passes the test p
+pub record AllPass (p : ℕ → Bool) (from to : ℕ) : Type 0 where
+  pub each : (i : ℕ) → from ≤ i → i < to → p i ≡ true
+
+-- r is the first place, from one to another, that does not pass the test p
 pub record FirstFallen (p : ℕ → Bool) (from to r : ℕ) : Type 0 where
   pub low : from ≤ r
-  pub high : r ≤ to
+  pub high : r < to
   pub before : (i : ℕ) → from ≤ i → i < r → p i ≡ true
-  pub falls : r < to → p r ≡ false
+  pub falls : p r ≡ false
 
 -- quad j is not at v, or is the merge's own, or stays
 abbrev pub stays_at : Field → Float → (ℕ → Point) → List ℕ → List ℕ → Merge → ℕ → ℕ → Bool

@@ -2,23 +2,16 @@
 
 #![tactic(auto)]
 
-ghost use Rattle.std.specs.Prelude.{◌≡◌, ◌+◌, ◌*◌, ◌<◌, ◌≤◌, length, get_or};
+ghost use Rattle.std.specs.Prelude.{◌≡◌, true, false, ◌+◌, ◌*◌, ◌<◌, ◌≤◌, MatchResult, IfErr, length, get_or};
 ghost use Rattle.points.specs.Points.{point_at};
 ghost use Rattle.lists.specs.Every.{every};
 ghost use Rattle.lists.specs.Regions.{part};
 ghost use Rattle.incidence.specs.Corners.{Positioned};
 ghost use Rattle.edges.specs.Conditions.{PointMapHolds};
-ghost use Rattle.coarsen_shapes.specs.MergeFits.{face_stays, corner_stays, stays_at, CornersIn, FirstFallen};
+ghost use Rattle.coarsen_shapes.specs.MergeFits.{face_stays, corner_stays, stays_at, CornersIn, AllPass, FirstFallen};
 
 use field::Field;
 use rule_coarsen::Merge;
-
-// Whether the quads at a point stay, and where the walk over its corners ended.
-#[derive(Clone, Copy)]
-pub struct Stay {
-    pub stays: bool,
-    pub at: usize,
-}
 
 // Whether quad j is the merge's own or stays.
 fn face_stays(
@@ -45,9 +38,9 @@ fn face_stays(
     coarsen_moves::quad_stays(np, f, len, points, labels[j], q, m)
 }
 
-// The first place, from one of the work slice on, whose corner has a quad that is not the merge's own and does not
-// stay; the end if there is none.
-fn first_fallen(
+// Whether the quads of the corners from one place of the work slice to another are the merge's own or stay; if not,
+// the first place whose quad does not.
+fn stay_between(
     np: usize,
     nq: usize,
     f: Field,
@@ -59,23 +52,20 @@ fn first_fallen(
     from: usize,
     to: usize,
     w: &[u32],
-) -> usize
+) -> Result<(), usize>
     requires positioned { Positioned np nq points.now quads.now }
     requires nq_in_bounds { nq ≤ length labels.now }
     requires corners_in { CornersIn nq from to w.now }
-    ensures { FirstFallen (corner_stays f len (point_at points.now) labels.now
-        quads.now m w.now) from to result }
+    ensures { let stays = corner_stays f len (point_at points.now) labels.now quads.now m w.now in
+        MatchResult result (λ _. AllPass stays from to) (λ place. FirstFallen stays from to place) }
 {
-    let mut i = from;
-    while i < to {
+    for i in from..to {
         let j = lists::at(w, i) / 4;
-        if face_stays(np, nq, f, len, points, quads, labels, m, j) {
-            i += 1;
-        } else {
-            return i;
+        if !face_stays(np, nq, f, len, points, quads, labels, m, j) {
+            return Err(i);
         }
     }
-    i
+    Ok(())
 }
 
 // A place from s to e: where it lies there, else s.
@@ -84,17 +74,11 @@ fn within(s: usize, e: usize, place: usize) -> usize
     ensures lower_bound { s ≤ result }
     ensures upper_bound { result ≤ e }
 {
-    if place < s {
-        return s;
-    }
-    if place < e {
-        return place;
-    }
-    s
+    if (s..e).contains(&place) { place } else { s }
 }
 
-// Whether every quad at point v is the merge's own or stays; the walk begins at a place, where the one before it
-// ended, and goes once round the corners of v.
+// Whether every quad at point v is the merge's own or stays; if not, the place of a corner whose quad does not. The
+// walk begins at a place, where one before it ended, and goes once round the corners of v.
 pub fn quads_stay(
     np: usize,
     nq: usize,
@@ -109,14 +93,15 @@ pub fn quads_stay(
     m: Merge,
     place: usize,
     w: &[u32],
-) -> Stay
+) -> Result<(), usize>
     requires point_map_holds { PointMapHolds np nq was starts order w.now }
     requires np_in_bounds { 3 * np ≤ length points.now }
     requires nq_in_bounds { nq ≤ length labels.now }
     requires v_lt_np { v < np }
-    ensures stays_value { result.stays ≡ every (stays_at f len (point_at points.now) labels.now
-        (part was (4 * nq) w.now) m v) nq }
-    ensures at_bound { result.at ≤ order + get_or w.now (starts + v + 1) 0 }
+    ensures stays_value { let stays = every (stays_at f len (point_at points.now) labels.now
+        (part was (4 * nq) w.now) m v) nq in
+        MatchResult result (λ _. stays ≡ true) (λ _. stays ≡ false) }
+    ensures at_bound { IfErr result (λ at. at ≤ order + get_or w.now (starts + v + 1) 0) }
 {
     let first = lists::at(w, starts + v);
     let next = lists::at(w, starts + v + 1);
@@ -124,16 +109,6 @@ pub fn quads_stay(
     let e = order + next;
     let from = within(s, e, place);
     let quads = &w[was..was + 4 * nq];
-    let i = first_fallen(np, nq, f, len, points, quads, labels, m, from, e, w);
-    if i < e {
-        return Stay {
-            stays: false,
-            at: i,
-        };
-    }
-    let j = first_fallen(np, nq, f, len, points, quads, labels, m, s, from, w);
-    Stay {
-        stays: j == from,
-        at: j,
-    }
+    stay_between(np, nq, f, len, points, quads, labels, m, from, e, w)?;
+    stay_between(np, nq, f, len, points, quads, labels, m, s, from, w)
 }

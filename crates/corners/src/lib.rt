@@ -9,8 +9,8 @@ ghost use Rattle.rule_sheet.specs.Results.{Cleared};
 ghost use Rattle.rule_corners.specs.Corners.{ratio_of, corners_rule, divided_of};
 
 use band::Band;
-use rule_corners::{Divided, Ratio};
-use rule_sheet::{Counts, Verdict};
+use rule_corners::Ratio;
+use rule_sheet::{Counts, Refusal};
 
 // How many corners a quad has.
 const CORNERS: usize = 4;
@@ -39,15 +39,12 @@ fn corners_or_refusal(
     labels: &[u8],
     work: &mut [u32],
     floats: usize,
-) -> Divided
+) -> Result<Ratio, Refusal>
     ensures { result ≡ divided_of (corners_rule (domain_of b) (lent_of c points.now quads.now
         labels.now) (work_with (length work.old) floats)) }
 {
-    let tested = admission::measure_verdict(b, c, points, quads, labels, work, floats);
-    if let Verdict::Refused(n) = tested {
-        return Divided::Refused(n);
-    }
-    Divided::Done(ratio(c))
+    admission::measure_verdict(b, c, points, quads, labels, work, floats)?;
+    Ok(ratio(c))
 }
 
 // The corners per point of a sheet, or the first refusal.
@@ -59,7 +56,7 @@ pub fn corners_per_point(
     labels: &[u8],
     work: &mut [u32],
     floats: &mut [f64],
-) -> Divided
+) -> Result<Ratio, Refusal>
     ensures answer { result ≡ divided_of (corners_rule (domain_of b) (lent_of c points.now
         quads.now labels.now) (work_of work.old floats.old)) }
     ensures cleared { Cleared work.old floats.old work.new

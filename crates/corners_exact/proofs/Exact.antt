@@ -5,8 +5,6 @@ use native.Mathlib.Omega.{arith}
 use native.Mathlib.Nat.{div-add-mod', mod-lt, mod-eq_of_lt, div-eq_of_lt, mul-add-div_right, mul-add-mod_self_right}
 use lib.ListN.{length}
 use Rattle.lists.specs.Sort.{itself}
-use Rattle.rule_sheet.specs.declared.Verdict.{Verdict}
-use Rattle.rule_sheet.specs.declared.Verdict.TheVariants.{Accepted, Refused}
 use Rattle.rule_sheet.specs.Quads.{valence}
 use Rattle.rule_sheet.specs.Sheet.{Sheet, counts_of}
 use Rattle.rule_sheet.specs.Lent.{held}
@@ -21,6 +19,8 @@ use Rattle.safety_rules.proofs.Fine.{fine_of}
 use Rattle.rule_corners.specs.declared.Ratio.{Ratio}
 use Rattle.rule_corners.specs.Corners.{ratio_of, corners_rule}
 use Rattle.corners_exact.specs.Exact.{Exact, corners_in, PerPoint, EveryAnswer}
+use Rattle.std.specs.Prelude.{Ok, Err}
+use Rattle.rule_sheet.specs.Verdicts.{Verdict}
 
 -- ---- quotient and remainder
 
@@ -65,5 +65,5 @@ unfolding EveryAnswer corners_rule
 every-answer d x w q e = go (measurable d x w) refl e
   where
     go : (v : Verdict) → measurable d x w ≡ v → after_test v (gives (ratio_of (counts_of (held x)))) ≡ gives q → PerPoint (held x) q
-    go Accepted ev h = let r : ratio_of (counts_of (held x)) ≡ q = ap (given_or q) h in rw r at (per-point (held x) (lent-accepted (measurable_verdict d) x w ev))
-    go (Refused n) ev h = absurd (let z : ◌≡◌ {A = ℕ} 0 1 = cc in omega arith)
+    go (Ok u) ev h = let r : ratio_of (counts_of (held x)) ≡ q = ap (given_or q) h in rw r at (per-point (held x) (lent-accepted (measurable_verdict d) x w ev))
+    go (Err n) ev h = absurd (let z : ◌≡◌ {A = ℕ} 0 1 = cc in omega arith)

@@ -6,10 +6,11 @@ use Rattle.rule_sheet.specs.Quads.{sum, valence}
 use Rattle.rule_sheet.specs.Sheet.{Sheet}
 use Rattle.rule_sheet.specs.Lent.{Lent, Work, held}
 use Rattle.rule_sheet.specs.Outcomes.{refuses, gives}
-use Rattle.rule_quality.specs.Measure.{normal_number}
 use Rattle.rule_quality.specs.Quality.{quality_rule}
 use Rattle.rule_corners.specs.declared.Ratio.{Ratio}
 use Rattle.rule_corners.specs.Corners.{corners_rule}
+use Rattle.rule_sheet.specs.declared.Refusal.{Refusal}
+use Rattle.rule_sheet.specs.declared.Refusal.TheVariants.{Normal}
 
 -- "quotient × points + remainder is 4 × quads and the remainder is below points"
 pub record Exact (s : Sheet) (q : Ratio) : Type 0 where
@@ -33,6 +34,6 @@ EveryAnswer = (d : Domain) (x : Lent) (w : Work) (q : Ratio) → corners_rule d 
 -- the second: "It is refused as quality refuses, apart from normal". A number other than 11 refuses both or neither,
 -- 11 `quality` alone.
 unfoldable pub EveryRefusal : Type 0
-EveryRefusal = (d : Domain) (x : Lent) (w : Work) (n : ℕ)
-    → (corners_rule d x w ≡ refuses n → (quality_rule d x w ≡ refuses n) × (n ≢ normal_number))
-    × (quality_rule d x w ≡ refuses n → n ≢ normal_number → corners_rule d x w ≡ refuses n)
+EveryRefusal = (d : Domain) (x : Lent) (w : Work) (n : Refusal)
+    → (corners_rule d x w ≡ refuses n → (quality_rule d x w ≡ refuses n) × (n ≢ Normal))
+    × (quality_rule d x w ≡ refuses n → n ≢ Normal → corners_rule d x w ≡ refuses n)

@@ -1,5 +1,5 @@
 -- The laws of the edge map: its regions, the search by halves, and that a pair of points is an edge exactly if the search finds it. Assumes nothing.
-use Prim.Native.Nat.{ℕ, ◌+◌, ◌-◌, ◌*◌, ◌≤◌, ◌<◌, zero-le}
+use Prim.Native.Nat.{ℕ, ◌+◌, ◌-◌, ◌*◌, ◌≤◌, ◌<◌, min, max}
 use mathlib.Core.Bool.{true, false}
 use mathlib.Core.Logic.{⊎_elim}
 use mathlib.Core.Path.{◌≡◌, refl, sym, ap, ◌∙◌}
@@ -11,27 +11,20 @@ use lib.Dec.{eqb, ltb}
 use borrow.Author.Tests.{eq-eqb, ne_eqb, lt-ltb, le-ltb}
 use Rattle.lists.specs.Sort.{tabulate, bucket, sort_by}
 use Rattle.lists.specs.Steps.{start, end_of, count_of}
-use Rattle.lists.specs.Regions.{part, Part, Out, Out3, Kept, Three}
-use Rattle.lists.proofs.Laws.{lt-or-le, get_or-tab, tab-take, tab-ext, start-zero, start-suc, start-mono}
+use Rattle.lists.specs.Regions.{part, Part, Out3, Kept, Three}
+use Rattle.lists.proofs.Laws.{lt-or-le, get_or-tab, tab-ext, start-zero, start-suc, start-mono}
 use Rattle.lists.proofs.Order.{Each, sort-ext, each-sort, each-bucket, bucket-key, bucket-sort, bucket-of-sort, ascends, part-bucket, in-bucket, below-tab}
-use Rattle.lists.proofs.Regions.{part_of, part-len, part-get, part-as, part-sub, part-set-out, part-kept, kept_set, kept_less, element_of, RegionFilled, region-end}
-use Rattle.lists.proofs.Placing.{Sorted}
+use Rattle.lists.proofs.Regions.{part_of, part-len, part-get, part-as, part-sub, part-set-out, part-kept, kept_set, kept_less}
 use Rattle.rule_sheet.specs.Quads.{side, is_edge}
 use Rattle.sheet.specs.Flat.{from, to}
 use Rattle.rule_sheet.specs.Flat.{quad_at, quads_of}
 use Rattle.sheet.specs.Edges.{smaller, larger, all_corners, point_corners}
 use Rattle.sheet.proofs.Edges.{edge-flat, edge-corners}
-use Rattle.incidence.specs.declared.Key.TheVariants.{Smaller, Larger}
+use Rattle.incidence.specs.declared.Key.TheVariants.{Larger}
 use Rattle.incidence.specs.Corners.{key_of, Cornered, edge_order, corners_at, first_at}
-use Rattle.incidence.proofs.Corners.{ByLarger, ordered, tab-front}
+use Rattle.incidence.proofs.Corners.{tab-front}
 use Rattle.edges.specs.Steps.{first_edge}
 use Rattle.edges.specs.Conditions.{EdgeMapHolds, PointMapHolds, Ascending, Narrowed}
-
--- ---- the copy
-
--- a region filled with a list's elements has its front
-pub copied : (Q : List ℕ) {v w : List ℕ} {was n i : ℕ} → RegionFilled (element_of 0 Q) was n v w i → n ≤ length Q → n ≤ i → Part was n (take n Q) w × Kept (Out was n) v w
-copied Q {v} {w} {was} {n} {i} F h l = let E = region-end F l in (part-as E.0 (tab-take Q n h), E.1)
 
 -- ---- the corners of the first quads of a list are those of the list
 
@@ -159,25 +152,25 @@ behind-first T = record {
   bc = λ i p q r s. T.bc i (omega arith) (omega arith) r s;
 }
 
-ends-are : (np nq : ℕ) (Q : List ℕ) → tabulate (end_of (key_of Q Smaller) (sort_by (key_of Q Larger) np (all_corners nq))) np ≡ tabulate (λ v. first_edge np nq Q (v + 1)) np
-unfolding first_edge key_of
+ends-are : (np nq : ℕ) (Q : List ℕ) → tabulate (end_of (smaller Q) (sort_by (larger Q) np (all_corners nq))) np ≡ tabulate (λ v. first_edge np nq Q (v + 1)) np
+unfolding first_edge
 ends-are np nq Q = refl
 
 first-edge-zero : (np nq : ℕ) (Q : List ℕ) → first_edge np nq Q 0 ≡ 0
 unfolding first_edge
 first-edge-zero np nq Q = start-zero (smaller Q) (sort_by (larger Q) np (all_corners nq))
 
-pub map-made : {np nq : ℕ} {Q : List ℕ} {first starts order : ℕ} {u v w : List ℕ} → Three first (4 * nq) starts (np + 1) order (4 * nq) u → ByLarger np nq Q first (starts + 1) order u v
-    → Sorted (key_of Q Smaller) first (4 * nq) (starts + 1) np order v w
+pub map-made : {np : ℕ} (nq : ℕ) (Q : List ℕ) {first starts order : ℕ} {u w : List ℕ} → Three first (4 * nq) starts (np + 1) order (4 * nq) u
+    → Part order (4 * nq) (edge_order np nq Q) w → Part (starts + 1) np (tabulate (end_of (smaller Q) (sort_by (larger Q) np (all_corners nq))) np) w
+    → Kept (Out3 first (4 * nq) (starts + 1) np order (4 * nq)) u w
     → Part order (4 * nq) (edge_order np nq Q) (set w starts 0)
     × (Part starts (np + 1) (tabulate (first_edge np nq Q) (np + 1)) (set w starts 0) × Kept (Out3 first (4 * nq) starts (np + 1) order (4 * nq)) u (set w starts 0))
-map-made {np} {nq} {Q} {first} {starts} {order} {u} {v} {w} T B E =
-    let O = ordered B E in
-    let S : Part (starts + 1) np (tabulate (λ v. first_edge np nq Q (v + 1)) np) w = part-as (rw B.from.is at E.0) (ends-are np nq Q) in
+map-made {np} nq Q {first} {starts} {order} {u} {w} T O E C =
+    let S : Part (starts + 1) np (tabulate (λ v. first_edge np nq Q (v + 1)) np) w = part-as E (ends-are np nq Q) in
     let b : starts < length w = omega (arith, S.fits) in
     let K : Kept (Out3 first (4 * nq) starts (np + 1) order (4 * nq)) u w =
-    kept_less O.1 (λ i o. (o.0, (λ p q. o.1.0 (omega arith) (omega arith), o.1.1))) in (
-      part-set-out starts 0 O.0 (λ p q. T.bc starts (omega arith) (omega arith) p q),
+    kept_less C (λ i o. (o.0, (λ p q. o.1.0 (omega arith) (omega arith), o.1.1))) in (
+      part-set-out starts 0 O (λ p q. T.bc starts (omega arith) (omega arith) p q),
       (
         tab-front (first_edge np nq Q) (part-set-out starts 0 S (λ p q. omega arith)) (get_or-set_same w starts 0 0 b ∙ sym (first-edge-zero np nq Q)),
         kept_set starts 0 K (λ o. o.1.0 (omega arith) (omega arith)),
@@ -196,9 +189,6 @@ unfolding key_of
 seen_key S = rw (← S.corner) S.key
 
 module _ {Q cs : List ℕ} {b : ℕ} where
-  pub narrow_start : Narrowed Q cs b 0 (length cs)
-  narrow_start = record { lo≤ = zero-le; hi≤ = omega arith; below = λ i l. absurd (omega arith); above = λ i h l. absurd (omega arith) }
-
   -- the corner at mid has a larger point below b
   pub narrow-up : {lo hi mid c k : ℕ} → Ascending Q cs → Narrowed Q cs b lo hi → Seen Q cs mid c k → mid < hi → k < b → Narrowed Q cs b (mid + 1) hi
   narrow-up {lo} {hi} {mid} {c} {k} A N S h l =
@@ -220,10 +210,6 @@ module _ {Q cs : List ℕ} {b : ℕ} where
         below = N.below;
         above = λ i m n. omega (arith, A.rise mid i m n);
       }
-
-  -- one place is left
-  pub narrow-end : {lo hi : ℕ} → Narrowed Q cs b lo hi → hi ≤ lo → Narrowed Q cs b lo lo
-  narrow-end {lo} {hi} N h = let e : hi ≡ lo = omega (arith, N.lo≤) in rw e at N
 
 module _ (Q cs : List ℕ) (b : ℕ) where
   -- a corner with the larger point b counts
@@ -336,7 +322,14 @@ rising {np} {nq} {was} {starts} {order} {s} {e} {w} a M h fs fe =
     }
 
 -- the other way round
-pub edge-turned : (nq : ℕ) (Q : List ℕ) (u v : ℕ) → is_edge (quads_of nq Q) u v ≡ is_edge (quads_of nq Q) v u
+edge-turned : (nq : ℕ) (Q : List ℕ) (u v : ℕ) → is_edge (quads_of nq Q) u v ≡ is_edge (quads_of nq Q) v u
 edge-turned nq Q u v =
     let e : side (quads_of nq Q) u v + side (quads_of nq Q) v u ≡ side (quads_of nq Q) v u + side (quads_of nq Q) u v = omega arith in
     ap (λ (n : ℕ). ltb 0 n) e
+
+-- the smaller point first
+pub edge-rising : (nq : ℕ) (Q : List ℕ) (u v : ℕ) → is_edge (quads_of nq Q) (min u v) (max u v) ≡ is_edge (quads_of nq Q) u v
+edge-rising nq Q u v = ⊎_elim
+    (λ (h : u < v). let l : min u v ≡ u = omega arith in let g : max u v ≡ v = omega arith in rw (l, g))
+    (λ (h : v ≤ u). let l : min u v ≡ v = omega arith in let g : max u v ≡ u = omega arith in rw (l, g) (edge-turned nq Q v u))
+    (lt-or-le u v)

@@ -27,15 +27,14 @@ struct Span {
 
 // What begins at a place in edge order: no edge, one with one corner, with two from different ends, with two from the
 // same end, with more.
-const NONE: u32 = 0;
-
-const BOUNDARY: u32 = 1;
-
-const OPPOSITE: u32 = 2;
-
-const TURNED: u32 = 3;
-
-const NONMANIFOLD: u32 = 4;
+#[derive(Clone, Copy, PartialEq, Eq)]
+pub enum EdgeKind {
+    Nothing,
+    Boundary,
+    Opposite,
+    Turned,
+    Nonmanifold,
+}
 
 // The edges with one quad, with more than two, and with two that run the same way.
 #[derive(Clone, Copy)]
@@ -52,11 +51,7 @@ pub fn copy_quads(nq: usize, quads: &[u32], was: usize, w: &mut [u32])
     ensures part { Part was (4 * nq) (take (4 * nq) quads.now) w.new }
     ensures kept { Kept (Out was (4 * nq)) w.old w.new }
 {
-    let mut i = 0;
-    while i < 4 * nq {
-        w[was + i] = quads[i];
-        i += 1;
-    }
+    w[was..was + 4 * nq].copy_from_slice(&quads[..4 * nq]);
 }
 
 // The corners of nq quads by ascending (smaller, larger) point of their edges in the region at order, and where those
@@ -76,10 +71,7 @@ pub fn edge_map(
     ensures part_2 { Part starts (np + 1) (tabulate (first_edge np nq quads.now) (np + 1)) w.new }
     ensures kept { Kept (Out3 first (4 * nq) starts (np + 1) order (4 * nq)) w.old w.new }
 {
-    let n = 4 * nq;
-    lists::number(&mut w[order..order + n]);
-    incidence::sort_by_key(quads, Key::Larger, order, n, starts + 1, np, first, w);
-    incidence::sort_by_key(quads, Key::Smaller, first, n, starts + 1, np, order, w);
+    incidence::edge_order(np, nq, quads, first, starts + 1, order, w);
     w[starts] = 0;
 }
 
@@ -102,7 +94,8 @@ fn halved(quads: &[u32], corners: &[u32], b: usize, s: Span) -> Span
     Span { lo: s.lo, hi: mid }
 }
 
-// Where the first corner stands whose larger point is not below b.
+// Where the first corner stands whose larger point is not below b. The library's `partition_point` would read a key of
+// any number, and only the quads' own corners have one.
 fn first_from(quads: &[u32], corners: &[u32], b: usize) -> usize
     requires { Ascending quads.now corners.now }
     ensures { Narrowed quads.now corners.now b result result }
@@ -167,10 +160,7 @@ pub fn is_edge(
     requires v_lt_np { v < np }
     ensures { result ≡ is_edge (quads_of nq (part was (4 * nq) w.now)) u v }
 {
-    if u <= v {
-        return is_rising_edge(np, nq, was, starts, order, u, v, w);
-    }
-    is_rising_edge(np, nq, was, starts, order, v, u, w)
+    is_rising_edge(np, nq, was, starts, order, u.min(v), u.max(v), w)
 }
 
 // ---- the walk over the corners in edge order
@@ -245,24 +235,24 @@ fn same_start(quads: &[u32], order: usize, n: usize, i: usize, w: &[u32]) -> boo
 }
 
 // What begins at place i.
-fn kind_at(quads: &[u32], order: usize, n: usize, i: usize, w: &[u32]) -> u32
+fn kind_at(quads: &[u32], order: usize, n: usize, i: usize, w: &[u32]) -> EdgeKind
     requires walk_asks { WalkAsks quads.now order n w.now }
     requires i_lt_n { i < n }
     ensures { result ≡ kind_at quads.now n (part order n w.now) i }
 {
     if goes_on(quads, order, n, i, w) {
-        return NONE;
+        return EdgeKind::Nothing;
     }
     if !is_linked(quads, order, n, i, i + 1, w) {
-        return BOUNDARY;
+        return EdgeKind::Boundary;
     }
     if is_linked(quads, order, n, i, i + 2, w) {
-        return NONMANIFOLD;
+        return EdgeKind::Nonmanifold;
     }
     if same_start(quads, order, n, i, w) {
-        return TURNED;
+        return EdgeKind::Turned;
     }
-    OPPOSITE
+    EdgeKind::Opposite
 }
 
 // An edge of exactly two corners begins at place i.
@@ -271,8 +261,10 @@ pub fn is_pair(quads: &[u32], order: usize, n: usize, i: usize, w: &[u32]) -> bo
     requires i_lt_n { i < n }
     ensures { result ≡ pair_at quads.now n (part order n w.now) i }
 {
-    let kind = kind_at(quads, order, n, i, w);
-    (kind == OPPOSITE) | (kind == TURNED)
+    matches!(
+        kind_at(quads, order, n, i, w),
+        EdgeKind::Opposite | EdgeKind::Turned
+    )
 }
 
 // Counts the edges of each kind in the corners of nq quads in edge order, at order.
@@ -286,13 +278,14 @@ pub fn edge_counts(np: usize, nq: usize, quads: &[u32], order: usize, w: &[u32])
     let mut boundary = 0;
     let mut nonmanifold = 0;
     let mut orientation = 0;
-    let mut i = 0;
-    while i < n {
-        let kind = kind_at(quads, order, n, i, w);
-        boundary += sheet::one_if(kind == BOUNDARY);
-        nonmanifold += sheet::one_if(kind == NONMANIFOLD);
-        orientation += sheet::one_if(kind == TURNED);
-        i += 1;
+    for i in 0..n {
+        match kind_at(quads, order, n, i, w) {
+            EdgeKind::Nothing => {}
+            EdgeKind::Boundary => boundary += 1,
+            EdgeKind::Opposite => {}
+            EdgeKind::Turned => orientation += 1,
+            EdgeKind::Nonmanifold => nonmanifold += 1,
+        }
     }
     EdgeCounts {
         boundary,

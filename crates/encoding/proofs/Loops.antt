@@ -1,111 +1,46 @@
--- The invariants of the loops that put, read and copy numbers, over the width. Assumes nothing.
-use Prim.Native.Nat.{ℕ, suc, ◌+◌, ◌-◌, ◌*◌, ◌/◌, ◌%◌, ◌^◌, ◌≤◌, ◌<◌, zero-le}
+-- The bytes of one number as std has them, and the invariant of the loop that puts numbers. Assumes nothing.
+use Prim.Native.Nat.{ℕ, zero, suc, ◌+◌, ◌-◌, ◌*◌, ◌/◌, ◌%◌, ◌^◌, ◌≤◌, ◌<◌, zero-le}
 use mathlib.Core.Path.{◌≡◌, refl, sym, ap, ◌∙◌}
 use mathlib.Core.List.{List, [], ◌∷◌, ◌++◌, append_assoc, append-nil}
 use native.Mathlib.Omega.{arith}
-use native.Mathlib.Numerals.{add-one}
-use lib.ListN.{length, get_or, take, drop, set, length-append, length-drop, length-set, take-append-drop, drop_of_length-le}
-use lib.Seq.{take_at, drop_at, drop-drop, drop-cons, take-suc, take-suc-set, drop-set-lt, get_or-take, get_or-drop, length-take-le}
+use native.Mathlib.Numerals.{add-one, unary_clauses}
+use native.Mathlib.Nat.{mul-suc, mul-le-mul_left, div-div-eq-div-mul, div-one}
+use lib.ListN.{length, get_or, take, drop, length-append, length-drop, take-append-drop, drop_of_length-le}
+use lib.Seq.{take_at, drop_at, drop-drop, take-suc, length-take-le, drop-nil}
+use Rattle.std.specs.Int.{byte_at, bytes_low_first}
+use borrow.Rule.Slice.PartMut.{put_mid}
 use Rattle.lists.specs.Regions.{part}
-use Rattle.encoding.specs.Encoding.{little, number, littles, number_at, Bytes}
-use Rattle.encoding.proofs.Laws.{number-under, number-drop, under-part, littles-append, littles-one, length-littles, length-little}
+use Rattle.encoding.specs.Encoding.{little, number}
+use Rattle.encoding.specs.Little.{LittleLaws}
 
--- ---- one number is put at a place: after i bytes, what is left of the number gives the others
+-- ---- one number
 
-pub record Putting (k at n : ℕ) (d s : List ℕ) (left i : ℕ) : Type 0 where
-  pub fits : at + k ≤ length d
-  pub i≤ : i ≤ k
-  pub len : length s ≡ length d
-  pub front : take (at + i) s ++ little (k - i) left ≡ take at d ++ little k n
-  pub rest : drop (at + i) s ≡ drop (at + i) d
-
-pub putting-start : (k at n : ℕ) (d : List ℕ) → at + k ≤ length d → Putting k at n d d n 0
-putting-start k at n d h =
-    let z : k - 0 ≡ k = omega arith in
-    let a : at + 0 ≡ at = omega arith in
-    record { fits = h; i≤ = zero-le; len = refl; front = rw (z, a); rest = refl }
-
-little-suc : (m n : ℕ) → little (suc m) n ≡ (n % 256 ∷ []) ++ little m (n / 256)
+-- k bytes from byte i upward
+low-first : (i k n : ℕ) → bytes_low_first i k n ≡ little k (n / 256 ^ i)
 unfolding little
-little-suc m n = refl
-
-pub putting-turn : {k at n : ℕ} {d s : List ℕ} {left i : ℕ} → Putting k at n d s left i → i < k → Putting k at n d (set s (at + i) (left % 256)) (left / 256) (i + 1)
-putting-turn {k} {at} {n} {d} {s} {left} {i} P h =
-    let j = at + i in
-    let b : j < length s = omega (arith, P.fits, P.len) in
-    let x = left % 256 in
-    let e : k - i ≡ suc (k - (i + 1)) = omega arith in
-    let a : at + (i + 1) ≡ suc j = omega arith in
-    record {
-      fits = P.fits;
-      i≤ = omega arith;
-      len = length-set s j x ∙ P.len;
-      front = rw (a, take-suc-set s j x b, append_assoc) (rw (e, little-suc) at P.front);
-      rest = rw (a, drop-set-lt (suc j) s j x (omega arith)) (sym (one j s) ∙ ap (drop 1) P.rest ∙ one j d);
-    }
+low-first i zero n = refl
+low-first i (suc k) n =
+    let e : n / 256 ^ i / 256 ≡ n / 256 ^ suc i = simp unary_clauses (div-div-eq-div-mul n (256 ^ i) 256) in
+    let b : byte_at i n ≡ n / 256 ^ i % 256 = first i in
+    rw (e, b, low-first (suc i) k n)
   where
-    one : (j : ℕ) (l : List ℕ) → drop 1 (drop j l) ≡ drop (suc j) l
-    one j l = let q : j + 1 ≡ suc j = add-one j in rw (drop-drop 1 j l, q)
+    first : (i : ℕ) → byte_at i n ≡ n / 256 ^ i % 256
+    first zero = omega arith
+    first (suc i) = refl
 
-no_bytes : (n : ℕ) (l : List ℕ) → l ++ little 0 n ≡ l
-unfolding little
-no_bytes n l = append-nil l
+pub low-bytes : (k n : ℕ) → bytes_low_first 0 k n ≡ little k n
+low-bytes k n = low-first 0 k n ∙ ap (little k) (div-one n)
 
-pub putting-end : {k at n : ℕ} {d s : List ℕ} {left i : ℕ} → Putting k at n d s left i → k ≤ i → s ≡ take at d ++ little k n ++ drop (at + k) d
-putting-end {k} {at} {n} {d} {s} {left} {i} P h =
-    let e : i ≡ k = omega (arith, P.i≤) in
-    let z : k - k ≡ 0 = omega arith in
-    let f : take (at + k) s ++ little 0 left ≡ take at d ++ little k n = rw (e, z) at P.front in
-    sym (take-append-drop (at + k) s) ∙ rw (rw e at P.rest) (ap (λ (l : List ℕ). l ++ drop (at + k) d) (sym (no_bytes left (take (at + k) s)) ∙ f))
-
--- ---- one number is read, from its highest byte on
-
-pub record Reading (k : ℕ) (s : List ℕ) (at n i : ℕ) : Type 0 where
-  pub fits : at + k ≤ length s
-  pub i≤ : i ≤ k
-  pub is : n ≡ number (drop i (part at k s))
-
-length_part : (k at : ℕ) (s : List ℕ) → at + k ≤ length s → length (part at k s) ≡ k
-length_part k at s h = length-take-le k (drop at s) (rw (length-drop at s) (omega arith))
-
-number-none : 0 ≡ number []
+-- the number of the bytes from byte i upward
+pub number-from : (i : ℕ) (s : List ℕ) → number (drop i s) ≡ get_or s i 0 + 256 * number (drop (suc i) s)
 unfolding number
-number-none = refl
+number-from i [] = rw (drop-nil {A = ℕ} i) refl
+number-from zero (x ∷ s) = refl
+number-from (suc i) (x ∷ s) = number-from i s
 
-pub reading-start : (k at : ℕ) (s : List ℕ) → at + k ≤ length s → Reading k s at 0 k
-reading-start k at s h =
-    let l : length (part at k s) ≤ k = omega (arith, length_part k at s h) in
-    record { fits = h; i≤ = omega arith; is = rw (drop_of_length-le (part at k s) l) number-none }
-
-number-cons : (x : ℕ) (b : List ℕ) → number (x ∷ b) ≡ x + 256 * number b
+pub number-behind : (i : ℕ) (s : List ℕ) → length s ≡ i → number (drop i s) ≡ 0
 unfolding number
-number-cons x b = refl
-
-pub reading-turn : {k : ℕ} {s : List ℕ} {at n i : ℕ} → Reading k s at n i → 0 < i → Reading k s at (get_or s (at + (i - 1)) 0 + 256 * n) (i - 1)
-reading-turn {k} {s} {at} {n} {i} R h =
-    let j = i - 1 in
-    let e : i ≡ suc j = omega arith in
-    let b : j < length (part at k s) = rw (length_part k at s R.fits) (omega (arith, R.i≤)) in
-    let g : get_or (part at k s) j 0 ≡ get_or s (at + j) 0 = get_or-take k (drop at s) j 0 (omega (arith, R.i≤)) ∙ get_or-drop at s j 0 in
-    let r : n ≡ number (drop (suc j) (part at k s)) = rw e at R.is in
-    record {
-      fits = R.fits;
-      i≤ = omega (arith, R.i≤);
-      is = rw (drop-cons (part at k s) j 0 b, number-cons, g, r);
-    }
-
--- the number so far fits
-pub reading-fits : {k : ℕ} {s : List ℕ} {at n i : ℕ} → Reading k s at n i → Bytes s → n < 256 ^ k
-reading-fits {k} {s} {at} {n} {i} R b =
-    let h = number-under k (part at k s) (under-part 256 at k s (omega arith) b) (length_part k at s R.fits) in
-    omega (arith, R.is, number-drop i (part at k s))
-
-pub reading-end : {k : ℕ} {s : List ℕ} {at n i : ℕ} → Reading k s at n i → i ≤ 0 → n ≡ number (part at k s)
-reading-end {k} {s} {at} {n} {i} R h = let e : i ≡ 0 = omega arith in rw e at R.is
-
--- number i of those from a place on
-pub number-from : (k at i : ℕ) (s : List ℕ) {n : ℕ} → n ≡ number (part (at + k * i) k s) → n ≡ number_at k (drop at s) i
-number-from k at i s e = rw (drop-drop (k * i) at s) e
+number-behind i s e = let h : length s ≤ i = omega arith in rw (drop_of_length-le s h) refl
 
 -- ---- a slice with a list in its front, all else as it came
 
@@ -136,72 +71,57 @@ written-more {A} a m {p} {d} {s} {y} w W e f h g =
     let q : length (p ++ w) ≡ a + m = length-append p w ∙ omega arith in
     record { fits = omega arith; is = rw q (g ∙ rw (t, r)) }
 
--- one element
-pub written_one : {A : Type 0} (a : ℕ) {p d s : List A} (x : A) → Written p d s → length p ≡ a → a < length d → Written (p ++ (x ∷ [])) d (set s a x)
-written_one a {p} {d} {s} x W e h =
-    let b : a < length s = omega (arith, written-length W) in
-    let q : a + 1 ≡ suc a = add-one a in
-    written-more a 1 (x ∷ []) W e refl (omega arith)
-    (sym (take-append-drop (suc a) (set s a x)) ∙ rw (q, take-suc-set s a x b, drop-set-lt (suc a) s a x (omega arith)))
+-- a copy over a part of a slice
+pub copied : {A : Type 0} (a m : ℕ) (s : List A) {w z : List A} → z ≡ w → put_mid a (a + m - a) s z ≡ take a s ++ w ++ drop (a + m) s
+copied a m s e =
+    let k : a + m - a ≡ m = omega arith in
+    rw (k, e, drop-drop m a s, append_assoc) refl
+
+-- the m elements from a place on, as a part of a slice has them
+pub part-same : {A : Type 0} (a m : ℕ) (s : List A) → part a (a + m - a) s ≡ part a m s
+part-same a m s = let k : a + m - a ≡ m = omega arith in rw k refl
 
 -- ---- numbers are put one after the other
 
-pub record PuttingAll (k at n : ℕ) (v d s : List ℕ) (i : ℕ) : Type 0 where
-  pub held : n ≤ length v
-  pub fits : at + k * n ≤ length d
-  pub i≤ : i ≤ n
-  pub len : length s ≡ length d
-  pub written : Written (take at d ++ littles k (take i v)) d s
+module _ {A : Type 0} {k : ℕ} {bytes : A → List ℕ} {of_bytes : List ℕ → A} {all_bytes : List A → List ℕ} {all_of : ℕ → List ℕ → List A} (L : LittleLaws k bytes of_bytes all_bytes all_of) where
+  all-append : (xs ys : List A) → all_bytes (xs ++ ys) ≡ all_bytes xs ++ all_bytes ys
+  all-append [] ys = rw L.none refl
+  all-append (x ∷ xs) ys = rw (L.more x (xs ++ ys), L.more x xs, all-append xs ys) (sym (append_assoc (bytes x) (all_bytes xs) (all_bytes ys)))
 
-all-long : (k at i : ℕ) (v d : List ℕ) → i ≤ length v → at ≤ length d → length (take at d ++ littles k (take i v)) ≡ at + k * i
-all-long k at i v d h b =
-    let l : length (littles k (take i v)) ≡ k * i = length-littles k (take i v) ∙ rw (length-take-le i v h) in
-    length-append (take at d) (littles k (take i v)) ∙ rw (length-take-le at d b, l)
+  all-one : (x : A) → all_bytes (x ∷ []) ≡ bytes x
+  all-one x = rw (L.more, L.none) (append-nil (bytes x))
 
-pub all_start : (k at n : ℕ) (v d : List ℕ) → n ≤ length v → at + k * n ≤ length d → PuttingAll k at n v d d 0
-unfolding littles
-all_start k at n v d h f = record { held = h; fits = f; i≤ = zero-le; len = refl; written = written_none at d (omega arith) }
+  all-length : (xs : List A) → length (all_bytes xs) ≡ k * length xs
+  all-length [] = rw L.none (omega arith)
+  all-length (x ∷ xs) = rw (L.more, length-append) (omega (arith, L.long x, all-length xs, mul-suc k (length xs)))
 
-pub all-turn : {k at n : ℕ} {v d s y : List ℕ} {i : ℕ} → PuttingAll k at n v d s i → i < n → at + k * i + k ≤ length d
-    → y ≡ take (at + k * i) s ++ little k (get_or v i 0) ++ drop (at + k * i + k) s → PuttingAll k at n v d y (i + 1)
-all-turn {k} {at} {n} {v} {d} {s} {y} {i} P h r e =
-    let b : i < length v = omega (arith, P.held) in
-    let x = get_or v i 0 in
-    let W = written-more (at + k * i) k (little k x) P.written (all-long k at i v d (omega arith) (omega arith)) (length-little k x) r e in
-    let q : take at d ++ littles k (take (i + 1) v) ≡ take at d ++ littles k (take i v) ++ little k x =
-    rw (add-one i, take-suc v i 0 b, littles-append, littles-one) (sym (append_assoc (take at d) (littles k (take i v)) (little k x))) in
-    record { held = P.held; fits = P.fits; i≤ = omega arith; len = written-length W; written = rw q W }
+  pub record PuttingAll (at n : ℕ) (v : List A) (d s : List ℕ) (i : ℕ) : Type 0 where
+    pub held : n ≤ length v
+    pub fits : at + k * n ≤ length d
+    pub i≤ : i ≤ n
+    pub len : length s ≡ length d
+    pub written : Written (take at d ++ all_bytes (take i v)) d s
 
-pub all_end : {k at n : ℕ} {v d s : List ℕ} {i : ℕ} → PuttingAll k at n v d s i → n ≤ i → s ≡ take at d ++ littles k (take n v) ++ drop (at + k * n) d
-all_end {k} {at} {n} {v} {d} {s} {i} P h =
-    let e : i ≡ n = omega (arith, P.i≤) in
-    written_is (at + k * n) (rw e at P.written) (all-long k at n v d P.held (omega (arith, P.fits)))
+  all-long : (at i : ℕ) (v : List A) (d : List ℕ) → i ≤ length v → at ≤ length d → length (take at d ++ all_bytes (take i v)) ≡ at + k * i
+  all-long at i v d h b =
+      let l : length (all_bytes (take i v)) ≡ k * i = all-length (take i v) ∙ rw (length-take-le i v h) in
+      length-append (take at d) (all_bytes (take i v)) ∙ rw (length-take-le at d b, l)
 
--- ---- bytes are copied
+  pub all_start : (at n : ℕ) (v : List A) (d : List ℕ) → n ≤ length v → at + k * n ≤ length d → PuttingAll at n v d d 0
+  all_start at n v d h f = record { held = h; fits = f; i≤ = zero-le; len = refl; written = rw L.none (written_none at d (omega arith)) }
 
-pub record Copying (a b n : ℕ) (v d s : List ℕ) (i : ℕ) : Type 0 where
-  pub held : a + n ≤ length v
-  pub fits : b + n ≤ length d
-  pub i≤ : i ≤ n
-  pub len : length s ≡ length d
-  pub written : Written (take b d ++ part a i v) d s
+  pub all-turn : {at n : ℕ} {v : List A} {d s y : List ℕ} {i : ℕ} → (z : A) → PuttingAll at n v d s i → i < n
+      → y ≡ take (at + k * i) s ++ bytes (get_or v i z) ++ drop (at + k * i + k) s → PuttingAll at n v d y (i + 1)
+  all-turn {at} {n} {v} {d} {s} {y} {i} z P h e =
+      let r : at + k * i + k ≤ length d = omega (arith, P.fits, mul-suc k i, mul-le-mul_left k h) in
+      let b : i < length v = omega (arith, P.held) in
+      let x = get_or v i z in
+      let W = written-more (at + k * i) k (bytes x) P.written (all-long at i v d (omega arith) (omega arith)) (L.long x) r e in
+      let q : take at d ++ all_bytes (take (i + 1) v) ≡ take at d ++ all_bytes (take i v) ++ bytes x =
+      rw (add-one i, take-suc v i z b, all-append, all-one) (sym (append_assoc (take at d) (all_bytes (take i v)) (bytes x))) in
+      record { held = P.held; fits = P.fits; i≤ = omega arith; len = written-length W; written = rw q W }
 
-copied-long : (a b i : ℕ) (v d : List ℕ) → a + i ≤ length v → b ≤ length d → length (take b d ++ part a i v) ≡ b + i
-copied-long a b i v d h k = length-append (take b d) (part a i v) ∙ rw (length-take-le b d k, length_part i a v h)
-
-pub copying-start : (a b n : ℕ) (v d : List ℕ) → a + n ≤ length v → b + n ≤ length d → Copying a b n v d d 0
-copying-start a b n v d h f = record { held = h; fits = f; i≤ = zero-le; len = refl; written = written_none b d (omega arith) }
-
-pub copying-turn : {a b n : ℕ} {v d s : List ℕ} {i : ℕ} → Copying a b n v d s i → i < n → Copying a b n v d (set s (b + i) (get_or v (a + i) 0)) (i + 1)
-copying-turn {a} {b} {n} {v} {d} {s} {i} P h =
-    let x = get_or v (a + i) 0 in
-    let l : i < length (drop a v) = rw (length-drop a v) (omega (arith, P.held)) in
-    let W = written_one (b + i) x P.written (copied-long a b i v d (omega (arith, P.held)) (omega (arith, P.fits))) (omega (arith, P.fits)) in
-    let q : take b d ++ part a (i + 1) v ≡ take b d ++ part a i v ++ (x ∷ []) =
-    rw (add-one i, take-suc (drop a v) i 0 l, get_or-drop a v i 0) (sym (append_assoc (take b d) (part a i v) (x ∷ []))) in
-    record { held = P.held; fits = P.fits; i≤ = omega arith; len = written-length W; written = rw q W }
-
-pub copying-end : {a b n : ℕ} {v d s : List ℕ} {i : ℕ} → Copying a b n v d s i → n ≤ i → s ≡ take b d ++ part a n v ++ drop (b + n) d
-copying-end {a} {b} {n} {v} {d} {s} {i} P h =
-    let e : i ≡ n = omega (arith, P.i≤) in
-    written_is (b + n) (rw e at P.written) (copied-long a b n v d P.held (omega (arith, P.fits)))
+  pub all_end : {at n : ℕ} {v : List A} {d s : List ℕ} {i : ℕ} → PuttingAll at n v d s i → n ≤ i → s ≡ take at d ++ all_bytes (take n v) ++ drop (at + k * n) d
+  all_end {at} {n} {v} {d} {s} {i} P h =
+      let e : i ≡ n = omega (arith, P.i≤) in
+      written_is (at + k * n) (rw e at P.written) (all-long at n v d P.held (omega (arith, P.fits)))

@@ -1,131 +1,124 @@
-// Little-endian numbers in bytes, and the copy of bytes.
+// Little-endian numbers in bytes.
 
 #![tactic(auto)]
 
-ghost use Rattle.std.specs.Prelude.{◌≡◌, ◌++◌, ◌+◌, ◌*◌, ◌≤◌, length, take, drop};
+ghost use Rattle.std.specs.Prelude.{◌≡◌, ℕ, ◌++◌, ◌+◌, ◌*◌, ◌≤◌, List, length, take, drop};
 ghost use Rattle.lists.specs.Regions.{part};
 ghost use Rattle.encoding.specs.Encoding.{little, number, littles, numbers};
+ghost use Rattle.encoding.specs.Little.{LittleLaws, little-laws};
 
-// Puts a number into the four bytes at a place.
-pub fn put_u32(out: &mut [u8], at: usize, n: u32)
-    requires { at + 4 ≤ length out.old }
-    ensures { out.new ≡ take at out.old ++ little 4 n ++ drop (at + 4) out.old }
-{
-    let mut left = n;
-    let mut i = 0;
-    while i < 4 {
-        out[at + i] = (left % 256) as u8;
-        left = left / 256;
-        i += 1;
-    }
+// A number that is written in WIDTH bytes, the lowest byte first.
+pub trait Little: Copy {
+    ghost WIDTH: { ℕ };
+
+    // The bytes of a number, and the number of bytes.
+    ghost bytes: { Self → List ℕ };
+
+    ghost of_bytes: { List ℕ → Self };
+
+    // The same of numbers that stand one after the other.
+    ghost all_bytes: { List Self → List ℕ };
+
+    ghost all_of: { ℕ → List ℕ → List Self };
+
+    const WIDTH: usize;
+
+    // Writes the number over WIDTH bytes.
+    fn write(self, out: &mut [u8])
+        requires { length out.old ≡ WIDTH }
+        ensures { out.new ≡ bytes self };
+
+    // The number that WIDTH bytes are.
+    fn read(s: &[u8]) -> Self
+        requires { length s.now ≡ WIDTH }
+        ensures { result ≡ of_bytes s.now };
+
+    ghost laws: { LittleLaws WIDTH bytes of_bytes all_bytes all_of };
 }
 
-// Puts a number into the eight bytes at a place.
-pub fn put_u64(out: &mut [u8], at: usize, n: u64)
-    requires { at + 8 ≤ length out.old }
-    ensures { out.new ≡ take at out.old ++ little 8 n ++ drop (at + 8) out.old }
-{
-    let mut left = n;
-    let mut i = 0;
-    while i < 8 {
-        out[at + i] = (left % 256) as u8;
-        left = left / 256;
-        i += 1;
+impl Little for u32 {
+    ghost WIDTH = { 4 };
+
+    ghost bytes = { little 4 };
+
+    ghost of_bytes = { number };
+
+    ghost all_bytes = { littles 4 };
+
+    ghost all_of = { numbers 4 };
+
+    const WIDTH: usize = 4;
+
+    fn write(self, out: &mut [u8]) {
+        out.copy_from_slice(&self.to_le_bytes());
     }
+
+    fn read(s: &[u8]) -> u32 {
+        u32::from_le_bytes([s[0], s[1], s[2], s[3]])
+    }
+
+    ghost laws = { little-laws 4 };
 }
 
-// The number in the four bytes at a place.
-pub fn u32_at(s: &[u8], at: usize) -> u32
-    requires { at + 4 ≤ length s.now }
-    ensures { result ≡ number (part at 4 s.now) }
-{
-    let mut n: u32 = 0;
-    let mut i = 4;
-    while 0 < i {
-        i -= 1;
-        n = s[at + i] as u32 + 256 * n;
+impl Little for u64 {
+    ghost WIDTH = { 8 };
+
+    ghost bytes = { little 8 };
+
+    ghost of_bytes = { number };
+
+    ghost all_bytes = { littles 8 };
+
+    ghost all_of = { numbers 8 };
+
+    const WIDTH: usize = 8;
+
+    fn write(self, out: &mut [u8]) {
+        out.copy_from_slice(&self.to_le_bytes());
     }
-    n
+
+    fn read(s: &[u8]) -> u64 {
+        u64::from_le_bytes([s[0], s[1], s[2], s[3], s[4], s[5], s[6], s[7]])
+    }
+
+    ghost laws = { little-laws 8 };
 }
 
-// The number in the eight bytes at a place.
-pub fn u64_at(s: &[u8], at: usize) -> u64
-    requires { at + 8 ≤ length s.now }
-    ensures { result ≡ number (part at 8 s.now) }
+// Puts a number into the bytes at a place.
+pub fn put<T: Little>(out: &mut [u8], at: usize, n: T)
+    requires { at + T.WIDTH ≤ length out.old }
+    ensures { out.new ≡ take at out.old ++ T.bytes n ++ drop (at + T.WIDTH) out.old }
 {
-    let mut n: u64 = 0;
-    let mut i = 8;
-    while 0 < i {
-        i -= 1;
-        n = s[at + i] as u64 + 256 * n;
-    }
-    n
+    n.write(&mut out[at..at + T::WIDTH]);
 }
 
-// Puts the first n numbers one after the other from a place on, four bytes each.
-pub fn put_u32s(out: &mut [u8], at: usize, v: &[u32], n: usize)
+// The number in the bytes at a place.
+pub fn get<T: Little>(s: &[u8], at: usize) -> T
+    requires { at + T.WIDTH ≤ length s.now }
+    ensures { result ≡ T.of_bytes (part at T.WIDTH s.now) }
+{
+    T::read(&s[at..at + T::WIDTH])
+}
+
+// Puts the first n numbers one after the other from a place on.
+pub fn put_all<T: Little>(out: &mut [u8], at: usize, v: &[T], n: usize)
     requires n_in_bounds { n ≤ length v.now }
-    requires n_in_bounds_2 { at + 4 * n ≤ length out.old }
-    ensures { out.new ≡ take at out.old ++ littles 4 (take n v.now)
-        ++ drop (at + 4 * n) out.old }
+    requires n_in_bounds_2 { at + T.WIDTH * n ≤ length out.old }
+    ensures { out.new ≡ take at out.old ++ T.all_bytes (take n v.now)
+        ++ drop (at + T.WIDTH * n) out.old }
 {
-    let mut i = 0;
-    while i < n {
-        put_u32(out, at + 4 * i, v[i]);
-        i += 1;
+    for i in 0..n {
+        put(out, at + T::WIDTH * i, v[i]);
     }
 }
 
-// The same at eight bytes each.
-pub fn put_u64s(out: &mut [u8], at: usize, v: &[u64], n: usize)
-    requires n_in_bounds { n ≤ length v.now }
-    requires n_in_bounds_2 { at + 8 * n ≤ length out.old }
-    ensures { out.new ≡ take at out.old ++ littles 8 (take n v.now)
-        ++ drop (at + 8 * n) out.old }
-{
-    let mut i = 0;
-    while i < n {
-        put_u64(out, at + 8 * i, v[i]);
-        i += 1;
-    }
-}
-
-// Reads n numbers that stand one after the other from a place on, four bytes each.
-pub fn get_u32s(s: &[u8], at: usize, out: &mut [u32], n: usize)
-    requires n_in_bounds { at + 4 * n ≤ length s.now }
+// Reads n numbers that stand one after the other from a place on.
+pub fn get_all<T: Little>(s: &[u8], at: usize, out: &mut [T], n: usize)
+    requires n_in_bounds { at + T.WIDTH * n ≤ length s.now }
     requires n_in_bounds_2 { n ≤ length out.old }
-    ensures { out.new ≡ numbers 4 n (drop at s.now) ++ drop n out.old }
+    ensures { out.new ≡ T.all_of n (drop at s.now) ++ drop n out.old }
 {
-    let mut i = 0;
-    while i < n {
-        out[i] = u32_at(s, at + 4 * i);
-        i += 1;
-    }
-}
-
-// The same at eight bytes each.
-pub fn get_u64s(s: &[u8], at: usize, out: &mut [u64], n: usize)
-    requires n_in_bounds { at + 8 * n ≤ length s.now }
-    requires n_in_bounds_2 { n ≤ length out.old }
-    ensures { out.new ≡ numbers 8 n (drop at s.now) ++ drop n out.old }
-{
-    let mut i = 0;
-    while i < n {
-        out[i] = u64_at(s, at + 8 * i);
-        i += 1;
-    }
-}
-
-// Copies n bytes from one place of a slice to a place of another.
-pub fn copy_bytes(s: &[u8], from: usize, out: &mut [u8], to: usize, n: usize)
-    requires n_in_bounds { from + n ≤ length s.now }
-    requires n_in_bounds_2 { to + n ≤ length out.old }
-    ensures { out.new ≡ take to out.old ++ part from n s.now
-        ++ drop (to + n) out.old }
-{
-    let mut i = 0;
-    while i < n {
-        out[to + i] = s[from + i];
-        i += 1;
+    for i in 0..n {
+        out[i] = get(s, at + T::WIDTH * i);
     }
 }

@@ -8,11 +8,6 @@ use Rattle.numeric.specs.Num.{zero_f}
 use Rattle.band.specs.declared.Band.{Band}
 use Rattle.setting.specs.Settings.{Setting, setting_of}
 use Rattle.rule_sheet.specs.declared.Counts.{Counts}
-use Rattle.rule_sheet.specs.declared.Verdict.{Verdict}
-use Rattle.rule_sheet.specs.declared.Verdict.TheVariants as verdicts
-use Rattle.rule_sheet.specs.declared.Answer.{Answer}
-use Rattle.rule_sheet.specs.declared.Answer.TheVariants.{Refused}
-use Rattle.rule_sheet.specs.Numbers.{short}
 use Rattle.rule_sheet.specs.Sheet.{Sheet}
 use Rattle.rule_sheet.specs.Lent.{Lent, Room, Work, room_of, work_with, before_verdict}
 use Rattle.rule_sheet.specs.Outcomes.{Outcome, refuses, RunEnd, after_test}
@@ -21,10 +16,14 @@ use Rattle.rule_exports.specs.Told.{Told, band_of, is_short_told, by_told, drawn
 use Rattle.rule_exports.specs.Exports.{Shows, is_short_answer, with_answer, ExportMakes, ExportAlters, ExportAltersQuads}
 use Rattle.sheet.specs.Results.{cleared}
 use Rattle.sheet.proofs.Results.{refused-fills, fills-leaves}
+use Rattle.std.specs.Prelude.{Err}
+use Rattle.rule_sheet.specs.Verdicts.{Verdict, Answer, Accepted}
+use Rattle.rule_sheet.specs.declared.Refusal.{Refusal}
+use Rattle.rule_sheet.specs.declared.Refusal.TheVariants.{Short}
 
 -- cleared slices are what a refusal leaves
-pub cleared-makes : (n : ℕ) (P : List Float) (Q L : List ℕ) {P' : List Float} {Q' L' : List ℕ} → P' ≡ cleared zero_f (3 * 0) P → Q' ≡ cleared 0 (4 * 0) Q → L' ≡ cleared 0 0 L
-    → Makes (refuses n) (room_of P Q L) (Refused n) P' Q' L'
+pub cleared-makes : (n : Refusal) (P : List Float) (Q L : List ℕ) {P' : List Float} {Q' L' : List ℕ} → P' ≡ cleared zero_f (3 * 0) P → Q' ≡ cleared 0 (4 * 0) Q → L' ≡ cleared 0 0 L
+    → Makes (refuses n) (room_of P Q L) (Err n) P' Q' L'
 unfolding shown_counts
 cleared-makes n P Q L e f g = rw (e, f, g) (fills-leaves (refused-fills n P Q L))
 
@@ -46,7 +45,7 @@ pub answer-makes : (c : Counts) (o : Outcome Sheet) {v : Verdict} {room : Room} 
 answer-makes c o ev M S = shown-makes (rw ev at M) S
 
 pub drawn-makes : (few : Bool) (t : Told) (w : Work) (rule : Setting → Work → Outcome Sheet) {v : Verdict} {b : Band} {room : Room} {r : Answer} {P : List Float} {Q L l l' : List ℕ} {n : ℕ}
-    → v ≡ cond (is_short_told t) (verdicts.Refused short) verdicts.Accepted → b ≡ band_of t → Makes (after_test v (rule (setting_of b) (cond few (work_with 0 0) w))) room r P Q L → Shows r l n l'
+    → v ≡ cond (is_short_told t) (Err Short) Accepted → b ≡ band_of t → Makes (after_test v (rule (setting_of b) (cond few (work_with 0 0) w))) room r P Q L → Shows r l n l'
     → ExportMakes (drawn_by_told few t w rule) room l n P Q L l'
 drawn-makes few t w rule ev eb M S = shown-makes (rw (ev, eb) at M) S
 

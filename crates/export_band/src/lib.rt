@@ -3,21 +3,21 @@
 
 #![tactic(auto)]
 
-ghost use Rattle.std.specs.Prelude.{◌≡◌, cond, ◌||◌, ltb, get_or};
+ghost use Rattle.std.specs.Prelude.{Err, ◌≡◌, cond, ◌||◌, ltb, get_or};
 ghost use Rattle.std.specs.Float.{nan};
-ghost use Rattle.rule_sheet.specs.declared.Verdict.TheVariants.{Accepted, Refused};
-ghost use Rattle.rule_sheet.specs.Numbers.{short};
+ghost use Rattle.rule_sheet.specs.declared.Refusal.TheVariants.{Short};
 ghost use Rattle.rule_sheet.specs.Lent.{room_of, before_verdict};
 ghost use Rattle.rule_sheet.specs.Outcomes.{refuses};
 ghost use Rattle.rule_sheet.specs.Results.{Makes, Cleared};
 ghost use Rattle.rule_exports.specs.Told.{told_of, coefficients_of, field_of, lower_of, band_of};
-ghost use Rattle.rule_exports.specs.Exports.{answer_number, verdict_number, answer_count, Shows};
+ghost use Rattle.rule_exports.specs.Exports.{answer_number, answer_count, Shows};
 ghost use Rattle.export_band.specs.Steps.{counts_left};
+ghost use Rattle.rule_sheet.specs.Verdicts.{Accepted};
 
 use band::Band;
 use field::{Coefficients, Field};
 use points::Point;
-use rule_sheet::{Answer, Counts, Verdict};
+use rule_sheet::{Counts, Refusal, Tally};
 
 // The numbers of the kinds of field.
 const PLANE: u32 = 0;
@@ -37,7 +37,7 @@ pub const ANSWERS: usize = 4;
 pub fn at_or_nan(s: &[f64], i: usize) -> f64
     ensures { result ≡ get_or s.now i nan }
 {
-    if i < s.len() { s[i] } else { 0.0 / 0.0 }
+    s.get(i).copied().unwrap_or(f64::NAN)
 }
 
 // The first ten numbers of a slice.
@@ -62,23 +62,18 @@ pub fn coefficients(k: &[f64]) -> Coefficients
 pub fn field_of(kind: u32, k: Coefficients) -> Field
     ensures { result ≡ field_of kind k }
 {
-    if kind == PLANE {
-        return Field::Plane(k.k0, k.k1, k.k2, k.k3);
+    match kind {
+        PLANE => Field::Plane(k.k0, k.k1, k.k2, k.k3),
+        BALL => Field::Ball(k.k0, k.k1, k.k2, k.k3),
+        _ => Field::Quadric(k),
     }
-    if kind == BALL {
-        return Field::Ball(k.k0, k.k1, k.k2, k.k3);
-    }
-    Field::Quadric(k)
 }
 
 // The lower level of a band: not a number for a kind that is none.
 fn lower_of(kind: u32, lower: f64) -> f64
     ensures { result ≡ lower_of kind lower }
 {
-    if QUADRIC < kind {
-        return 0.0 / 0.0;
-    }
-    lower
+    if QUADRIC < kind { f64::NAN } else { lower }
 }
 
 // The band of a field and the bounds low x, y, z and high x, y, z.
@@ -114,56 +109,46 @@ pub fn is_short_told(numbers: usize, bounds: usize) -> bool
 
 // What comes before an operation on a lent sheet, of an export that is told a band: 12, then 13; few where what it
 // answers in is too short.
-pub fn told_verdict(c: Counts, few: bool, numbers: usize, bounds: usize) -> Verdict
+pub fn told_verdict(c: Counts, few: bool, numbers: usize, bounds: usize) -> Result<(), Refusal>
     ensures { result ≡ before_verdict c (few || (ltb numbers 10 || ltb bounds 6)) }
 {
     sheet::before_verdict(c, few | is_short_told(numbers, bounds))
 }
 
 // The same of an export that is told no band.
-pub fn answer_verdict(c: Counts, answers: usize) -> Verdict
+pub fn answer_verdict(c: Counts, answers: usize) -> Result<(), Refusal>
     ensures { result ≡ before_verdict c (ltb answers 4) }
 {
     sheet::before_verdict(c, answers < ANSWERS)
 }
 
 // What comes before extraction: 13 for numbers and bounds, without which there is no band.
-pub fn band_verdict(numbers: usize, bounds: usize) -> Verdict
-    ensures { result ≡ cond (ltb numbers 10 || ltb bounds 6) (Refused short) Accepted }
+pub fn band_verdict(numbers: usize, bounds: usize) -> Result<(), Refusal>
+    ensures { result ≡ cond (ltb numbers 10 || ltb bounds 6) (Err Short) Accepted }
 {
     if is_short_told(numbers, bounds) {
-        return Verdict::Refused(sheet::SHORT);
+        return Err(Refusal::Short);
     }
-    Verdict::Accepted
-}
-
-// The number of a verdict: 0 if accepted.
-pub fn verdict_number(v: Verdict) -> u32
-    ensures { result ≡ verdict_number v }
-{
-    match v {
-        Verdict::Accepted => 0,
-        Verdict::Refused(n) => n,
-    }
+    Ok(())
 }
 
 // The number of an answer: 0 if accepted.
-fn answer_number(r: Answer) -> u32
+pub fn answer_number<T: Copy>(r: Result<T, Refusal>) -> u32
     ensures { result ≡ answer_number r }
 {
     match r {
-        Answer::Done(_) => 0,
-        Answer::Refused(n) => n,
+        Ok(_) => 0,
+        Err(refusal) => refusal.number(),
     }
 }
 
 // Its count: 0 if refused.
-fn answer_count(r: Answer) -> usize
+fn answer_count(r: Result<Tally, Refusal>) -> usize
     ensures { result ≡ answer_count r }
 {
     match r {
-        Answer::Done(t) => t.count,
-        Answer::Refused(_) => 0,
+        Ok(t) => t.count,
+        Err(_) => 0,
     }
 }
 
@@ -174,14 +159,11 @@ fn put_counts(answer: &mut [u64], count: u64, c: Counts)
     if answer.len() < ANSWERS {
         return;
     }
-    answer[0] = count;
-    answer[1] = c.points as u64;
-    answer[2] = c.quads as u64;
-    answer[3] = c.labels as u64;
+    answer[..ANSWERS].copy_from_slice(&[count, c.points as u64, c.quads as u64, c.labels as u64]);
 }
 
 // Shows an answer: its number, and its counts in the answer slice.
-pub fn put_answer(answer: &mut [u64], r: Answer) -> u32
+pub fn put_answer(answer: &mut [u64], r: Result<Tally, Refusal>) -> u32
     ensures { Shows r answer.old result answer.new }
 {
     put_counts(answer, answer_count(r) as u64, sheet::shown_counts(r));
@@ -190,14 +172,14 @@ pub fn put_answer(answer: &mut [u64], r: Answer) -> u32
 
 // A refusal of an operation that makes a sheet: zeros in its result and work slices.
 pub fn refuse(
-    n: u32,
+    refusal: Refusal,
     new_points: &mut [f64],
     new_quads: &mut [u32],
     new_labels: &mut [u8],
     work: &mut [u32],
     floats: &mut [f64],
-) -> Answer
-    ensures makes { Makes (refuses n) (room_of new_points.old new_quads.old
+) -> Result<Tally, Refusal>
+    ensures makes { Makes (refuses refusal) (room_of new_points.old new_quads.old
         new_labels.old) result new_points.new new_quads.new
         new_labels.new }
     ensures cleared { Cleared work.old floats.old work.new floats.new }
@@ -209,5 +191,5 @@ pub fn refuse(
     };
     sheet::clear_unused(none, new_points, new_quads, new_labels);
     sheet::clear_work(work, floats);
-    Answer::Refused(n)
+    Err(refusal)
 }

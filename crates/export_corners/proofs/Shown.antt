@@ -6,22 +6,23 @@ use mathlib.Core.List.{List, [], ◌∷◌}
 use Rattle.band.specs.declared.Band.{Band}
 use Rattle.setting.specs.Settings.{Setting, setting_of}
 use Rattle.rule_sheet.specs.declared.Counts.{Counts}
-use Rattle.rule_sheet.specs.declared.Verdict.{Verdict}
 use Rattle.rule_sheet.specs.Lent.{before_verdict}
 use Rattle.rule_sheet.specs.Outcomes.{Outcome, after_test}
 use Rattle.rule_corners.specs.declared.Ratio.{Ratio}
-use Rattle.rule_corners.specs.declared.Divided.{Divided}
-use Rattle.rule_corners.specs.declared.Divided.TheVariants.{Done, Refused}
 use Rattle.rule_corners.specs.Corners.{divided_of}
 use Rattle.rule_exports.specs.Told.{Told, band_of, is_short_told, by_told}
 use Rattle.rule_exports.specs.Measured.{fronted}
 use Rattle.rule_exports.specs.Divided.{ratio_shown, ShowsRatio}
+use Rattle.std.specs.Prelude.{Ok, Err}
+use Rattle.rule_sheet.specs.Verdicts.{Verdict}
+use Rattle.rule_corners.specs.Corners.{Divided}
+use Rattle.rule_sheet.specs.declared.Refusal.{Refusal}
 
-pub done-shown : (r : Divided) (q : Ratio) (l : List ℕ) {l' : List ℕ} → r ≡ Done q → l' ≡ fronted (q.quotient ∷ q.remainder ∷ []) l → l' ≡ fronted (ratio_shown r) l
+pub done-shown : (r : Divided) (q : Ratio) (l : List ℕ) {l' : List ℕ} → r ≡ Ok q → l' ≡ fronted (q.quotient ∷ q.remainder ∷ []) l → l' ≡ fronted (ratio_shown r) l
 unfolding ratio_shown
 done-shown r q l e el = rw e el
 
-pub refused-shown : (r : Divided) (n : ℕ) (l : List ℕ) {l' : List ℕ} → r ≡ Refused n → l' ≡ fronted (0 ∷ 0 ∷ []) l → l' ≡ fronted (ratio_shown r) l
+pub refused-shown : (r : Divided) (n : Refusal) (l : List ℕ) {l' : List ℕ} → r ≡ Err n → l' ≡ fronted (0 ∷ 0 ∷ []) l → l' ≡ fronted (ratio_shown r) l
 unfolding ratio_shown
 refused-shown r n l e el = rw e el
 

@@ -10,7 +10,7 @@ ghost use Rattle.rule_sheet.specs.Results.{Makes, Cleared};
 ghost use Rattle.rule_extract.specs.Drawing.{extract_rule};
 
 use band::Band;
-use rule_sheet::{Answer, Verdict};
+use rule_sheet::{Refusal, Tally};
 
 // `extract_candidate` with no work: its refusal, with the slices cleared that it is lent.
 fn extract_idle(
@@ -21,7 +21,7 @@ fn extract_idle(
     new_labels: &mut [u8],
     work: &mut [u32],
     floats: &mut [f64],
-) -> Answer
+) -> Result<Tally, Refusal>
     ensures fact { let room = room_of new_points.old new_quads.old new_labels.old in
         Makes (extract_rule (domain_of b) cells (work_with 0 0) room) room result
         new_points.new new_quads.new new_labels.new }
@@ -42,7 +42,7 @@ fn extract_idle(
 
 // `extract_candidate` after a test; few where what it answers in is too short, which counts as no work.
 pub fn extract_after(
-    v: Verdict,
+    v: Result<(), Refusal>,
     few: bool,
     b: Band,
     cells: usize,
@@ -51,15 +51,15 @@ pub fn extract_after(
     new_labels: &mut [u8],
     work: &mut [u32],
     floats: &mut [f64],
-) -> Answer
+) -> Result<Tally, Refusal>
     ensures fact { let room = room_of new_points.old new_quads.old new_labels.old in
         let w = cond few (work_with 0 0) (work_of work.old floats.old) in
         Makes (after_test v (extract_rule (domain_of b) cells w room)) room result
         new_points.new new_quads.new new_labels.new }
     ensures cleared { Cleared work.old floats.old work.new floats.new }
 {
-    if let Verdict::Refused(n) = v {
-        return export_band::refuse(n, new_points, new_quads, new_labels, work, floats);
+    if let Err(refusal) = v {
+        return export_band::refuse(refusal, new_points, new_quads, new_labels, work, floats);
     }
     if few {
         return extract_idle(b, cells, new_points, new_quads, new_labels, work, floats);

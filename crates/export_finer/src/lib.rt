@@ -11,11 +11,11 @@ ghost use Rattle.rule_finer.specs.Subdivide.{subdivide_rule};
 ghost use Rattle.rule_rows.specs.Rows.{rows_rule};
 
 use band::Band;
-use rule_sheet::{Answer, Counts, Verdict};
+use rule_sheet::{Counts, Refusal, Tally};
 
 // `refine` after a test.
 pub fn refine_after(
-    v: Verdict,
+    v: Result<(), Refusal>,
     c: Counts,
     points: &[f64],
     quads: &[u32],
@@ -25,7 +25,7 @@ pub fn refine_after(
     new_labels: &mut [u8],
     work: &mut [u32],
     floats: &mut [f64],
-) -> Answer
+) -> Result<Tally, Refusal>
     ensures fact { let x = lent_of c points.now quads.now labels.now in
         let room = room_of new_points.old new_quads.old new_labels.old in
         let w = work_of work.old floats.old in
@@ -33,8 +33,8 @@ pub fn refine_after(
         new_points.new new_quads.new new_labels.new }
     ensures cleared { Cleared work.old floats.old work.new floats.new }
 {
-    if let Verdict::Refused(n) = v {
-        return export_band::refuse(n, new_points, new_quads, new_labels, work, floats);
+    if let Err(refusal) = v {
+        return export_band::refuse(refusal, new_points, new_quads, new_labels, work, floats);
     }
     refine::refine(
         c, points, quads, labels, new_points, new_quads, new_labels, work, floats,
@@ -43,7 +43,7 @@ pub fn refine_after(
 
 // `subdivide` after a test.
 pub fn subdivide_after(
-    v: Verdict,
+    v: Result<(), Refusal>,
     b: Band,
     c: Counts,
     points: &[f64],
@@ -54,7 +54,7 @@ pub fn subdivide_after(
     new_labels: &mut [u8],
     work: &mut [u32],
     floats: &mut [f64],
-) -> Answer
+) -> Result<Tally, Refusal>
     ensures fact { let x = lent_of c points.now quads.now labels.now in
         let room = room_of new_points.old new_quads.old new_labels.old in
         let w = work_of work.old floats.old in
@@ -62,8 +62,8 @@ pub fn subdivide_after(
         new_points.new new_quads.new new_labels.new }
     ensures cleared { Cleared work.old floats.old work.new floats.new }
 {
-    if let Verdict::Refused(n) = v {
-        return export_band::refuse(n, new_points, new_quads, new_labels, work, floats);
+    if let Err(refusal) = v {
+        return export_band::refuse(refusal, new_points, new_quads, new_labels, work, floats);
     }
     subdivide::subdivide(
         b, c, points, quads, labels, new_points, new_quads, new_labels, work, floats,
@@ -72,7 +72,7 @@ pub fn subdivide_after(
 
 // `boundary_rows` after a test.
 pub fn rows_after(
-    v: Verdict,
+    v: Result<(), Refusal>,
     b: Band,
     c: Counts,
     points: &[f64],
@@ -83,7 +83,7 @@ pub fn rows_after(
     new_labels: &mut [u8],
     work: &mut [u32],
     floats: &mut [f64],
-) -> Answer
+) -> Result<Tally, Refusal>
     ensures fact { let x = lent_of c points.now quads.now labels.now in
         let room = room_of new_points.old new_quads.old new_labels.old in
         let w = work_of work.old floats.old in
@@ -91,8 +91,8 @@ pub fn rows_after(
         new_points.new new_quads.new new_labels.new }
     ensures cleared { Cleared work.old floats.old work.new floats.new }
 {
-    if let Verdict::Refused(n) = v {
-        return export_band::refuse(n, new_points, new_quads, new_labels, work, floats);
+    if let Err(refusal) = v {
+        return export_band::refuse(refusal, new_points, new_quads, new_labels, work, floats);
     }
     rows::boundary_rows(
         b, c, points, quads, labels, new_points, new_quads, new_labels, work, floats,

@@ -9,12 +9,12 @@ ghost use Rattle.rule_job.specs.Jobs.{job_room_with, job_room_of, save_rule, Sav
 ghost use Rattle.rule_exports.specs.Measured.{fronted};
 ghost use Rattle.rule_exports.specs.Jobs.{is_short_sum, sum_shown, sum_answered, ShowsSum};
 
-use rule_job::{Sum, Trailer};
-use rule_sheet::{Answer, Counts, Verdict};
+use rule_job::Trailer;
+use rule_sheet::{Counts, Refusal, Tally};
 
 // `save` after a test: its refusal, or the operation.
 pub fn save_after(
-    v: Verdict,
+    v: Result<(), Refusal>,
     header: &[u64],
     points: &[u64],
     quads: &[u32],
@@ -22,16 +22,16 @@ pub fn save_after(
     c: Counts,
     work: &mut [u32],
     file: &mut [u8],
-) -> Answer
+) -> Result<Tally, Refusal>
     ensures fact { let x = job_of c header.now points.now quads.now labels.now in
         let n = length file.old in
         Saves (after_test v (save_rule x (length work.old) n)) n result file.new }
     ensures work_after { work.new ≡ replicate (length work.old) 0 }
 {
-    if let Verdict::Refused(n) = v {
+    if let Err(refusal) = v {
         lists::clear(work);
-        lists::clear_u8(file);
-        return Answer::Refused(n);
+        lists::clear(file);
+        return Err(refusal);
     }
     job_save::save(header, points, quads, labels, c, work, file)
 }
@@ -44,7 +44,7 @@ fn open_idle(
     quads: &mut [u32],
     labels: &mut [u8],
     work: &mut [u32],
-) -> Answer
+) -> Result<Tally, Refusal>
     ensures fact { let room = job_room_of header.old points.old quads.old labels.old
         work.old in
         Opens (open_rule file.now (job_room_with 0 0 0 0 0)) room result
@@ -59,10 +59,10 @@ fn open_idle(
         &mut labels[..0],
         &mut work[..0],
     );
-    lists::clear_u64(header);
-    lists::clear_u64(points);
+    lists::clear(header);
+    lists::clear(points);
     lists::clear(quads);
-    lists::clear_u8(labels);
+    lists::clear(labels);
     lists::clear(work);
     r
 }
@@ -76,7 +76,7 @@ pub fn open_after(
     quads: &mut [u32],
     labels: &mut [u8],
     work: &mut [u32],
-) -> Answer
+) -> Result<Tally, Refusal>
     ensures fact { let room = job_room_of header.old points.old quads.old labels.old
         work.old in
         Opens (open_rule file.now (cond few (job_room_with 0 0 0 0 0) room)) room result
@@ -99,33 +99,32 @@ fn put_two(answer: &mut [u64], a: u64, b: u64)
     requires { 2 ≤ length answer.old }
     ensures { answer.new ≡ fronted (a ∷ b ∷ []) answer.old }
 {
-    answer[0] = a;
-    answer[1] = b;
+    answer[..ANSWERS].copy_from_slice(&[a, b]);
 }
 
 // Writes what is said of the sum: 1 and the sum, or zeros where none is written.
-fn put_sum(answer: &mut [u64], s: Sum)
+fn put_sum(answer: &mut [u64], s: Option<u64>)
     requires { 2 ≤ length answer.old }
     ensures { answer.new ≡ fronted (sum_shown (gives s)) answer.old }
 {
     match s {
-        Sum::Missing => put_two(answer, 0, 0),
-        Sum::Written(n) => put_two(answer, 1, n),
+        None => put_two(answer, 0, 0),
+        Some(n) => put_two(answer, 1, n),
     }
 }
 
 // The number where the answer slice is too short: 14, or else 13.
-fn short_number(t: Trailer) -> u32
+fn short_number(t: Option<Trailer>) -> u32
     ensures { result ≡ sum_answered (sum_by t true) }
 {
     match t {
-        Trailer::Found(_, _) => sheet::SHORT,
-        Trailer::Broken => job_open::BAD_TRAILER,
+        Some(_) => Refusal::Short.number(),
+        None => Refusal::Trailer.number(),
     }
 }
 
 // Shows what a trailer says of the sum: 14, 13, or the sum. A slice that is too short stays as it came.
-fn show_sum(answer: &mut [u64], t: Trailer) -> u32
+fn show_sum(answer: &mut [u64], t: Option<Trailer>) -> u32
     ensures { ShowsSum (sum_by t (is_short_sum answer.old)) answer.old result
         answer.new }
 {
@@ -133,13 +132,13 @@ fn show_sum(answer: &mut [u64], t: Trailer) -> u32
         return short_number(t);
     }
     match t {
-        Trailer::Found(_, s) => {
-            put_sum(answer, s);
+        Some(told) => {
+            put_sum(answer, told.sum);
             0
         }
-        Trailer::Broken => {
+        None => {
             put_two(answer, 0, 0);
-            job_open::BAD_TRAILER
+            Refusal::Trailer.number()
         }
     }
 }

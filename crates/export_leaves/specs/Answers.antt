@@ -1,5 +1,5 @@
 -- What the exports of single functions answer: a value, or a number, 0 if accepted, with a point or masks in a slice.
-use Rattle.std.specs.Prelude.{ℕ, ◌/◌, ◌≡◌, cond, List, eqb, ltb, Float, length}
+use Rattle.std.specs.Prelude.{ℕ, ◌/◌, ◌≡◌, cond, List, eqb, ltb, Float, length, Err, Some, None, Option}
 use Rattle.std.specs.Float.Ieee.{div, of_bits}
 use Rattle.std.specs.Float.{binary64}
 use Rattle.points.specs.declared.Point.{Point}
@@ -7,18 +7,16 @@ use Rattle.points.specs.Steps.{with_point}
 use Rattle.field.specs.Fields.{value_of}
 use Rattle.band.specs.declared.Band.{Band}
 use Rattle.band.specs.Bands.{length_of, gradient_with, normal_of, valid_of}
-use Rattle.projection.specs.declared.Projected.{Projected}
-use Rattle.projection.specs.declared.Projected.TheVariants as projections
 use Rattle.projection.specs.Project.{longest_move, look_count, project_with}
-use Rattle.rule_sheet.specs.declared.Verdict.{Verdict}
-use Rattle.rule_sheet.specs.declared.Verdict.TheVariants as verdicts
 use Rattle.rule_sheet.specs.Sheet.{sheet_verdict}
 use Rattle.rule_sheet.specs.Lent.{Lent, lent_of, held, is_large}
+use Rattle.rule_sheet.specs.Numbers.{refusal_number}
 use Rattle.rule_sheet.specs.Outcomes.{Outcome, refuses, gives}
 use Rattle.rule_exports.specs.Told.{Told, coefficients_of, field_of, band_of, is_short_told}
-use Rattle.rule_exports.specs.Exports.{verdict_number}
-use Rattle.rule_exports.specs.Refusals.{box, astray, large, short}
+use Rattle.rule_exports.specs.Exports.{answer_number}
 use Rattle.sheet.specs.Sheet.{masks_of, MasksIf}
+use Rattle.rule_sheet.specs.Verdicts.{Verdict}
+use Rattle.rule_sheet.specs.declared.Refusal.TheVariants.{Box, Astray, Large, Short}
 
 -- the point of three coordinates
 abbrev pub point_of : Float → Float → Float → Point
@@ -32,7 +30,7 @@ value_at kind k x y z =
 
 -- 13 where too little is told of a band, else what the band gives
 abbrev pub of_band : {A : Type 0} → Told → (Band → Outcome A) → Outcome A
-of_band t answer = cond (is_short_told t) (refuses short) (answer (band_of t))
+of_band t answer = cond (is_short_told t) (refuses Short) (answer (band_of t))
 
 -- ---- a point
 
@@ -45,9 +43,9 @@ abbrev pub normal_at : Point → ℕ → Band → Outcome Point
 normal_at p label b = gives (normal_of b p label)
 
 -- 9 where a projection fails
-abbrev pub onto_or_astray : Projected → Outcome Point
-onto_or_astray (projections.Onto p) = gives p
-onto_or_astray projections.Refused = refuses astray
+abbrev pub onto_or_astray : Option Point → Outcome Point
+onto_or_astray (Some p) = gives p
+onto_or_astray None = refuses Astray
 
 -- the projection by a mask
 abbrev pub projection_at : Point → ℕ → Band → Outcome Point
@@ -55,8 +53,8 @@ projection_at p mask b = onto_or_astray (project_with b (length_of b) longest_mo
 
 -- the number of an export whose point goes to the slice l: 13 if l has fewer than three elements
 unfoldable pub point_number : Outcome Point → List Float → ℕ
-point_number (refuses n) l = n
-point_number (gives p) l = cond (ltb (length l) 3) short 0
+point_number (refuses n) l = refusal_number n
+point_number (gives p) l = cond (ltb (length l) 3) (refusal_number Short) 0
 
 -- the slice at its end
 unfoldable pub point_left : Outcome Point → List Float → List Float
@@ -72,7 +70,7 @@ pub record ShowsPoint (o : Outcome Point) (l : List Float) (n : ℕ) (l' : List 
 
 -- 13 where too little is told of a band, 1 where it fails `validate`
 unfoldable pub band_number : Told → ℕ
-band_number t = cond (is_short_told t) short (cond (valid_of (band_of t)) 0 box)
+band_number t = cond (is_short_told t) (refusal_number Short) (cond (valid_of (band_of t)) 0 (refusal_number Box))
 
 -- the sheet that fills its slices
 abbrev pub filling : List Float → List ℕ → List ℕ → Lent
@@ -81,15 +79,15 @@ filling P Q L = lent_of (record { points = length P / 3; quads = length Q / 4; l
 -- the tests of a sheet and of its band: 12, 13 if there is not a mask for each point, 1, then 5, 6 and 7
 unfoldable pub sheet_tests : Band → Lent → ℕ → Verdict
 sheet_tests b x masks =
-    cond (is_large x.counts) (verdicts.Refused large)
-    (cond (eqb masks x.counts.points) (cond (valid_of b) (sheet_verdict (held x)) (verdicts.Refused box))
-    (verdicts.Refused short))
+    cond (is_large x.counts) (Err Large)
+    (cond (eqb masks x.counts.points) (cond (valid_of b) (sheet_verdict (held x)) (Err Box))
+    (Err Short))
 
 -- the same by what is told of the band
 unfoldable pub told_tests : Told → Lent → ℕ → Verdict
-told_tests t x masks = cond (is_short_told t) (verdicts.Refused short) (sheet_tests (band_of t) x masks)
+told_tests t x masks = cond (is_short_told t) (Err Short) (sheet_tests (band_of t) x masks)
 
 -- the number n of an export, and the masks of an accepted sheet
 pub record ShowsMasks (v : Verdict) (x : Lent) (n : ℕ) (masks : List ℕ) : Type 0 where
-  pub number : n ≡ verdict_number v
+  pub number : n ≡ answer_number v
   pub left : MasksIf v (masks_of x.counts.points (held x).quads (held x).labels) masks

@@ -13,21 +13,18 @@ ghost use Rattle.export_leaves.specs.Answers.{sheet_tests, told_tests, ShowsMask
 
 use band::Band;
 use points::Point;
-use projection::{LONGEST_MOVE, LOOKS, Projected};
-use rule_sheet::Counts;
+use projection::{LONGEST_MOVE, LOOKS};
+use rule_sheet::{Counts, Refusal};
 
 // Accepted.
 const ACCEPTED: u32 = 0;
-
-// A projection fails.
-const ASTRAY: u32 = 9;
 
 // Writes a point to out.
 fn put(out: &mut [f64], p: Point) -> u32
     ensures { ShowsPoint (gives p) out.old result out.new }
 {
     if out.len() < 3 {
-        return sheet::SHORT;
+        return Refusal::Short.number();
     }
     points::put_point(out, 0, p);
     ACCEPTED
@@ -45,7 +42,7 @@ pub fn leaf_value(kind: u32, numbers: &[f64], x: f64, y: f64, z: f64) -> f64
     ensures { result ≡ value_at kind numbers.now x y z }
 {
     if numbers.len() < export_band::NUMBERS {
-        return 0.0 / 0.0;
+        return f64::NAN;
     }
     field::value(
         export_band::field_of(kind, export_band::coefficients(numbers)),
@@ -69,7 +66,7 @@ pub fn leaf_gradient(
         ShowsPoint (of_band t (gradient_at (point_of x y z))) out.old result out.new }
 {
     if export_band::is_short_told(numbers.len(), bounds.len()) {
-        return sheet::SHORT;
+        return Refusal::Short.number();
     }
     let b = export_band::band_of(kind, numbers, bounds, lower, upper);
     let f = b.field;
@@ -93,7 +90,7 @@ pub fn leaf_normal(
         ShowsPoint (of_band t (normal_at (point_of x y z) label)) out.old result out.new }
 {
     if export_band::is_short_told(numbers.len(), bounds.len()) {
-        return sheet::SHORT;
+        return Refusal::Short.number();
     }
     let b = export_band::band_of(kind, numbers, bounds, lower, upper);
     let f = b.field;
@@ -120,13 +117,13 @@ pub fn leaf_project(
         ShowsPoint (of_band t (projection_at (point_of x y z) mask)) out.old result out.new }
 {
     if export_band::is_short_told(numbers.len(), bounds.len()) {
-        return sheet::SHORT;
+        return Refusal::Short.number();
     }
     let b = export_band::band_of(kind, numbers, bounds, lower, upper);
     let len = band::length(b);
     let r = projection::project(b, len, LONGEST_MOVE, LOOKS, Point { x, y, z }, mask);
-    let Projected::Onto(p) = r else {
-        return ASTRAY;
+    let Some(p) = r else {
+        return Refusal::Astray.number();
     };
     put(out, p)
 }
@@ -136,12 +133,12 @@ pub fn leaf_validate(kind: u32, numbers: &[f64], bounds: &[f64], lower: f64, upp
     ensures { result ≡ band_number (told_of kind numbers.now bounds.now lower upper) }
 {
     if export_band::is_short_told(numbers.len(), bounds.len()) {
-        return sheet::SHORT;
+        return Refusal::Short.number();
     }
     if band::validate(export_band::band_of(kind, numbers, bounds, lower, upper)) {
         return ACCEPTED;
     }
-    admission::BOX
+    Refusal::Box.number()
 }
 
 // Tests a sheet that fills its slices; masks has an element for each point.
@@ -155,15 +152,15 @@ fn tested(b: Band, points: &[f64], quads: &[u32], labels: &[u8], masks: &mut [u3
         labels: labels.len(),
     };
     if sheet::is_large(c) {
-        return sheet::LARGE;
+        return Refusal::Large.number();
     }
     if masks.len() != c.points {
-        return sheet::SHORT;
+        return Refusal::Short.number();
     }
     if !band::validate(b) {
-        return admission::BOX;
+        return Refusal::Box.number();
     }
-    export_band::verdict_number(sheet::constraints(c, points, quads, labels, masks))
+    export_band::answer_number(sheet::constraints(c, points, quads, labels, masks))
 }
 
 // Tests a sheet and its band.
@@ -183,7 +180,7 @@ pub fn leaf_constraints(
         ShowsMasks (told_tests t x (length masks.old)) x result masks.new }
 {
     if export_band::is_short_told(numbers.len(), bounds.len()) {
-        return sheet::SHORT;
+        return Refusal::Short.number();
     }
     let b = export_band::band_of(kind, numbers, bounds, lower, upper);
     tested(b, points, quads, labels, masks)

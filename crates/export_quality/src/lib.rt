@@ -10,12 +10,12 @@ ghost use Rattle.rule_sheet.specs.Outcomes.{after_test};
 ghost use Rattle.rule_sheet.specs.Results.{Cleared};
 ghost use Rattle.rule_quality.specs.Quality.{quality_rule, assessed_of};
 ghost use Rattle.rule_exports.specs.Measured.{quality_counts, quality_measures, counts_shown, measures_shown, fronted};
-ghost use Rattle.rule_exports.specs.Measured.{assessed_number, is_short_counts, is_short_measures, ShowsMeasures};
+ghost use Rattle.rule_exports.specs.Measured.{is_short_counts, is_short_measures, ShowsMeasures};
 ghost use Rattle.export_quality.specs.Steps.{no_quality};
 
 use band::Band;
-use rule_quality::report::{Assessed, Quality};
-use rule_sheet::{Counts, Verdict};
+use rule_quality::report::{Assessment, Quality};
+use rule_sheet::{Counts, Refusal};
 
 // How many elements the slices of counts and of measures have.
 const ANSWERS: usize = 10;
@@ -27,16 +27,18 @@ fn put_counts(answer: &mut [u64], q: Quality, tight: bool, valid: bool)
     requires { 10 ≤ length answer.old }
     ensures { answer.new ≡ fronted (quality_counts q (num tight) (num valid)) answer.old }
 {
-    answer[0] = q.quads as u64;
-    answer[1] = q.irregular_vertices as u64;
-    answer[2] = q.boundary_edges as u64;
-    answer[3] = q.nonmanifold_edges as u64;
-    answer[4] = q.orientation_errors as u64;
-    answer[5] = q.bad_vertex_links as u64;
-    answer[6] = q.duplicate_faces as u64;
-    answer[7] = q.invalid_cells as u64;
-    answer[8] = sheet::one_if(tight) as u64;
-    answer[9] = sheet::one_if(valid) as u64;
+    answer[..ANSWERS].copy_from_slice(&[
+        q.quads as u64,
+        q.irregular_vertices as u64,
+        q.boundary_edges as u64,
+        q.nonmanifold_edges as u64,
+        q.orientation_errors as u64,
+        q.bad_vertex_links as u64,
+        q.duplicate_faces as u64,
+        q.invalid_cells as u64,
+        u64::from(tight),
+        u64::from(valid),
+    ]);
 }
 
 // Writes the measures of a record.
@@ -44,10 +46,12 @@ fn put_measures(measures: &mut [f64], q: Quality)
     requires { 4 ≤ length measures.old }
     ensures { measures.new ≡ fronted (quality_measures q) measures.old }
 {
-    measures[0] = q.minimum_shape;
-    measures[1] = q.shape_size_p05;
-    measures[2] = q.shape_size_mean;
-    measures[3] = q.minimum_sampled_jacobian;
+    measures[..MEASURES].copy_from_slice(&[
+        q.minimum_shape,
+        q.shape_size_p05,
+        q.shape_size_mean,
+        q.minimum_sampled_jacobian,
+    ]);
 }
 
 // The record of zeros, which a refusal shows.
@@ -71,7 +75,7 @@ fn no_quality() -> Quality
 }
 
 // Shows the counts of an answer; a slice that is too short stays as it came.
-fn show_counts(answer: &mut [u64], r: Assessed)
+fn show_counts(answer: &mut [u64], r: Result<Assessment, Refusal>)
     ensures { answer.new ≡ cond (is_short_counts answer.old) answer.old
         (fronted (counts_shown r) answer.old) }
 {
@@ -79,13 +83,13 @@ fn show_counts(answer: &mut [u64], r: Assessed)
         return;
     }
     match r {
-        Assessed::Done(q, tight) => put_counts(answer, q, tight, q.is_valid()),
-        Assessed::Refused(_) => put_counts(answer, no_quality(), false, false),
+        Ok(a) => put_counts(answer, a.quality, a.is_tight, a.quality.is_valid()),
+        Err(_) => put_counts(answer, no_quality(), false, false),
     }
 }
 
 // Shows its measures; a slice that is too short stays as it came.
-fn show_measures(measures: &mut [f64], r: Assessed)
+fn show_measures(measures: &mut [f64], r: Result<Assessment, Refusal>)
     ensures { measures.new ≡ cond (is_short_measures measures.old) measures.old
         (fronted (measures_shown r) measures.old) }
 {
@@ -93,18 +97,8 @@ fn show_measures(measures: &mut [f64], r: Assessed)
         return;
     }
     match r {
-        Assessed::Done(q, _) => put_measures(measures, q),
-        Assessed::Refused(_) => put_measures(measures, no_quality()),
-    }
-}
-
-// The number of an answer: 0 if accepted.
-fn assessed_number(r: Assessed) -> u32
-    ensures { result ≡ assessed_number r }
-{
-    match r {
-        Assessed::Done(_, _) => 0,
-        Assessed::Refused(n) => n,
+        Ok(a) => put_measures(measures, a.quality),
+        Err(_) => put_measures(measures, no_quality()),
     }
 }
 
@@ -116,18 +110,18 @@ pub fn is_short(answers: usize, measures: usize) -> bool
 }
 
 // Shows an answer: its number, its counts and its measures; a slice that is too short stays as it came.
-pub fn put_assessed(answer: &mut [u64], measures: &mut [f64], r: Assessed) -> u32
+pub fn put_assessed(answer: &mut [u64], measures: &mut [f64], r: Result<Assessment, Refusal>) -> u32
     ensures { ShowsMeasures r answer.old measures.old result answer.new
         measures.new }
 {
     show_counts(answer, r);
     show_measures(measures, r);
-    assessed_number(r)
+    export_band::answer_number(r)
 }
 
 // `quality` after a test: its refusal, or the operation.
 pub fn quality_after(
-    v: Verdict,
+    v: Result<(), Refusal>,
     b: Band,
     c: Counts,
     points: &[f64],
@@ -135,15 +129,15 @@ pub fn quality_after(
     labels: &[u8],
     work: &mut [u32],
     floats: &mut [f64],
-) -> Assessed
+) -> Result<Assessment, Refusal>
     ensures result_value { let x = lent_of c points.now quads.now labels.now in
         result ≡ assessed_of (after_test v (quality_rule (domain_of b) x (work_of work.old
         floats.old))) }
     ensures cleared { Cleared work.old floats.old work.new floats.new }
 {
-    if let Verdict::Refused(n) = v {
+    if let Err(refusal) = v {
         sheet::clear_work(work, floats);
-        return Assessed::Refused(n);
+        return Err(refusal);
     }
     quality::quality(b, c, points, quads, labels, work, floats)
 }

@@ -27,8 +27,6 @@ use Rattle.rule_sheet.specs.Lent.{Room, Work, room_with, work_with, is_large, is
 use Rattle.sheet.specs.Sheet.{bare_by, LentSheet}
 use Rattle.sheet.proofs.Flat.{length-quads}
 use Rattle.sheet.proofs.Tests.{or_left, or_right, holds_of, length-points, bare-is, labels-match, holds-quads}
-use Rattle.rule_sheet.specs.declared.Answer.{Answer}
-use Rattle.rule_sheet.specs.declared.Answer.TheVariants.{Done, Refused}
 use Rattle.rule_sheet.specs.Outcomes.{Outcome, refuses, gives}
 use Rattle.rule_sheet.specs.Results.{answer_of, made}
 use Rattle.sheet.specs.Results.{Front, Fills}
@@ -42,6 +40,10 @@ use Rattle.rule_extract.specs.Drawing.{points_to, inner_count, quad_if, drawn_sh
 use Rattle.extract_quads.proofs.Turns.{labels-many}
 use Rattle.extract_quads.proofs.Good.{drawn-good}
 use Rattle.extract.specs.Stages.{tested_or, sampled_or}
+use Rattle.std.specs.Prelude.{Ok, Err}
+use Rattle.rule_sheet.specs.Verdicts.{Answer}
+use Rattle.rule_sheet.specs.declared.Refusal.TheVariants.{Bare, Box, Cells, Clash, Short}
+use Rattle.rule_sheet.specs.declared.Refusal.TheVariants as refusals
 
 -- ---- grids
 
@@ -55,7 +57,7 @@ cube m h =
 -- ---- 5 and 7, of a sheet that its slices hold
 
 module _ (c : Counts) (P : List Float) (Q labels : List ℕ) (L : LentSheet c (length P) (length Q) (length labels)) where
-  pub tested-bare : bare_by c P ≡ true → Refused 5 ≡ answer_of (made (tested_or (sheet_of c P Q labels)))
+  pub tested-bare : bare_by c P ≡ true → Err Bare ≡ answer_of (made (tested_or (sheet_of c P Q labels)))
   unfolding tested_or
   tested-bare e = rw (← bare-is c P Q labels L.labels, e)
 
@@ -71,11 +73,11 @@ module _ (c : Counts) (P : List Float) (Q labels : List ℕ) (L : LentSheet c (l
       good-is : good_masks (length (points_of c.points P)) (quads_of c.quads Q) (take c.labels labels) ≡ r
       good-is = rw (length-points c.points P, labels-match c P e) (sym (rw (length-take-le c.points w h) at k))
 
-      pub tested-done : r ≡ true → Done (record { count = 0; sheet = c }) ≡ answer_of (made (tested_or (sheet_of c P Q labels)))
+      pub tested-done : r ≡ true → Ok (record { count = 0; sheet = c }) ≡ answer_of (made (tested_or (sheet_of c P Q labels)))
       unfolding tested_or
-      tested-done t = rw (← bare-is c P Q labels L.labels, e, good-is, t) (ap (λ (k : Counts). Done (record { count = 0; sheet = k })) (sym counts-read))
+      tested-done t = rw (← bare-is c P Q labels L.labels, e, good-is, t) (ap (λ (k : Counts). Ok (record { count = 0; sheet = k })) (sym counts-read))
 
-      pub tested-clash : r ≡ false → Refused 7 ≡ answer_of (made (tested_or (sheet_of c P Q labels)))
+      pub tested-clash : r ≡ false → Err Clash ≡ answer_of (made (tested_or (sheet_of c P Q labels)))
       unfolding tested_or
       tested-clash t = rw (← bare-is c P Q labels L.labels, e, good-is, t)
 
@@ -96,10 +98,10 @@ module _ (s : Sheet) (c : Counts) (A : List Float) (B D : List ℕ) (e : c ≡ c
       let z : take c.labels D ≡ s.labels = ap (λ (t : Sheet). t.labels) read_is in
       rw (y, z, ap (λ (k : Counts). k.points) e) h
 
-  by : (b m : Bool) → let o = cond b (refuses 5) (cond m (gives s) (refuses 7)) in Fills o (answer_of (made o)) A B D
-  by true m = refused-fills 5 A B D
+  by : (b m : Bool) → let o = cond b (refuses Bare) (cond m (gives s) (refuses Clash)) in Fills o (answer_of (made o)) A B D
+  by true m = refused-fills Bare A B D
   by false true = record { answer = refl; points = F.0; quads = F.1.0; labelled = F.1.1 }
-  by false false = refused-fills 7 A B D
+  by false false = refused-fills Clash A B D
 
   tested-fills : (r : Answer) → r ≡ answer_of (made (tested_or (sheet_of c A B D))) → Fills (tested_or s) r A B D
   unfolding tested_or
@@ -122,8 +124,8 @@ corners-good g n = drawn-good g n
 -- ---- the result's 13
 
 module _ (g : Grid) (n : ℕ) (c : Counts) (e : c ≡ counts_of (drawn_sheet g n)) (p q l : ℕ) (o : Bool) (u : o ≡ (is_large c || is_short c (room_with p q l))) where
-  pub drawn-over : (A : List Float) (B D : List ℕ) → o ≡ true → Fills (drawn_or (drawn_sheet g n) (room_with p q l)) (Refused 13) A B D
-  drawn-over A B D h = rw (← e, ← u, h) (refused-fills 13 A B D)
+  pub drawn-over : (A : List Float) (B D : List ℕ) → o ≡ true → Fills (drawn_or (drawn_sheet g n) (room_with p q l)) (Err Short) A B D
+  drawn-over A B D h = rw (← e, ← u, h) (refused-fills Short A B D)
 
   module _ (h : o ≡ false) where
     holds : LentSheet c p q l
@@ -160,9 +162,9 @@ module _ (g : Grid) (m : ℕ) (F : List Float) (e : F ≡ tabulate (sample_at g 
   finite-are = rw many (every-ext (finite_in F) (finite_sample g m) (m * m * m) (λ t h. ap finite_of (at t h)))
 
 module _ (g : Grid) (n : ℕ) (room : Room) (A : List Float) (B D : List ℕ) where
-  pub sampled-refused : finite_samples g (n + 1) ≡ false → Fills (sampled_or g n room) (Refused 4) A B D
+  pub sampled-refused : finite_samples g (n + 1) ≡ false → Fills (sampled_or g n room) (Err refusals.Samples) A B D
   unfolding sampled_or
-  sampled-refused e = rw e (refused-fills 4 A B D)
+  sampled-refused e = rw e (refused-fills refusals.Samples A B D)
 
   pub sampled-drawn : (r : Answer) → finite_samples g (n + 1) ≡ true → Fills (drawn_or (drawn_sheet g n) room) r A B D → Fills (sampled_or g n room) r A B D
   unfolding sampled_or
@@ -197,19 +199,19 @@ module _ (d : Domain) (cells : ℕ) (w : Work) (room : Room) (A : List Float) (B
   abbrev Rule : Outcome Sheet
   Rule = extract_rule d cells w room
 
-  pub rule-box : valid_of (band_in d) ≡ false → Fills Rule (Refused 1) A B D
+  pub rule-box : valid_of (band_in d) ≡ false → Fills Rule (Err Box) A B D
   unfolding extract_rule
-  rule-box e = rw e (refused-fills 1 A B D)
+  rule-box e = rw e (refused-fills Box A B D)
 
   module _ (e : valid_of (band_in d) ≡ true) where
-    pub rule-cells : good_cells cells ≡ false → Fills Rule (Refused 3) A B D
+    pub rule-cells : good_cells cells ≡ false → Fills Rule (Err Cells) A B D
     unfolding extract_rule
-    rule-cells h = rw (e, h) (refused-fills 3 A B D)
+    rule-cells h = rw (e, h) (refused-fills Cells A B D)
 
     module _ (h : good_cells cells ≡ true) where
-      pub rule-short : short_work cells w ≡ true → Fills Rule (Refused 13) A B D
+      pub rule-short : short_work cells w ≡ true → Fills Rule (Err Short) A B D
       unfolding extract_rule
-      rule-short k = rw (e, h, k) (refused-fills 13 A B D)
+      rule-short k = rw (e, h, k) (refused-fills Short A B D)
 
       pub rule-sampled : {g : Grid} (r : Answer) → short_work cells w ≡ false → g ≡ grid_of d cells → Fills (sampled_or g (cells + 2) room) r A B D → Fills Rule r A B D
       unfolding extract_rule sampled_or

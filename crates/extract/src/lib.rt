@@ -18,12 +18,7 @@ ghost use Rattle.extract.specs.Stages.{tested_or, sampled_or};
 
 use band::Band;
 use rule_extract::Grid;
-use rule_sheet::{Answer, Counts, Tally};
-
-// The numbers of refusals: a number of cells out of range, and a sample that is not finite.
-pub const CELLS: u32 = 3;
-
-pub const SAMPLES: u32 = 4;
+use rule_sheet::{Counts, Refusal, Tally};
 
 // The fewest and the most cells along a side of the box.
 pub const FEWEST_CELLS: usize = 4;
@@ -45,7 +40,13 @@ fn masks_tested(nq: usize, quads: &[u32], labels: &[u8], masks: &mut [u32]) -> b
 }
 
 // 5 and 7, of a sheet that its slices hold and whose corners are good.
-fn tested(c: Counts, points: &[f64], quads: &[u32], labels: &[u8], w: &mut [u32]) -> Answer
+fn tested(
+    c: Counts,
+    points: &[f64],
+    quads: &[u32],
+    labels: &[u8],
+    w: &mut [u32],
+) -> Result<Tally, Refusal>
     requires lent_sheet { LentSheet c (length points.now) (length quads.now) (length labels.now) }
     requires points_in_bounds { c.points ≤ length w.old }
     requires labels_value { good_corners c.points (quads_of c.quads quads.now) (take c.labels labels.now) ≡ true }
@@ -53,13 +54,13 @@ fn tested(c: Counts, points: &[f64], quads: &[u32], labels: &[u8], w: &mut [u32]
         labels.now))) }
 {
     if sheet::is_bare(c, points) {
-        return Answer::Refused(sheet::BARE);
+        return Err(Refusal::Bare);
     }
     let n = c.points;
     if masks_tested(c.quads, quads, labels, &mut w[..n]) {
-        return Answer::Done(Tally { count: 0, sheet: c });
+        return Ok(Tally { count: 0, sheet: c });
     }
-    Answer::Refused(sheet::CLASH)
+    Err(Refusal::Clash)
 }
 
 // ---- the drawn sheet
@@ -111,7 +112,7 @@ fn draw_or_refusal(
     new_quads: &mut [u32],
     new_labels: &mut [u8],
     w: &mut [u32],
-) -> Answer
+) -> Result<Tally, Refusal>
     requires samples { Samples g (n + 1) samples.now }
     requires n_in_bounds { 12 * (n * n * n) ≤ length w.old }
     ensures { Fills (drawn_or (drawn_sheet g n) (room_of new_points.old new_quads.old
@@ -120,7 +121,7 @@ fn draw_or_refusal(
 {
     let c = count_sheet(g, n, samples);
     if sheet::is_over(c, new_points.len(), new_quads.len(), new_labels.len()) {
-        return Answer::Refused(sheet::SHORT);
+        return Err(Refusal::Short);
     }
     draw_sheet(g, n, samples, new_points, new_quads, new_labels, w);
     tested(c, new_points, new_quads, new_labels, w)
@@ -135,7 +136,7 @@ fn sample_or_refusal(
     new_quads: &mut [u32],
     new_labels: &mut [u8],
     w: &mut [u32],
-) -> Answer
+) -> Result<Tally, Refusal>
     requires n_bound { n ≤ 130 }
     requires samples_len { length samples.old ≡ (n + 1) * (n + 1) * (n + 1) }
     requires n_in_bounds { 12 * (n * n * n) ≤ length w.old }
@@ -147,7 +148,7 @@ fn sample_or_refusal(
     if extract_grid::all_finite(samples) {
         return draw_or_refusal(g, n, samples, new_points, new_quads, new_labels, w);
     }
-    Answer::Refused(SAMPLES)
+    Err(Refusal::Samples)
 }
 
 // ---- the operation
@@ -156,7 +157,7 @@ fn sample_or_refusal(
 fn good_cells(cells: usize) -> bool
     ensures { result ≡ good_cells cells }
 {
-    (FEWEST_CELLS <= cells) & (cells <= MOST_CELLS)
+    (FEWEST_CELLS..=MOST_CELLS).contains(&cells)
 }
 
 // 13: too little work.
@@ -178,19 +179,19 @@ fn extract_or_refusal(
     new_labels: &mut [u8],
     w: &mut [u32],
     floats: &mut [f64],
-) -> Answer
+) -> Result<Tally, Refusal>
     ensures { Fills (extract_rule (domain_of b) cells (work_of w.old floats.old)
         (room_of new_points.old new_quads.old new_labels.old)) result
         new_points.new new_quads.new new_labels.new }
 {
     if !band::validate(b) {
-        return Answer::Refused(admission::BOX);
+        return Err(Refusal::Box);
     }
     if !good_cells(cells) {
-        return Answer::Refused(CELLS);
+        return Err(Refusal::Cells);
     }
     if is_short_work(cells, w.len(), floats.len()) {
-        return Answer::Refused(sheet::SHORT);
+        return Err(Refusal::Short);
     }
     let g = extract_samples::grid_of(b, cells);
     let m = cells + 3;
@@ -216,7 +217,7 @@ pub fn extract_candidate(
     new_labels: &mut [u8],
     work: &mut [u32],
     floats: &mut [f64],
-) -> Answer
+) -> Result<Tally, Refusal>
     ensures sheet { Makes (extract_rule (domain_of b) cells (work_of work.old floats.old)
         (room_of new_points.old new_quads.old new_labels.old))
         (room_of new_points.old new_quads.old new_labels.old) result

@@ -1,13 +1,15 @@
 -- The bits of a number that is made of bits. Assumes nothing.
 use Prim.Native.Nat.{ℕ, zero, suc, ◌+◌, ◌-◌, ◌*◌, ◌/◌, ◌%◌, ◌^◌, ◌<◌, ◌≤◌}
 use mathlib.Core.Path.{◌≡◌, refl, ap, ◌∙◌}
-use mathlib.Core.Bool.{Bool, true, false, cond, not, ◌&&◌, ◌||◌}
+use mathlib.Core.Bool.{Bool, true, false, not, ◌&&◌, ◌||◌}
 use mathlib.Core.Logic.{⊎_elim}
 use native.Mathlib.Omega.{arith}
 use native.Mathlib.Nat.{pow-suc, add-mul-div_left, div-eq_of_lt, not-suc-le-zero}
 use native.Mathlib.Numerals.{add-one}
 use lib.Dec.{eqb}
 use lib.Pow.{pow_pos, pow-add, pow_mono}
+use mir.Val.{bool_byte}
+use Rattle.std.proofs.Math.Pow.{shl_exact}
 use Rattle.lists.proofs.Laws.{eq-or-ne}
 use Rattle.rule_sheet.specs.Quads.{num, pack_to}
 use borrow.Author.Tests.{lt-ltb, le-ltb}
@@ -60,48 +62,24 @@ bit-packed t n i h = rw (bit-num t n i h) (is_one (t i))
 
 -- ---- the number made bit by bit
 
--- the number once i of 18 bits are known, and the weight of the next one
-pub record Packing (t : ℕ → Bool) (number weight i : ℕ) : Type 0 where
-  pub i≤ : i ≤ 18
-  pub weighs : weight ≡ 2 ^ i
-  pub weight≤ : weight ≤ 2 ^ 18
-  pub number< : number < weight
-  pub is : number ≡ pack_to t i
+-- a bit shifted to its place in 32
+shifted : (b : Bool) (i : ℕ) → i < 32 → bool_byte b * 2 ^ i % 2 ^ 32 ≡ 2 ^ i * num b
+shifted true i h = shl_exact 1 i 32 (omega arith) (omega arith) ∙ omega arith
+shifted false i h = shl_exact 1 i 32 (omega arith) (omega arith) ∙ omega arith
 
-pub packing-first : (t : ℕ → Bool) → Packing t 0 1 0
+-- one bit more
+pub packed-more : (t : ℕ → Bool) {number i k : ℕ} (b : Bool) → number ≡ pack_to t i → i < 32 → b ≡ t i → k ≡ bool_byte b
+    → number + k * 2 ^ i % 2 ^ 32 ≡ pack_to t (i + 1)
 unfolding pack_to
-packing-first t = record { i≤ = omega arith; weighs = omega arith; weight≤ = omega arith; number< = omega arith; is = refl }
+packed-more t {i = i} b e h f g = rw (add-one i, e, g, f, shifted (t i) i h) refl
 
-weighed : (b : Bool) (w : ℕ) → w * num b ≡ cond b w 0
-weighed true w = omega arith
-weighed false w = omega arith
-
-below : (b : Bool) (n w : ℕ) → n < w → n + cond b w 0 < w * 2
-below true n w h = omega arith
-below false n w h = omega arith
-
-double : (w i : ℕ) → w ≡ 2 ^ i → w * 2 ≡ 2 ^ (i + 1)
-double w i e = rw (add-one i, pow-suc 2 i, e)
-
-turned : {t : ℕ → Bool} {number weight i : ℕ} → Packing t number weight i → i < 18 → Packing t (number + cond (t i) weight 0) (weight * 2) (i + 1)
-unfolding pack_to
-turned {t} {number} {weight} {i} P h = record {
-  i≤ = omega arith;
-  weighs = double weight i P.weighs;
-  weight≤ = let e = double weight i P.weighs in let l : 2 ^ (i + 1) ≤ 2 ^ 18 = pow_mono {j = 18} (omega arith) in omega arith;
-  number< = below (t i) number weight P.number<;
-  is = rw (add-one i, P.is, ← weighed (t i) weight, P.weighs);
-}
-
-pub packing-turn : {t : ℕ → Bool} {number weight i k : ℕ} (b : Bool) → Packing t number weight i → i < 18 → b ≡ t i → k ≡ cond b weight 0
-    → Packing t (number + k) (weight * 2) (i + 1)
-packing-turn b P h e f = rw (f, e) (turned P h)
-
-pub packing-room : {t : ℕ → Bool} {number weight i k : ℕ} (b : Bool) → Packing t number weight i → k ≡ cond b weight 0 → number + k < 2 ^ 32
-packing-room {number = number} {weight} b P f = rw f (let h = below b number weight P.number< in omega arith)
-
-pub packing-end : {t : ℕ → Bool} {number weight i : ℕ} → Packing t number weight i → 18 ≤ i → number ≡ pack_to t 18
-packing-end {t} {i = i} P h = let e : i ≡ 18 = omega arith in P.is ∙ ap (pack_to t) e
+-- which the number has room for
+pub packed-room : (t : ℕ → Bool) {number i k : ℕ} (b : Bool) → number ≡ pack_to t i → i < 32 → b ≡ t i → k ≡ bool_byte b
+    → number + k * 2 ^ i % 2 ^ 32 < 2 ^ 32
+packed-room t {i = i} b e h f g =
+    let s = pack-small t (i + 1) in
+    let l : 2 ^ (i + 1) ≤ 2 ^ 32 = pow_mono {j = 32} (omega arith) in
+    rw (packed-more t b e h f g) (omega arith)
 
 -- ---- the bits of a cell's kind
 
@@ -117,9 +95,9 @@ kind-face sign k f q h =
     rw q (bit-packed (kind_bit sign) 18 (12 + f) (omega arith) ∙ rw (le-ltb (12 + f) 12 l, m))
 
 -- a pair is joined where the bits of the kind say so
-pub joined_by_lem : (sign : ℕ → Bool) (centre : Bool) (t k a b : ℕ) (x y z w : Bool) → t < 36 → k ≡ kind_of sign → (a ≡ (pair_at t).first) × (a < 12) → (b ≡ (pair_at t).second) × (b < 12)
+pub joined_by_lem : (sign : ℕ → Bool) (centre : Bool) (t k a b : ℕ) (x y z w : Bool) → t < 36 → k ≡ kind_of sign → a < 12 → b < 12 → pair a b ≡ pair_at t
     → x ≡ bit_of k a → y ≡ bit_of k b → z ≡ bit_of k (12 + t / 6) → w ≡ parted sign centre (pair a b)
     → (x && y && (not z || w)) ≡ joined_by sign centre (t / 6) (pair_at t)
 unfolding joined_by
-joined_by_lem sign centre t k a b x y z w h q f g p r s u =
-    rw (p ∙ kind-edge sign k a q f.1, r ∙ kind-edge sign k b q g.1, s ∙ kind-face sign k (t / 6) q (omega arith), u, f.0, g.0) refl
+joined_by_lem sign centre t k a b x y z w h q f g e p r s u =
+    rw (p ∙ kind-edge sign k a q f, r ∙ kind-edge sign k b q g, s ∙ kind-face sign k (t / 6) q (omega arith), u, ← e) refl

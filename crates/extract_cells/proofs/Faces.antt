@@ -157,13 +157,12 @@ joined-groups s k =
 
 -- the groups once t pairs are seen
 pub record Joining (sign centre : ℕ → Bool) (G : List ℕ) (t : ℕ) : Type 0 where
-  pub t≤ : t ≤ 36
   pub len : length G ≡ 12
   pub is : G ≡ joined_to sign centre t
 
 pub joining-first : (sign centre : ℕ → Bool) → Joining sign centre (0 ∷ 1 ∷ 2 ∷ 3 ∷ 4 ∷ 5 ∷ 6 ∷ 7 ∷ 8 ∷ 9 ∷ 10 ∷ 11 ∷ []) 0
 unfolding joined_to tabulate
-joining-first sign centre = record { t≤ = omega arith; len = refl; is = refl }
+joining-first sign centre = record { len = refl; is = refl }
 
 length-by : (b : Bool) (G : List ℕ) (p : Pair) → length G ≡ 12 → length (cond b (merged G p) G) ≡ 12
 unfolding merged
@@ -178,13 +177,13 @@ length_merged test G p e = length-by (test p) G p e
 pub merged-pair : {H : List ℕ} {a b : ℕ} (G : List ℕ) (p : Pair) → H ≡ merged G (pair a b) → a ≡ p.first → b ≡ p.second → H ≡ merged G p
 merged-pair G p h e f = h ∙ rw (e, f) refl
 
-pub joining-turn : {sign centre : ℕ → Bool} {G H : List ℕ} {t : ℕ} {b : Bool} → Joining sign centre G t → t < 36 → b ≡ centre (t / 6)
+pub joining-turn : {sign centre : ℕ → Bool} {G H : List ℕ} {t : ℕ} {b : Bool} → Joining sign centre G t → b ≡ centre (t / 6)
     → H ≡ merged_if (joined_by sign b (t / 6)) G (pair_at t) → Joining sign centre H (t + 1)
 unfolding joined_to
-joining-turn {t = t} J h e f = record { t≤ = omega arith; len = rw f (length_merged _ _ _ J.len); is = rw (add-one t, f, e, J.is) }
+joining-turn {t = t} J e f = record { len = rw f (length_merged _ _ _ J.len); is = rw (add-one t, f, e, J.is) }
 
-pub joining-end : {sign centre : ℕ → Bool} {G : List ℕ} {t : ℕ} → Joining sign centre G t → 36 ≤ t → G ≡ groups_of sign centre
-joining-end {sign} {centre} {t = t} J h = let e : t ≡ 36 = omega arith in J.is ∙ ap (joined_to sign centre) e ∙ joined-groups sign centre
+pub joining-end : {sign centre : ℕ → Bool} {G : List ℕ} {t : ℕ} → Joining sign centre G t → t ≡ 36 → G ≡ groups_of sign centre
+joining-end {sign} {centre} J e = J.is ∙ ap (joined_to sign centre) e ∙ joined-groups sign centre
 
 -- ---- what the groups depend on, and their numbers
 

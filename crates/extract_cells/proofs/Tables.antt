@@ -1,6 +1,6 @@
 -- The code's constant tables have what their rules say: a test that is computed at all entries. Assumes nothing.
 use Prim.Native.Nat.{ℕ, zero, suc, ◌+◌, ◌*◌, ◌/◌, ◌%◌, ◌<◌}
-use mathlib.Core.Path.{◌≡◌, refl, ◌∙◌}
+use mathlib.Core.Path.{◌≡◌, refl}
 use mathlib.Core.Bool.{Bool, true, false, ◌&&◌}
 use mathlib.Core.List.{List, [], ◌∷◌}
 use native.Mathlib.Omega.{arith}
@@ -10,7 +10,6 @@ use borrow.Author.Tests.{eqb-true, ltb-true}
 use Rattle.lists.specs.Sort.{tabulate, keep}
 use Rattle.lists.specs.Every.{every}
 use Rattle.lists.proofs.Every.{every-at, and_left, and_right}
-use Rattle.lists.specs.Steps.{nth}
 use Rattle.rule_extract.specs.Cells.{low_end, high_end, crosses, edges_on, crossings_on, four_on, pairs_in}
 use Rattle.extract_cells.specs.Cells.{pair_at}
 
@@ -24,44 +23,46 @@ at bound f g n e i h =
     let r = every-at (fits bound f g) n i e h in
     (eqb-true _ _ (and_left (eqb (f i) (g i)) (ltb (f i) bound) r), ltb-true _ _ (and_right (eqb (f i) (g i)) (ltb (f i) bound) r))
 
-abbrev pub lows : List ℕ
-lows = 0 ∷ 4 ∷ 2 ∷ 6 ∷ 0 ∷ 1 ∷ 4 ∷ 5 ∷ 0 ∷ 2 ∷ 1 ∷ 3 ∷ []
+abbrev pub ends : List (ℕ × ℕ)
+ends = (0, 1) ∷ (4, 5) ∷ (2, 3) ∷ (6, 7) ∷ (0, 2) ∷ (1, 3) ∷ (4, 6) ∷ (5, 7) ∷ (0, 4) ∷ (2, 6) ∷ (1, 5) ∷ (3, 7) ∷ []
 
-abbrev pub highs : List ℕ
-highs = 1 ∷ 5 ∷ 3 ∷ 7 ∷ 2 ∷ 3 ∷ 6 ∷ 7 ∷ 4 ∷ 6 ∷ 5 ∷ 7 ∷ []
+abbrev pub face_edges : List (List ℕ)
+face_edges = (4 ∷ 6 ∷ 8 ∷ 9 ∷ []) ∷ (5 ∷ 7 ∷ 10 ∷ 11 ∷ []) ∷ (0 ∷ 1 ∷ 8 ∷ 10 ∷ []) ∷ (2 ∷ 3 ∷ 9 ∷ 11 ∷ []) ∷ (0 ∷ 2 ∷ 4 ∷ 5 ∷ []) ∷ (1 ∷ 3 ∷ 6 ∷ 7 ∷ []) ∷ []
 
-abbrev pub face_edges : List ℕ
-face_edges = 4 ∷ 6 ∷ 8 ∷ 9 ∷ 5 ∷ 7 ∷ 10 ∷ 11 ∷ 0 ∷ 1 ∷ 8 ∷ 10 ∷ 2 ∷ 3 ∷ 9 ∷ 11 ∷ 0 ∷ 2 ∷ 4 ∷ 5 ∷ 1 ∷ 3 ∷ 6 ∷ 7 ∷ []
+abbrev pub pairs : List (ℕ × ℕ)
+pairs = (0, 1) ∷ (0, 2) ∷ (0, 3) ∷ (1, 2) ∷ (1, 3) ∷ (2, 3) ∷ []
 
-abbrev pub firsts : List ℕ
-firsts = 0 ∷ 0 ∷ 0 ∷ 1 ∷ 1 ∷ 2 ∷ []
+low_of : ℕ → ℕ
+low_of e = (get_or ends e (0, 0)).0
 
-abbrev pub seconds : List ℕ
-seconds = 1 ∷ 2 ∷ 3 ∷ 2 ∷ 3 ∷ 3 ∷ []
+high_of : ℕ → ℕ
+high_of e = (get_or ends e (0, 0)).1
 
-pub low-at : (e : ℕ) → e < 12 → (nth lows e ≡ low_end e) × (nth lows e < 8)
-unfolding fits every low_end
-low-at = at 8 (nth lows) low_end 12 refl
+pub low-at : (e : ℕ) → e < 12 → ((get_or ends e (0, 0)).0 ≡ low_end e) × ((get_or ends e (0, 0)).0 < 8)
+unfolding fits every low_of low_end
+low-at = at 8 low_of low_end 12 refl
 
-pub high-at : (e : ℕ) → e < 12 → (nth highs e ≡ high_end e) × (nth highs e < 8)
-unfolding fits every low_end high_end
-high-at = at 8 (nth highs) high_end 12 refl
+pub high-at : (e : ℕ) → e < 12 → ((get_or ends e (0, 0)).1 ≡ high_end e) × ((get_or ends e (0, 0)).1 < 8)
+unfolding fits every high_of low_end high_end
+high-at = at 8 high_of high_end 12 refl
 
 -- edge k of face f
 edge_in : ℕ → ℕ
 edge_in i = get_or (edges_on (i / 4)) (i % 4) 0
 
-edges_at : (i : ℕ) → i < 24 → (nth face_edges i ≡ edge_in i) × (nth face_edges i < 12)
-unfolding fits every edge_in edges_on tabulate low_end high_end
-edges_at = at 12 (nth face_edges) edge_in 24 refl
+entry_in : ℕ → ℕ
+entry_in i = get_or (get_or face_edges (i / 4) []) (i % 4) 0
 
-pub edge_at : (f k : ℕ) → f < 6 → k < 4 → (nth face_edges (4 * f + k) ≡ get_or (edges_on f) k 0) × (nth face_edges (4 * f + k) < 12)
-unfolding edge_in
+edges_at : (i : ℕ) → i < 24 → (entry_in i ≡ edge_in i) × (entry_in i < 12)
+unfolding fits every edge_in entry_in edges_on tabulate low_end high_end
+edges_at = at 12 entry_in edge_in 24 refl
+
+pub edge_at : (f k : ℕ) → f < 6 → k < 4 → (get_or (get_or face_edges f []) k 0 ≡ get_or (edges_on f) k 0) × (get_or (get_or face_edges f []) k 0 < 12)
+unfolding edge_in entry_in
 edge_at f k h l =
     let e : (4 * f + k) / 4 ≡ f = omega arith in
     let g : (4 * f + k) % 4 ≡ k = omega arith in
-    let r = edges_at (4 * f + k) (omega arith) in
-    (r.0 ∙ rw (e, g) refl, r.1)
+    rw (e, g) at (edges_at (4 * f + k) (omega arith))
 
 -- the edges of pair t
 first-in : ℕ → ℕ
@@ -71,29 +72,18 @@ second-in : ℕ → ℕ
 second-in t = (pair_at t).second
 
 of-first : ℕ → ℕ
-of-first t = get_or (edges_on (t / 6)) (nth firsts (t % 6)) 0
+of-first t = get_or (edges_on (t / 6)) (get_or pairs (t % 6) (0, 0)).0 0
 
 of-second : ℕ → ℕ
-of-second t = get_or (edges_on (t / 6)) (nth seconds (t % 6)) 0
+of-second t = get_or (edges_on (t / 6)) (get_or pairs (t % 6) (0, 0)).1 0
 
-pub first-at : (t : ℕ) → t < 36 → get_or (edges_on (t / 6)) (nth firsts (t % 6)) 0 ≡ (pair_at t).first
+pub first-at : (t : ℕ) → t < 36 → get_or (edges_on (t / 6)) (get_or pairs (t % 6) (0, 0)).0 0 ≡ (pair_at t).first
 unfolding fits every first-in of-first edges_on tabulate low_end high_end pairs_in
 first-at t h = (at 12 of-first first-in 36 refl t h).0
 
-pub second_at : (t : ℕ) → t < 36 → get_or (edges_on (t / 6)) (nth seconds (t % 6)) 0 ≡ (pair_at t).second
+pub second_at : (t : ℕ) → t < 36 → get_or (edges_on (t / 6)) (get_or pairs (t % 6) (0, 0)).1 0 ≡ (pair_at t).second
 unfolding fits every second-in of-second edges_on tabulate low_end high_end pairs_in
 second_at t h = (at 12 of-second second-in 36 refl t h).0
-
-short : (l : List ℕ) → every (λ k. ltb (nth l k) 4) 6 ≡ true → (k : ℕ) → k < 6 → nth l k < 4
-short l e k h = ltb-true _ _ (every-at (λ k. ltb (nth l k) 4) 6 k e h)
-
-pub first_short : (t : ℕ) → nth firsts (t % 6) < 4
-unfolding every
-first_short t = short firsts refl (t % 6) (omega arith)
-
-pub second_short : (t : ℕ) → nth seconds (t % 6) < 4
-unfolding every
-second_short t = short seconds refl (t % 6) (omega arith)
 
 -- ---- a face with four crossings
 

@@ -3,26 +3,40 @@
 
 #![tactic(auto)]
 
-ghost use Rattle.std.specs.Prelude.{◌≡◌, cond, ◌/◌, ◌%◌, ◌<◌, length, get_or};
+ghost use Rattle.std.specs.Prelude.{◌≡◌, ◌/◌, ◌%◌, ◌<◌, length, get_or, MatchOption};
 ghost use Rattle.rule_extract.specs.Cells.{bit_of, low_end, high_end, crosses, edges_on, four_on, pair, is_end};
 ghost use Rattle.rule_extract.specs.Cells.{shared_by};
 ghost use Rattle.rule_extract.specs.Cells.{parted, renamed_of, merged, groups_of};
 ghost use Rattle.extract_cells.specs.Cells.{kind_bit, kind_of, pair_at, joined_by, merged_if};
 
 // The corners at the two ends of the twelve edges of a cell.
-const LOW_ENDS: [u32; 12] = [0, 4, 2, 6, 0, 1, 4, 5, 0, 2, 1, 3];
-
-const HIGH_ENDS: [u32; 12] = [1, 5, 3, 7, 2, 3, 6, 7, 4, 6, 5, 7];
+const EDGE_ENDS: [(u32, u32); 12] = [
+    (0, 1),
+    (4, 5),
+    (2, 3),
+    (6, 7),
+    (0, 2),
+    (1, 3),
+    (4, 6),
+    (5, 7),
+    (0, 4),
+    (2, 6),
+    (1, 5),
+    (3, 7),
+];
 
 // The four edges of each of the six faces.
-const FACE_EDGES: [usize; 24] = [
-    4, 6, 8, 9, 5, 7, 10, 11, 0, 1, 8, 10, 2, 3, 9, 11, 0, 2, 4, 5, 1, 3, 6, 7,
+const FACE_EDGES: [[usize; 4]; 6] = [
+    [4, 6, 8, 9],
+    [5, 7, 10, 11],
+    [0, 1, 8, 10],
+    [2, 3, 9, 11],
+    [0, 2, 4, 5],
+    [1, 3, 6, 7],
 ];
 
 // The six pairs of four things.
-const PAIR_FIRST: [usize; 6] = [0, 0, 0, 1, 1, 2];
-
-const PAIR_SECOND: [usize; 6] = [1, 2, 3, 2, 3, 3];
+const PAIRS: [(usize, usize); 6] = [(0, 1), (0, 2), (0, 3), (1, 2), (1, 3), (2, 3)];
 
 // Bit i of a number.
 pub fn bit(n: u32, i: u32) -> bool
@@ -40,7 +54,7 @@ pub fn low_end(e: usize) -> u32
     ensures value { result ≡ low_end e }
     ensures upper_bound { result < 8 }
 {
-    LOW_ENDS[e]
+    EDGE_ENDS[e].0
 }
 
 // The corner at which an edge ends.
@@ -49,7 +63,7 @@ fn high_end(e: usize) -> u32
     ensures value { result ≡ high_end e }
     ensures upper_bound { result < 8 }
 {
-    HIGH_ENDS[e]
+    EDGE_ENDS[e].1
 }
 
 // Whether an edge crosses the band.
@@ -57,9 +71,7 @@ fn crosses_edge(case: u32, e: usize) -> bool
     requires { e < 12 }
     ensures { result ≡ crosses (bit_of case) e }
 {
-    let low = bit(case, low_end(e));
-    let high = bit(case, high_end(e));
-    !(low == high)
+    bit(case, low_end(e)) != bit(case, high_end(e))
 }
 
 // Edge k of a face.
@@ -69,7 +81,7 @@ fn face_edge(f: usize, k: usize) -> usize
     ensures value { result ≡ get_or (edges_on f) k 0 }
     ensures upper_bound { result < 12 }
 {
-    FACE_EDGES[4 * f + k]
+    FACE_EDGES[f][k]
 }
 
 // ---- the kind of a cell
@@ -97,46 +109,29 @@ fn kind_bit(case: u32, i: usize) -> bool
     four_crossings(case, i - 12)
 }
 
-// A weight where a test holds.
-pub fn weighed(test: bool, weight: u32) -> u32
-    ensures { result ≡ cond test weight 0 }
-{
-    if test { weight } else { 0 }
-}
-
 // The kind of a cell: bits 0 to 11 for the edges that cross, bits 12 to 17 for the faces with four crossings.
 pub fn cell_kind(case: u32) -> u32
     ensures { result ≡ kind_of (bit_of case) }
 {
     let mut kind: u32 = 0;
-    let mut weight: u32 = 1;
-    let mut i = 0;
-    while i < 18 {
-        kind = kind + weighed(kind_bit(case, i), weight);
-        weight = weight * 2;
-        i += 1;
+    for i in 0..18 {
+        kind += u32::from(kind_bit(case, i)) << i;
     }
     kind
 }
 
 // ---- pairs of crossings
 
-// The first edge of pair t % 6 of face t / 6.
-fn pair_first(t: usize) -> usize
+// The two edges of pair t % 6 of face t / 6.
+fn pair_at(t: usize) -> (usize, usize)
     requires { t < 36 }
-    ensures value { result ≡ (pair_at t).first }
-    ensures upper_bound { result < 12 }
+    ensures first { result.0 ≡ (pair_at t).first }
+    ensures second { result.1 ≡ (pair_at t).second }
+    ensures first_bound { result.0 < 12 }
+    ensures second_bound { result.1 < 12 }
 {
-    face_edge(t / 6, PAIR_FIRST[t % 6])
-}
-
-// Its second edge.
-fn pair_second(t: usize) -> usize
-    requires { t < 36 }
-    ensures value { result ≡ (pair_at t).second }
-    ensures upper_bound { result < 12 }
-{
-    face_edge(t / 6, PAIR_SECOND[t % 6])
+    let (first, second) = PAIRS[t % 6];
+    (face_edge(t / 6, first), face_edge(t / 6, second))
 }
 
 // Whether a corner is an end of an edge.
@@ -147,21 +142,21 @@ fn is_end(v: u32, e: usize) -> bool
     (v == low_end(e)) | (v == high_end(e))
 }
 
-// The corner that two edges have in common, or 8.
-fn shared(a: usize, b: usize) -> u32
+// The corner that two edges have in common.
+fn shared(a: usize, b: usize) -> Option<u32>
     requires a_bound { a < 12 }
     requires b_bound { b < 12 }
-    ensures { result ≡ shared_by a b }
+    ensures { MatchOption result (shared_by a b ≡ 8) (λ v. (v ≡ shared_by a b) × (v < 8)) }
 {
     let low = low_end(a);
     if is_end(low, b) {
-        return low;
+        return Some(low);
     }
     let high = high_end(a);
     if is_end(high, b) {
-        return high;
+        return Some(high);
     }
-    8
+    None
 }
 
 // Whether two edges have a corner in common whose sign is not that of the centre.
@@ -170,21 +165,21 @@ fn is_parted(case: u32, centre: bool, a: usize, b: usize) -> bool
     requires b_bound { b < 12 }
     ensures { result ≡ parted (bit_of case) centre (pair a b) }
 {
-    let v = shared(a, b);
-    if v < 8 {
-        return !(bit(case, v) == centre);
+    match shared(a, b) {
+        Some(v) => bit(case, v) != centre,
+        None => false,
     }
-    false
 }
 
-// Whether pair t is joined.
-fn joined(case: u32, kind: u32, centre: bool, t: usize) -> bool
+// Whether pair t, of the edges a and b, is joined.
+fn joined(case: u32, kind: u32, centre: bool, t: usize, a: usize, b: usize) -> bool
     requires t_bound { t < 36 }
+    requires a_bound { a < 12 }
+    requires b_bound { b < 12 }
+    requires pair_value { pair a b ≡ pair_at t }
     requires kind_value { kind ≡ kind_of (bit_of case) }
     ensures { result ≡ joined_by (bit_of case) centre (t / 6) (pair_at t) }
 {
-    let a = pair_first(t);
-    let b = pair_second(t);
     let both = bit(kind, a as u32) & bit(kind, b as u32);
     let four = bit(kind, 12 + (t / 6) as u32);
     both & (!four | is_parted(case, centre, a, b))
@@ -208,10 +203,8 @@ fn merge(groups: &mut [u32; 12], a: usize, b: usize)
 {
     let old = groups[b];
     let new = groups[a];
-    let mut e = 0;
-    while e < 12 {
-        groups[e] = renamed(groups[e], old, new);
-        e += 1;
+    for group in groups.iter_mut() {
+        *group = renamed(*group, old, new);
     }
 }
 
@@ -223,9 +216,9 @@ fn merge_if(case: u32, kind: u32, centre: bool, t: usize, groups: &mut [u32; 12]
     ensures { groups.new ≡ merged_if (joined_by (bit_of case) centre (t / 6)) groups.old
         (pair_at t) }
 {
-    if joined(case, kind, centre, t) {
-        merge(groups, pair_first(t), pair_second(t));
-        return;
+    let (a, b) = pair_at(t);
+    if joined(case, kind, centre, t, a, b) {
+        merge(groups, a, b);
     }
 }
 
@@ -235,11 +228,9 @@ pub fn groups(case: u32, kind: u32, centres: u32) -> [u32; 12]
     ensures { result ≡ groups_of (bit_of case) (bit_of centres) }
 {
     let mut groups = [0, 1, 2, 3, 4, 5, 6, 7, 8, 9, 10, 11];
-    let mut t = 0;
-    while t < 36 {
+    for t in 0..36 {
         let centre = bit(centres, (t / 6) as u32);
         merge_if(case, kind, centre, t, &mut groups);
-        t += 1;
     }
     groups
 }

@@ -4,9 +4,11 @@ use mathlib.Core.Path.{◌≡◌, refl, ap, ◌∙◌, sym}
 use mathlib.Core.Bool.{Bool, true, false, cond}
 use lib.Dec.{eqb}
 use native.Mathlib.Omega.{arith}
-use native.Mathlib.Numerals.{sub-one}
-use native.Mathlib.Nat.{pow-suc, mul-le-mul_left}
-use lib.Pow.{pow_pos}
+use native.Mathlib.Numerals.{add-one}
+use native.Mathlib.Nat.{pow-suc}
+use lib.Pow.{pow_mono}
+use mir.Val.{bool_byte}
+use Rattle.std.proofs.Math.Pow.{shl_exact}
 use Rattle.rule_extract.specs.declared.Grid.{Grid}
 use Rattle.rule_extract.specs.declared.Site.{Site}
 use Rattle.rule_extract.specs.declared.Span.{Span}
@@ -33,70 +35,67 @@ pub replay-crossing : (g : Grid) (c : Site) (axis : ℕ) → replay_from halving
 unfolding crossing_of
 replay-crossing g c axis = replay-path halvings g _ (edge_span g c axis)
 
--- ---- the turns, at the code's `left - 1`
+-- ---- the turns, at the code's `halvings - i`
 
-pub replay-step : (n : ℕ) (s : Span) (p : ℕ) → 0 < n → replay_from n s p ≡ replay_from (n - 1) (narrowed s (eqb (p % 2) 1)) (p / 2)
+-- n halvings more are left where one less is left after a turn
+rest_of : (i : ℕ) → i < halvings → halvings - i ≡ suc (halvings - (i + 1))
+rest_of i h = omega arith
+
+pub replay-step : (i : ℕ) (s : Span) (p : ℕ) → i < halvings
+    → replay_from (halvings - i) s p ≡ replay_from (halvings - (i + 1)) (narrowed s (eqb (p % 2) 1)) (p / 2)
 unfolding replay_from
-replay-step zero s p h = absurd (omega arith)
-replay-step (suc n) s p h = rw sub-one
+replay-step i s p h = rw (rest_of i h)
 
-pub replay-none : (n : ℕ) (s : Span) (p : ℕ) → n ≤ 0 → replay_from n s p ≡ mid_of s
+pub replay-none : (i : ℕ) (s : Span) (p : ℕ) → i ≡ halvings → replay_from (halvings - i) s p ≡ mid_of s
 unfolding replay_from
-replay-none zero s p h = refl
-replay-none (suc n) s p h = absurd (omega arith)
+replay-none i s p e = rw e
 
--- the search for a path once `left` of the halvings are left: what is known of the path, and the weight of the next decision
-pub record Searching (g : Grid) (sign : Bool) (all : ℕ) (s : Span) (path weight left : ℕ) : Type 0 where
-  pub weighs : weight * 2 ^ left ≡ 2 ^ 32
-  pub weight≤ : weight ≤ 2 ^ 32
-  pub path< : path < weight
-  pub is : path + weight * path_from left g sign s ≡ all
+-- the search for a path once i of the halvings are done
+pub record Searching (g : Grid) (sign : Bool) (all : ℕ) (s : Span) (path i : ℕ) : Type 0 where
+  pub path< : path < 2 ^ i
+  pub is : path + 2 ^ i * path_from (halvings - i) g sign s ≡ all
 
-light : (w n : ℕ) → w * 2 ^ n ≡ 2 ^ 32 → w ≤ 2 ^ 32
-light w n e = let h : w * 1 ≤ w * 2 ^ n = mul-le-mul_left w (pow_pos n) in omega arith
+pub searching-first : (g : Grid) (sign : Bool) (s : Span) → Searching g sign (path_from halvings g sign s) s 0 0
+searching-first g sign s = record { path< = omega arith; is = omega arith }
 
-pub searching-first : (g : Grid) (sign : Bool) (s : Span) → Searching g sign (path_from halvings g sign s) s 0 1 halvings
-searching-first g sign s = record { weighs = omega arith; weight≤ = omega arith; path< = omega arith; is = omega arith }
+-- a decision shifted to its place
+shifted : (k : Bool) (i : ℕ) → i < 32 → bool_byte k * 2 ^ i % 2 ^ 32 ≡ 2 ^ i * cond k 1 0
+shifted true i h = shl_exact 1 i 32 (omega arith) (omega arith) ∙ omega arith
+shifted false i h = shl_exact 1 i 32 (omega arith) (omega arith) ∙ omega arith
 
-step_is : (k : Bool) (path weight q : ℕ) → path + cond k weight 0 + weight * 2 * q ≡ path + weight * (cond k 1 0 + 2 * q)
-step_is true path weight q = omega arith
-step_is false path weight q = omega arith
+below : (k : Bool) (path q : ℕ) → path < q → path + q * cond k 1 0 < q * 2
+below true path q h = omega arith
+below false path q h = omega arith
 
-below : (k : Bool) (path weight : ℕ) → path < weight → path + cond k weight 0 < weight * 2
-below true path weight h = omega arith
-below false path weight h = omega arith
-
-unfolded : (n : ℕ) (g : Grid) (sign : Bool) (s : Span) → 0 < n
-    → path_from n g sign s ≡ cond (keeps g sign s) 1 0 + 2 * path_from (n - 1) g sign (narrowed s (keeps g sign s))
+unfolded : (i : ℕ) (g : Grid) (sign : Bool) (s : Span) → i < halvings
+    → path_from (halvings - i) g sign s ≡ cond (keeps g sign s) 1 0 + 2 * path_from (halvings - (i + 1)) g sign (narrowed s (keeps g sign s))
 unfolding path_from
-unfolded zero g sign s h = absurd (omega arith)
-unfolded (suc n) g sign s h = rw sub-one
+unfolded i g sign s h = rw (rest_of i h)
 
-double : (w n : ℕ) → 0 < n → w * 2 * 2 ^ (n - 1) ≡ w * 2 ^ n
-double w zero h = absurd (omega arith)
-double w (suc n) h = rw (sub-one, pow-suc 2 n) (omega arith)
+spread : (path q b r : ℕ) → path + q * b + q * 2 * r ≡ path + q * (b + 2 * r)
+spread path q b r = omega arith
 
-turned : {g : Grid} {sign : Bool} {all : ℕ} {s : Span} {path weight left : ℕ} → Searching g sign all s path weight left → 0 < left
-    → Searching g sign all (narrowed s (keeps g sign s)) (path + cond (keeps g sign s) weight 0) (weight * 2) (left - 1)
-turned {g} {sign} {all} {s} {path} {weight} {left} S h = record {
-  weighs = e;
-  weight≤ = light (weight * 2) (left - 1) e;
-  path< = below (keeps g sign s) path weight S.path<;
-  is = step_is (keeps g sign s) path weight _ ∙ ap (λ (q : ℕ). path + weight * q) (sym (unfolded left g sign s h)) ∙ S.is;
+double : (i : ℕ) → 2 ^ (i + 1) ≡ 2 ^ i * 2
+double i = rw (add-one i, pow-suc 2 i)
+
+turned : {g : Grid} {sign : Bool} {all : ℕ} {s : Span} {path i : ℕ} → Searching g sign all s path i → i < halvings
+    → Searching g sign all (narrowed s (keeps g sign s)) (path + 2 ^ i * cond (keeps g sign s) 1 0) (i + 1)
+turned {g} {sign} {all} {s} {path} {i} S h = record {
+  path< = rw (double i) (below (keeps g sign s) path (2 ^ i) S.path<);
+  is = rw (double i) (spread path (2 ^ i) (cond (keeps g sign s) 1 0) _ ∙ ap (λ (q : ℕ). path + 2 ^ i * q) (sym (unfolded i g sign s h)) ∙ S.is);
 }
-  where
-    e : weight * 2 * 2 ^ (left - 1) ≡ 2 ^ 32
-    e = double weight left h ∙ S.weighs
 
-pub searching-turn : {g : Grid} {sign : Bool} {all : ℕ} {s t : Span} {path weight left k : ℕ} {keep : Bool} → Searching g sign all s path weight left → 0 < left
-    → keep ≡ keeps g sign s → t ≡ narrowed s keep → k ≡ cond keep weight 0 → Searching g sign all t (path + k) (weight * 2) (left - 1)
-searching-turn S h e d f = rw (d, f, e) (turned S h)
+pub searching-turn : {g : Grid} {sign : Bool} {all : ℕ} {s t : Span} {path i k : ℕ} {keep : Bool} → Searching g sign all s path i → i < halvings
+    → keep ≡ keeps g sign s → t ≡ narrowed s keep → k ≡ bool_byte keep → Searching g sign all t (path + k * 2 ^ i % 2 ^ 32) (i + 1)
+searching-turn {i = i} {keep = keep} S h e d f = rw (d, f, shifted keep i h, e) (turned S h)
 
-pub searching-room : {g : Grid} {sign : Bool} {all : ℕ} {s : Span} {path weight left k : ℕ} → (keep : Bool) → Searching g sign all s path weight left
-    → k ≡ cond keep weight 0 → path + k < 2 ^ 64
-searching-room {path = path} {weight} keep S f = rw f (let h = below keep path weight S.path< in omega arith)
+pub searching-room : {g : Grid} {sign : Bool} {all : ℕ} {s t : Span} {path i k : ℕ} {keep : Bool} → Searching g sign all s path i → i < halvings
+    → keep ≡ keeps g sign s → t ≡ narrowed s keep → k ≡ bool_byte keep → path + k * 2 ^ i % 2 ^ 32 < 2 ^ 32
+searching-room {i = i} S h e d f =
+    let T = searching-turn S h e d f in
+    let l : 2 ^ (i + 1) ≤ 2 ^ 32 = pow_mono {j = 32} (omega arith) in
+    omega (arith, T.path<)
 
-pub searching-end : {g : Grid} {sign : Bool} {all : ℕ} {s : Span} {path weight left : ℕ} → Searching g sign all s path weight left → left ≤ 0 → path ≡ all
+pub searching-end : {g : Grid} {sign : Bool} {all : ℕ} {s : Span} {path i : ℕ} → Searching g sign all s path i → i ≡ halvings → path ≡ all
 unfolding path_from
-searching-end {left = zero} S h = let e : _ ≡ _ = S.is in omega (arith, e)
-searching-end {left = suc n} S h = absurd (omega arith)
+searching-end {g} {sign} {all} {s} {path} {i} S e = let q : path + 2 ^ halvings * 0 ≡ all = rw e at S.is in omega (arith, q)

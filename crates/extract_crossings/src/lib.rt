@@ -3,7 +3,7 @@
 
 #![tactic(auto)]
 
-ghost use Rattle.std.specs.Prelude.{◌≡◌, cond};
+ghost use Rattle.std.specs.Prelude.{◌≡◌};
 ghost use Rattle.extract_crossings.specs.Crossings.{Near, replay_from, path_from};
 ghost use Rattle.rule_extract.specs.Crossings.{next_site, edge_span, mid_of, keeps, narrowed, halvings};
 
@@ -18,25 +18,13 @@ pub fn next_site(c: Site, axis: usize) -> Site
     requires { Near c }
     ensures { result ≡ next_site c axis }
 {
-    if axis == 0 {
-        return Site {
-            x: c.x + 1,
-            y: c.y,
-            z: c.z,
-        };
+    let mut next = c;
+    match axis {
+        0 => next.x += 1,
+        1 => next.y += 1,
+        _ => next.z += 1,
     }
-    if axis == 1 {
-        return Site {
-            x: c.x,
-            y: c.y + 1,
-            z: c.z,
-        };
-    }
-    Site {
-        x: c.x,
-        y: c.y,
-        z: c.z + 1,
-    }
+    next
 }
 
 // The edge from a place along an axis.
@@ -76,30 +64,19 @@ fn narrow(s: Span, keep: bool) -> Span
     Span { a, b: m }
 }
 
-// A decision as a number of a path, with its weight there.
-fn weighed(keep: bool, weight: u64) -> u64
-    ensures { result ≡ cond keep weight 0 }
-{
-    if keep { weight } else { 0 }
-}
-
 // The path of the crossing on the edge from a place along an axis; sign tells whether the edge begins inside the band.
 pub fn path(g: Grid, sign: bool, c: Site, axis: usize) -> u32
     requires { Near c }
     ensures { result ≡ path_from halvings g sign (edge_span g c axis) }
 {
     let mut s = edge_span(g, c, axis);
-    let mut path: u64 = 0;
-    let mut weight: u64 = 1;
-    let mut left = HALVINGS;
-    while 0 < left {
+    let mut path: u32 = 0;
+    for i in 0..HALVINGS {
         let keep = keeps_side(g, sign, s);
         s = narrow(s, keep);
-        path = path + weighed(keep, weight);
-        weight = weight * 2;
-        left -= 1;
+        path += u32::from(keep) << i;
     }
-    path as u32
+    path
 }
 
 // The crossing with this path on the edge from a place along an axis.
@@ -109,11 +86,9 @@ pub fn replay(g: Grid, c: Site, axis: usize, path: u32) -> Point
 {
     let mut s = edge_span(g, c, axis);
     let mut rest = path;
-    let mut left = HALVINGS;
-    while 0 < left {
+    for i in 0..HALVINGS {
         s = narrow(s, rest % 2 == 1);
-        rest = rest / 2;
-        left -= 1;
+        rest /= 2;
     }
     mid(s)
 }

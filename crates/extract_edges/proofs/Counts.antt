@@ -5,8 +5,10 @@ use mathlib.Core.Bool.{Bool, true, false, not, beq}
 use mathlib.Core.List.{[], ◌∷◌, ◌++◌, append-nil}
 use native.Mathlib.Omega.{arith}
 use native.Mathlib.Numerals.{add-one}
+use Rattle.std.proofs.Common.{add-zero}
 use native.Mathlib.Nat.{mul-le-mul_right}
 use lib.ListN.{length, length-append}
+use mir.Val.{bool_byte}
 use Rattle.rule_sheet.specs.Edges.{join_to}
 use Rattle.rule_extract.specs.declared.Grid.{Grid}
 use Rattle.rule_extract.specs.Crossings.{next_site}
@@ -52,6 +54,15 @@ counted-more {g} {n} {t} C x = record {
   is = let q = ap length (quads-more g n t x) ∙ length-append (join_to (quad_if g n) t) _ in omega (arith, C.is);
   count≤ = omega (arith, C.count≤);
 }
+
+-- with the edge t, where it crosses
+pub counted-by : {g : Grid} {n t count k : ℕ} (b : Bool) → Counted g n t count → inner_crosses g n t ≡ b → k ≡ bool_byte b → Counted g n (t + 1) (count + k)
+counted-by true C x e = rw e (counted-more C x)
+counted-by false C x e = rw (e, add-zero) (counted_same C x)
+
+pub byte-le : (b : Bool) → bool_byte b ≤ 1
+byte-le true = omega arith
+byte-le false = omega arith
 
 -- ---- numbers of edges
 

@@ -25,22 +25,12 @@ pub place-within : (m axis a b d : ℕ) → axis < 3 → a < m → b < m → d <
 unfolding place_on
 place-within m axis a b d h p q r = below3 (λ k. Within m (place_on k a b d)) (record { x< = p; y< = q; z< = r }) (record { x< = r; y< = p; z< = q }) (record { x< = q; y< = r; z< = p }) axis h
 
--- the next place along the axis itself, and along the last of the three
+-- the next place along the axis itself
 pub next-own : (axis a b d : ℕ) → axis < 3 → next_site (place_on axis a b d) axis ≡ place_on axis (a + 1) b d
 unfolding next_site place_on
 next-own axis a b d = below3 (λ k. next_site (place_on k a b d) k ≡ place_on k (a + 1) b d) refl refl refl axis
 
-pub next_last : (axis a b d : ℕ) → axis < 3 → next_site (place_on axis a b d) ((axis + 2) % 3) ≡ place_on axis a b (d + 1)
-unfolding next_site place_on
-next_last axis a b d = below3 (λ k. next_site (place_on k a b d) ((k + 2) % 3) ≡ place_on k a b (d + 1)) refl refl refl axis
-
 -- ---- samples
-
--- the next place along an axis stands a stride behind
-pub stride-is : (m axis x y : ℕ) (c : Site) {d : Site} → axis < 3 → x ≡ index_of m c → d ≡ next_site c axis → y ≡ index_of m d → (x ≤ y) × (y - x ≡ stride_of m axis)
-stride-is m axis x y c h e q f =
-    let s : y ≡ x + stride_of m axis = f ∙ (rw (q, e) (next-index m c axis h)) in
-    (omega arith, omega arith)
 
 -- the numbers of the places along the last axis
 steps : (m axis a b j : ℕ) → axis < 3 → index_of m (place_on axis a b 1) + j * stride_of m ((axis + 2) % 3) ≡ index_of m (place_on axis a b (j + 1))
@@ -142,12 +132,6 @@ row-places n r h =
 module _ (n r : ℕ) {c : Site} (h : n ≤ 130) (P : RowPlaces n r) (e : c ≡ place_on (r / (n - 1) / n) (r / (n - 1) % n) (r % (n - 1) + 1) 1) where
   pub first-within : Within (n + 1) c
   first-within = rw e (let a = P.a< in let b = P.b< in place-within (n + 1) _ _ _ 1 P.axis< (omega arith) (omega arith) (omega (arith, P.n>)))
-
-  pub own-within : Within (n + 1) (next_site c (r / (n - 1) / n))
-  own-within = rw (e, next-own (r / (n - 1) / n) (r / (n - 1) % n) (r % (n - 1) + 1) 1 P.axis<) (let a = P.a< in let b = P.b< in place-within (n + 1) _ _ _ 1 P.axis< (omega arith) (omega arith) (omega (arith, P.n>)))
-
-  pub last_within : Within (n + 1) (next_site c ((r / (n - 1) / n + 2) % 3))
-  last_within = rw (e, next_last (r / (n - 1) / n) (r / (n - 1) % n) (r % (n - 1) + 1) 1 P.axis<) (let a = P.a< in let b = P.b< in place-within (n + 1) _ _ _ 2 P.axis< (omega arith) (omega arith) (omega (arith, P.n>)))
 
   pub row_made : r < row_count n → (x y z : ℕ) → x ≡ index_of (n + 1) c → y ≡ stride_of (n + 1) (r / (n - 1) / n) → z ≡ stride_of (n + 1) ((r / (n - 1) / n + 2) % 3)
       → RowAt n r (record { axis = r / (n - 1) / n; a = r / (n - 1) % n; b = r % (n - 1) + 1; from = x; next = y; step = z })

@@ -5,9 +5,8 @@
 ghost use Rattle.std.specs.Prelude.{◌≡◌, ◌+◌, ◌-◌, ◌≤◌, ◌<◌, length};
 ghost use Rattle.rule_sheet.specs.Edges.{join_to};
 ghost use Rattle.rule_extract.specs.Crossings.{next_site};
-ghost use Rattle.extract_grid.specs.Lattice.{Within, Samples};
+ghost use Rattle.extract_grid.specs.Lattice.{Samples};
 ghost use Rattle.rule_extract.specs.Lattice.{inside_at};
-ghost use Rattle.extract_paths.specs.Paths.{stride_of};
 ghost use Rattle.rule_extract.specs.Drawing.{place_on, inner_count, inner_site, quad_if};
 ghost use Rattle.extract_edges.specs.Rows.{edge_in, RowIn, RowAt, row_count, edge_number, Counted};
 
@@ -29,25 +28,11 @@ pub struct Row {
 pub fn place_on(axis: usize, a: usize, b: usize, d: usize) -> Site
     ensures { result ≡ place_on axis a b d }
 {
-    if axis == 0 {
-        return Site { x: a, y: b, z: d };
+    match axis {
+        0 => Site { x: a, y: b, z: d },
+        1 => Site { x: d, y: a, z: b },
+        _ => Site { x: b, y: d, z: a },
     }
-    if axis == 1 {
-        return Site { x: d, y: a, z: b };
-    }
-    Site { x: b, y: d, z: a }
-}
-
-// How far the sample of the next place along an axis stands behind that of c.
-fn stride(m: usize, c: Site, axis: usize) -> usize
-    requires m_bound { m ≤ 131 }
-    requires axis_bound { axis < 3 }
-    requires within { Within m c }
-    requires within_2 { Within m (next_site c axis) }
-    ensures { result ≡ stride_of m axis }
-{
-    let i = extract_grid::index_of(m, c);
-    extract_grid::index_of(m, extract_crossings::next_site(c, axis)) - i
 }
 
 // The row r.
@@ -66,8 +51,8 @@ pub fn row_at(n: usize, r: usize) -> Row
         a,
         b,
         from: extract_grid::index_of(n + 1, c),
-        next: stride(n + 1, c, axis),
-        step: stride(n + 1, c, (axis + 2) % 3),
+        next: extract_paths::stride(n + 1, axis),
+        step: extract_paths::stride(n + 1, (axis + 2) % 3),
     }
 }
 
@@ -116,10 +101,8 @@ fn count_edge(
     requires counted { Counted g n (edge_number n r j) count }
     ensures { Counted g n (edge_number n r j + 1) result }
 {
-    if begins_inside(g, n, row, j, samples) == ends_inside(g, n, row, j, samples) {
-        return count;
-    }
-    count + 1
+    let crosses = begins_inside(g, n, row, j, samples) != ends_inside(g, n, row, j, samples);
+    count + usize::from(crosses)
 }
 
 // The count with the quads of the row r.
@@ -131,10 +114,8 @@ fn count_row(g: Grid, n: usize, r: usize, count: usize, samples: &[f64]) -> usiz
 {
     let row = row_at(n, r);
     let mut next = count;
-    let mut j = 0;
-    while j < n - 1 {
+    for j in 0..n - 1 {
         next = count_edge(g, n, r, row, j, next, samples);
-        j += 1;
     }
     next
 }
@@ -145,12 +126,9 @@ pub fn count_quads(g: Grid, n: usize, samples: &[f64]) -> usize
     ensures value { result ≡ length (join_to (quad_if g n) (inner_count n)) }
     ensures upper_bound { result ≤ inner_count n }
 {
-    let rows = row_count(n);
     let mut count = 0;
-    let mut r = 0;
-    while r < rows {
+    for r in 0..row_count(n) {
         count = count_row(g, n, r, count, samples);
-        r += 1;
     }
     count
 }

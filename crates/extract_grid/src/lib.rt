@@ -78,10 +78,8 @@ pub fn sample_grid(g: Grid, m: usize, s: &mut [f64])
     requires { 0 < m }
     ensures { s.new ≡ tabulate (sample_at g m) (length s.old) }
 {
-    let mut t = 0;
-    while t < s.len() {
-        s[t] = sample_at(g, m, t);
-        t += 1;
+    for (t, sample) in s.iter_mut().enumerate() {
+        *sample = sample_at(g, m, t);
     }
 }
 
@@ -89,11 +87,8 @@ pub fn sample_grid(g: Grid, m: usize, s: &mut [f64])
 pub fn all_finite(s: &[f64]) -> bool
     ensures { result ≡ every (finite_in s.now) (length s.now) }
 {
-    let mut t = 0;
-    while t < s.len() {
-        if numeric::is_finite(s[t]) {
-            t += 1;
-        } else {
+    for sample in s {
+        if !numeric::is_finite(*sample) {
             return false;
         }
     }
@@ -108,10 +103,7 @@ fn negative(samples: &[f64], i: usize) -> u32
     ensures value { result ≡ num (is_negative samples.now i) }
     ensures upper_bound { result ≤ 1 }
 {
-    if samples[i] < 0.0 {
-        return 1;
-    }
-    0
+    u32::from(samples[i] < 0.0)
 }
 
 // The signs at t and at s behind it.
@@ -175,10 +167,7 @@ fn centre_bit(g: Grid, c: Site, kind: u32, f: usize) -> bool
     requires f_bound { f < 6 }
     ensures { result ≡ centre_bit g c kind f }
 {
-    if extract_cells::bit(kind, 12 + f as u32) {
-        return centre_inside(g, c, f);
-    }
-    false
+    extract_cells::bit(kind, 12 + f as u32) && centre_inside(g, c, f)
 }
 
 // The signs at the centres of faces with four crossings.
@@ -187,12 +176,8 @@ fn face_centres(g: Grid, c: Site, kind: u32) -> u32
     ensures { result ≡ pack_to (centre_bit g c kind) 6 }
 {
     let mut centres: u32 = 0;
-    let mut weight: u32 = 1;
-    let mut f = 0;
-    while f < 6 {
-        centres = centres + extract_cells::weighed(centre_bit(g, c, kind, f), weight);
-        weight = weight * 2;
-        f += 1;
+    for f in 0..6 {
+        centres += u32::from(centre_bit(g, c, kind, f)) << f;
     }
     centres
 }

@@ -222,24 +222,18 @@ pub sign-says : (g : Grid) (c : Site) {n v : ℕ} {b : Bool} (j : ℕ) → n ≡
 unfolding edge_site
 sign-says g c j e q h f = f ∙ (rw (e, q) (bit-case g c (low_end j) (low-lt j h)))
 
--- the paths of a cell once j of its edges are seen
-pub record Filling (g : Grid) (n : ℕ) (c : Site) (e : ℕ) (v w : List ℕ) (j : ℕ) : Type 0 where
-  pub j≤ : j ≤ 12
-  pub len : length w ≡ length v
-  pub cell : CellAt n c e (length w)
-  pub done : Pathed g n w (12 * e + j)
+pub cell-kept : {n : ℕ} {c : Site} {e : ℕ} (v w : List ℕ) → length w ≡ length v → CellAt n c e (length v) → CellAt n c e (length w)
+cell-kept v w l C = rw l C
 
-pub filling-start : {g : Grid} {n : ℕ} {c : Site} {e : ℕ} {w : List ℕ} → CellAt n c e (length w) → Pathed g n w (12 * e) → Filling g n c e w w 0
-filling-start {g} {n} {c} {e} {w} C P = let q : 12 * e ≡ 12 * e + 0 = omega arith in record { j≤ = omega arith; len = refl; cell = C; done = rw q at P }
+-- the first edge of a cell, the edge after, and the first of the next cell
+pub cell-start : {g : Grid} {n : ℕ} (e : ℕ) {w : List ℕ} → Pathed g n w (12 * e) → Pathed g n w (12 * e + 0)
+cell-start e P = let q : 12 * e ≡ 12 * e + 0 = omega arith in rw q at P
 
-pub filling-turn : {g : Grid} {n : ℕ} {c : Site} {e : ℕ} {v w z : List ℕ} {j : ℕ} → Filling g n c e v w j → j < 12 → length z ≡ length w → Pathed g n z (12 * e + j + 1)
-    → Filling g n c e v z (j + 1)
-filling-turn {n = n} {c} {e} {z = z} {j} F h l P =
-    let q : 12 * e + j + 1 ≡ 12 * e + (j + 1) = omega arith in
-    record { j≤ = omega arith; len = l ∙ F.len; cell = rw l F.cell; done = rw q at P }
+pub cell-turn : {g : Grid} {n : ℕ} (e j : ℕ) {w : List ℕ} → Pathed g n w (12 * e + j + 1) → Pathed g n w (12 * e + (j + 1))
+cell-turn e j P = let q : 12 * e + j + 1 ≡ 12 * e + (j + 1) = omega arith in rw q at P
 
-pub filling-end : {g : Grid} {n : ℕ} {c : Site} {e : ℕ} {v w : List ℕ} {j : ℕ} → Filling g n c e v w j → 12 ≤ j → Pathed g n w (12 * (e + 1))
-filling-end {e = e} {j = j} F h = let a = F.j≤ in let q : 12 * e + j ≡ 12 * (e + 1) = omega arith in rw q at F.done
+pub cell-end : {g : Grid} {n j : ℕ} (e : ℕ) {w : List ℕ} → Pathed g n w (12 * e + j) → j ≡ 12 → Pathed g n w (12 * (e + 1))
+cell-end {j = j} e P h = let q : 12 * e + j ≡ 12 * (e + 1) = omega arith in rw q at P
 
 -- ---- all cells
 
@@ -252,15 +246,3 @@ case-read {d = d} n e S h q f = f ∙ case-is d S (rw q (within-at n e h))
 
 pub cell-read : {g : Grid} {F : List Float} {d : Site} (n e : ℕ) → Samples g (n + 1) F → e < n * n * n → d ≡ site_at n e → CellIn (n + 1) d (length F)
 cell-read {d = d} n e S h q = cell_in d S (rw q (within-at n e h))
-
--- the paths of the first e cells
-pub record Going (g : Grid) (n count : ℕ) (v w : List ℕ) (e : ℕ) : Type 0 where
-  pub e≤ : e ≤ count
-  pub len : length w ≡ length v
-  pub done : Pathed g n w (12 * e)
-
-pub going-turn : {g : Grid} {n count : ℕ} {v w z : List ℕ} {e : ℕ} → Going g n count v w e → e < count → length z ≡ length w → Pathed g n z (12 * (e + 1)) → Going g n count v z (e + 1)
-going-turn G h l P = record { e≤ = omega arith; len = l ∙ G.len; done = P }
-
-pub going_end : {g : Grid} {n count : ℕ} {v w : List ℕ} {e : ℕ} → Going g n count v w e → count ≤ e → Pathed g n w (12 * count)
-going_end {count = count} {e = e} G h = let a = G.e≤ in let q : e ≡ count = omega arith in rw q at G.done

@@ -17,27 +17,23 @@ use rule_extract::{Grid, Site};
 fn along(c: Site, axis: usize) -> usize
     ensures { result ≡ along_of c axis }
 {
-    if axis == 0 {
-        return c.x;
+    match axis {
+        0 => c.x,
+        1 => c.y,
+        _ => c.z,
     }
-    if axis == 1 {
-        return c.y;
-    }
-    c.z
 }
 
-// How far the numbers of two cells next to each other along an axis are apart.
-fn stride(n: usize, axis: usize) -> usize
-    requires { n ≤ 130 }
+// How far the numbers of two places next to each other along an axis are apart, in a grid of n places a side.
+pub fn stride(n: usize, axis: usize) -> usize
+    requires { n ≤ 131 }
     ensures { result ≡ stride_of n axis }
 {
-    if axis == 0 {
-        return n * n;
+    match axis {
+        0 => n * n,
+        1 => n,
+        _ => 1,
     }
-    if axis == 1 {
-        return n;
-    }
-    1
 }
 
 // The slot of the same edge in the cell before c along one of the two other axes, or the slot itself.
@@ -88,7 +84,6 @@ fn put_path(g: Grid, n: usize, case: u32, kind: u32, c: Site, e: usize, j: usize
         let sign = extract_cells::bit(case, extract_cells::low_end(j));
         let p = edge_path(g, n, sign, c, e, j, w);
         w[12 * e + j] = p;
-        return;
     }
 }
 
@@ -100,10 +95,8 @@ fn put_cell(g: Grid, n: usize, case: u32, c: Site, e: usize, w: &mut [u32])
     ensures { Pathed g n w.new (12 * (e + 1)) }
 {
     let kind = extract_cells::cell_kind(case);
-    let mut j = 0;
-    while j < 12 {
+    for j in 0..12 {
         put_path(g, n, case, kind, c, e, j, w);
-        j += 1;
     }
 }
 
@@ -117,10 +110,7 @@ fn put_cell_at(g: Grid, n: usize, e: usize, samples: &[f64], w: &mut [u32])
 {
     let c = extract_grid::site_at(n, e);
     let case = extract_grid::case_at(samples, n + 1, c);
-    if case == 0 {
-        return;
-    }
-    if case == 255 {
+    if case == 0 || case == 255 {
         return;
     }
     put_cell(g, n, case, c, e, w);
@@ -133,9 +123,7 @@ pub fn put_paths(g: Grid, n: usize, count: usize, samples: &[f64], w: &mut [u32]
     requires count_in_bounds { 12 * count ≤ length w.old }
     ensures { Pathed g n w.new (12 * count) }
 {
-    let mut e = 0;
-    while e < count {
+    for e in 0..count {
         put_cell_at(g, n, e, samples, w);
-        e += 1;
     }
 }

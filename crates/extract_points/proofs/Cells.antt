@@ -18,15 +18,12 @@ use Rattle.rule_extract.specs.Paths.{edge_crosses}
 use Rattle.extract_paths.specs.Paths.{Pathed}
 use Rattle.rule_extract.specs.Drawing.{points_in, points_to}
 use Rattle.extract_points.specs.Slots.{CellPaths, put_points, slot_number, Numbered}
-use Rattle.extract_points.proofs.Putting.{length-put, put-append, put_front}
+use Rattle.extract_points.proofs.Putting.{put-append, put_front}
 use Rattle.extract_grid.proofs.Joins.{join-below}
 use Rattle.extract_points.specs.Vertices.{AllNumbered}
 
 -- the first e cells are drawn: v and s are the slots and the coordinates as they came
 pub record Drawn (g : Grid) (n : ℕ) (v : List ℕ) (s : List Float) (w : List ℕ) (t : List Float) (place e : ℕ) : Type 0 where
-  pub e≤ : e ≤ n * n * n
-  pub len : length w ≡ length v
-  pub size : length t ≡ length s
   pub place_is : place ≡ length (points_to g n e)
   pub put : t ≡ put_points (points_to g n e) 0 s
   pub done : (i j : ℕ) → i < e → j < 12 → edge_crosses g (site_at n i) j ≡ true → get_or w (12 * i + j) 0 ≡ slot_number g n (site_at n i) j
@@ -35,9 +32,6 @@ pub record Drawn (g : Grid) (n : ℕ) (v : List ℕ) (s : List Float) (w : List 
 pub drawn-start : (g : Grid) (n : ℕ) (v : List ℕ) (s : List Float) → Drawn g n v s v s 0 0
 unfolding points_to join_to put_points
 drawn-start g n v s = record {
-  e≤ = omega arith;
-  len = refl;
-  size = refl;
   place_is = refl;
   put = refl;
   done = λ i j h l x. absurd (omega arith);
@@ -48,10 +42,10 @@ drawn-start g n v s = record {
 
 module _ {g : Grid} {n : ℕ} {v : List ℕ} {s : List Float} {w : List ℕ} {t : List Float} {place e : ℕ} (D : Drawn g n v s w t place e) (h : e < n * n * n) where
   -- its slots have the paths still
-  pub cell-paths : Pathed g n v (12 * (n * n * n)) → CellPaths g (site_at n e) e w
-  cell-paths P = record {
-    fits = let a = P.fits in let b = D.len in omega arith;
-    is = λ j l x.
+  pub cell-paths : Pathed g n v (12 * (n * n * n)) → length w ≡ length v → CellPaths g (site_at n e) e w
+  cell-paths P l = record {
+    fits = let a = P.fits in omega arith;
+    is = λ j b x.
         let q : (12 * e + j) / 12 ≡ e = omega arith in
         let r : (12 * e + j) % 12 ≡ j = omega arith in
         D.rest (12 * e + j) (omega arith) ∙ (rw (q, r) at (P.is (12 * e + j) (omega arith)) x);
@@ -68,13 +62,9 @@ module _ {g : Grid} {n : ℕ} {v : List ℕ} {s : List Float} {w : List ℕ} {t 
   unfolding points_to join_to
   joined = rw (add-one e)
 
-  pub drawn-turn : {z : List ℕ} {u : List Float} {r : ℕ} → length z ≡ length w
-      → (r ≡ place + length (points_in g n e)) × ((u ≡ put_points (points_in g n e) place t) × Numbered g n (site_at n e) e w z)
+  pub drawn-turn : {z : List ℕ} {u : List Float} {r : ℕ} → (r ≡ place + length (points_in g n e)) × ((u ≡ put_points (points_in g n e) place t) × Numbered g n (site_at n e) e w z)
       → Drawn g n v s z u r (e + 1)
-  drawn-turn l E = record {
-    e≤ = omega arith;
-    len = l ∙ D.len;
-    size = ap length E.1.0 ∙ (length-put (points_in g n e) place t ∙ D.size);
+  drawn-turn E = record {
     place_is = E.0 ∙ rw (D.place_is, joined) (sym (length-append (points_to g n e) (points_in g n e)));
     put = let z : 0 + place ≡ place = omega arith in E.1.0 ∙ rw (joined, put-append (points_to g n e) (points_in g n e) 0 s, ← D.put, ← D.place_is, z);
     done = λ i j a b x. ⊎_elim
@@ -85,15 +75,13 @@ module _ {g : Grid} {n : ℕ} {v : List ℕ} {s : List Float} {w : List ℕ} {t 
   }
 
 -- all cells are drawn
-pub drawn-end : {g : Grid} {n : ℕ} {v : List ℕ} {s : List Float} {w : List ℕ} {t : List Float} {place e : ℕ} → Drawn g n v s w t place e → n * n * n ≤ e
-    → Pathed g n v (12 * (n * n * n)) → 3 * length (points_to g n (n * n * n)) ≤ length s
+pub drawn-end : {g : Grid} {n : ℕ} {v : List ℕ} {s : List Float} {w : List ℕ} {t : List Float} {place e : ℕ} → Drawn g n v s w t place e → e ≡ n * n * n
+    → Pathed g n v (12 * (n * n * n)) → length w ≡ length v → 3 * length (points_to g n (n * n * n)) ≤ length s
     → (place ≡ length (points_to g n (n * n * n))) × (Front (flat_points (points_to g n (n * n * n))) t × AllNumbered g n w)
-drawn-end {g} {n} {v} {s} {w} {t} {place} {e} D h P r =
-    let a = D.e≤ in
-    let q : e ≡ n * n * n = omega arith in (
-      D.place_is ∙ ap (λ m. length (points_to g n m)) q,
-      (
-        rw (D.put, q) (put_front (points_to g n (n * n * n)) s r),
-        record { fits = let f = P.fits in let l = D.len in omega arith; is = λ i j b l x. D.done i j (omega arith) l x },
-      ),
-    )
+drawn-end {g} {n} {v} {s} {w} {t} {place} {e} D q P l r = (
+  D.place_is ∙ ap (λ m. length (points_to g n m)) q,
+  (
+    rw (D.put, q) (put_front (points_to g n (n * n * n)) s r),
+    record { fits = let f = P.fits in omega arith; is = λ i j b h x. D.done i j (omega arith) h x },
+  ),
+)

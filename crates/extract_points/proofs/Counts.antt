@@ -7,6 +7,7 @@ use native.Mathlib.Omega.{arith}
 use mathlib.Core.Logic.{◌⊎◌}
 use native.Mathlib.Nat.{mul-le-mul_right}
 use native.Mathlib.Numerals.{add-one}
+use mir.Val.{bool_byte}
 use lib.Dec.{eqb, ltb}
 use lib.Ieee.{Float}
 use lib.ListN.{length, get_or, length-append, length-map}
@@ -92,29 +93,30 @@ rank_is {g} {c} k K = count-ext _ _ k (λ i h. has-is i K) ∙ sym (group-count 
 -- ---- loops
 
 -- the count of the groups below i
-pub record Ranking (kind : ℕ) (G : List ℕ) (k count i : ℕ) : Type 0 where
-  pub i≤ : i ≤ k
+pub record Ranking (kind : ℕ) (G : List ℕ) (count i : ℕ) : Type 0 where
   pub count≤ : count ≤ i
   pub is : count ≡ rank_in kind G i
 
-pub ranking-start : (kind : ℕ) (G : List ℕ) (k : ℕ) → Ranking kind G k 0 0
+pub ranking-start : (kind : ℕ) (G : List ℕ) → Ranking kind G 0 0
 unfolding count_to
-ranking-start kind G k = record { i≤ = omega arith; count≤ = omega arith; is = refl }
+ranking-start kind G = record { count≤ = omega arith; is = refl }
 
 pub one-le : (b : Bool) → cond b 1 0 ≤ 1
 one-le true = omega arith
 one-le false = omega arith
 
-pub ranking-turn : {kind : ℕ} {G : List ℕ} {k count i m : ℕ} (b : Bool) → Ranking kind G k count i → i < k → b ≡ has_in kind G i → m ≡ cond b 1 0 → Ranking kind G k (count + m) (i + 1)
-unfolding count_to
-ranking-turn {kind} {G} {i = i} b R h e f = record {
-  i≤ = omega arith;
-  count≤ = let l = one-le b in let c = R.count≤ in omega (arith, f);
-  is = rw (add-one i, f, e, R.is);
-}
+byte-is : (b : Bool) → bool_byte b ≡ cond b 1 0
+byte-is true = refl
+byte-is false = refl
 
-pub ranking-end : {kind : ℕ} {G : List ℕ} {k count i : ℕ} → Ranking kind G k count i → k ≤ i → count ≡ rank_in kind G k
-ranking-end {kind} {G} {k} {i = i} R h = let a = R.i≤ in let q : i ≡ k = omega arith in R.is ∙ ap (rank_in kind G) q
+pub ranking-turn : {kind : ℕ} {G : List ℕ} {count i m : ℕ} (b : Bool) → Ranking kind G count i → b ≡ has_in kind G i → m ≡ bool_byte b → Ranking kind G (count + m) (i + 1)
+unfolding count_to
+ranking-turn {kind} {G} {i = i} b R e f =
+    let q = f ∙ byte-is b in
+    record {
+      count≤ = let l = one-le b in let c = R.count≤ in omega (arith, q);
+      is = rw (add-one i, q, e, R.is);
+    }
 
 -- ---- cells and their points
 
@@ -144,29 +146,20 @@ cube-small n h =
     omega arith
 
 -- the count of the points of the first e cells
-pub record Totalling (g : Grid) (n count total e : ℕ) : Type 0 where
-  pub e≤ : e ≤ count
+pub record Totalling (g : Grid) (n total e : ℕ) : Type 0 where
   pub total≤ : total ≤ 12 * e
   pub is : total ≡ length (points_to g n e)
 
-pub totalling-start : (g : Grid) (n count : ℕ) → Totalling g n count 0 0
+pub totalling-start : (g : Grid) (n : ℕ) → Totalling g n 0 0
 unfolding points_to join_to
-totalling-start g n count = record { e≤ = omega arith; total≤ = omega arith; is = refl }
+totalling-start g n = record { total≤ = omega arith; is = refl }
 
-pub totalling-turn : {g : Grid} {n count total e r : ℕ} → Totalling g n count total e → e < count → (r ≡ length (points_in g n e)) × (r ≤ 12) → Totalling g n count (total + r) (e + 1)
+pub totalling-turn : {g : Grid} {n total e r : ℕ} → Totalling g n total e → r ≡ length (points_in g n e) → r ≤ 12 → Totalling g n (total + r) (e + 1)
 unfolding points_to
-totalling-turn {g} {n} {e = e} T h f = record {
-  e≤ = omega arith;
-  total≤ = let l = T.total≤ in let m = f.1 in omega arith;
-  is = rw (length-join (points_in g n) e, ← T.is, ← f.0);
+totalling-turn {g} {n} {e = e} T f m = record {
+  total≤ = let l = T.total≤ in omega arith;
+  is = rw (length-join (points_in g n) e, ← T.is, ← f);
 }
-
-pub totalling-end : {g : Grid} {n count total e : ℕ} → Totalling g n count total e → count ≤ e → (total ≡ length (points_to g n count)) × (total ≤ 12 * count)
-totalling-end {g} {n} {count} {e = e} T h =
-    let a = T.e≤ in
-    let l = T.total≤ in
-    let q : e ≡ count = omega arith in
-    (T.is ∙ ap (λ m. length (points_to g n m)) q, omega arith)
 
 pub near-read : {g : Grid} {F : List Float} {d : Site} (n e : ℕ) → Samples g (n + 1) F → e < n * n * n → d ≡ site_at n e → Near d
 near-read n e S h q = let m = S.m≤ in near_of {n = n} (omega arith) (rw q (within-at n e h))

@@ -57,43 +57,37 @@ part-suc g c k e b q =
 
 -- the sum of the crossings of the group k on the first e edges
 pub record Summing (g : Grid) (c : Site) (k : ℕ) (s : Sum) (e : ℕ) : Type 0 where
-  pub e≤ : e ≤ 12
   pub count≤ : s.count ≤ e
   pub point_is : s.point ≡ foldl add_p origin (part_to g c k e)
   pub count_is : s.count ≡ length (part_to g c k e)
 
 pub summing_start : (g : Grid) (c : Site) (k : ℕ) {p : Point} → p ≡ origin → Summing g c k (record { point = p; count = 0 }) 0
 unfolding part_to tabulate
-summing_start g c k o = record { e≤ = omega arith; count≤ = omega arith; point_is = o; count_is = refl }
+summing_start g c k o = record { count≤ = omega arith; point_is = o; count_is = refl }
 
-turn_by : (g : Grid) (c : Site) (k e : ℕ) (s : Sum) → Summing g c k s e → e < 12 → (b : Bool) → is_member g c k e ≡ b → Summing g c k (added_if b s (crossing_at g c e)) (e + 1)
+turn_by : (g : Grid) (c : Site) (k e : ℕ) (s : Sum) → Summing g c k s e → (b : Bool) → is_member g c k e ≡ b → Summing g c k (added_if b s (crossing_at g c e)) (e + 1)
 unfolding added_if
-turn_by g c k e s S h true q =
+turn_by g c k e s S true q =
     let p = rw (← add-one e) at (part-suc g c k e true q) in
     let l = S.count≤ in
     record {
-      e≤ = omega arith;
       count≤ = omega arith;
       point_is = rw (p, S.point_is) (sym (foldl-append add_p origin (part_to g c k e) (crossing_at g c e ∷ [])));
       count_is = rw (p, S.count_is) (sym (length-append (part_to g c k e) (crossing_at g c e ∷ [])));
     }
-turn_by g c k e s S h false q =
+turn_by g c k e s S false q =
     let p = rw (← add-one e) at (part-suc g c k e false q) in
     let l = S.count≤ in
     record {
-      e≤ = omega arith;
       count≤ = omega arith;
       point_is = rw (p, append-nil (part_to g c k e)) S.point_is;
       count_is = rw (p, append-nil (part_to g c k e)) S.count_is;
     }
 
-pub summing-turn : {g : Grid} {c : Site} {k e : ℕ} {s t : Sum} {b : Bool} → Summing g c k s e → e < 12 → b ≡ is_member g c k e → t ≡ added_if b s (crossing_at g c e) → Summing g c k t (e + 1)
-summing-turn {g} {c} {k} {e} {s} {b = b} S h q f = rw f (turn_by g c k e s S h b (sym q))
+pub summing-turn : {g : Grid} {c : Site} {k e : ℕ} {s t : Sum} {b : Bool} → Summing g c k s e → b ≡ is_member g c k e → t ≡ added_if b s (crossing_at g c e) → Summing g c k t (e + 1)
+summing-turn {g} {c} {k} {e} {s} {b = b} S q f = rw f (turn_by g c k e s S b (sym q))
 
-pub summing-end : {g : Grid} {c : Site} {k e : ℕ} {s : Sum} {r : Point} {y : Float} → Summing g c k s e → 12 ≤ e → y ≡ float s.count → r ≡ mul_p s.point (div binary64 one y)
+pub summing-end : {g : Grid} {c : Site} {k e : ℕ} {s : Sum} {r : Point} {y : Float} → Summing g c k s e → e ≡ 12 → y ≡ float s.count → r ≡ mul_p s.point (div binary64 one y)
     → r ≡ mean_of (map (crossing_at g c) (members_of g c k))
 unfolding mean_of members_of part_to
-summing-end {e = e} S h q f =
-    let a = S.e≤ in
-    let z : e ≡ 12 = omega arith in
-    f ∙ rw (q, S.point_is, S.count_is, z)
+summing-end S z q f = f ∙ rw (q, S.point_is, S.count_is, z)

@@ -10,7 +10,7 @@ use mathlib.Core.Path.{◌≡◌, sym, ap, ◌∙◌, refl}
 use mathlib.Core.Bool.{Bool, true, false, cond, false≢true}
 use mathlib.Core.List.{List, [], ◌∷◌}
 use native.Mathlib.Omega.{arith}
-use lib.ListN.{get_or, length, set, length-set}
+use lib.ListN.{get_or, length, set}
 use lib.Ieee.{Float, lt}
 use borrow.Author.Tests.{eq-eqb, ne_eqb}
 use Rattle.points.specs.declared.Point.{Point}
@@ -22,7 +22,7 @@ use Rattle.rule_extract.specs.Cells.{bit_of}
 use Rattle.extract_cells.proofs.Faces.{twelve-groups}
 use Rattle.extract_cells.proofs.Bits.{kind-edge}
 use Rattle.rule_extract.specs.Paths.{edge_crosses}
-use Rattle.extract_paths.specs.Paths.{edge_path, CellAt}
+use Rattle.extract_paths.specs.Paths.{edge_path}
 use Rattle.rule_extract.specs.Lattice.{case_of, cell_groups, centre_inside, index_of, site_at}
 use Rattle.rule_extract.specs.Drawing.{crossing_at, group_points, points_to, number_of, points_in, cell_points}
 use Rattle.extract_points.specs.Slots.{Known, label_of, CellPaths, rank_in, slot_number, numbered_if, Numbered, put_points}
@@ -78,33 +78,24 @@ number_is {g} {c} {kind} {G} n i first e K q f =
 
 -- the slots of a cell once e of its edges are numbered
 pub record Numbering (g : Grid) (n : ℕ) (c : Site) (i : ℕ) (v w : List ℕ) (e : ℕ) : Type 0 where
-  pub e≤ : e ≤ 12
-  pub len : length w ≡ length v
-  pub room : 12 * i + 12 ≤ length w
   pub done : (j : ℕ) → j < e → edge_crosses g c j ≡ true → get_or w (12 * i + j) 0 ≡ slot_number g n c j
   pub below : (k : ℕ) → k < 12 * i → get_or w k 0 ≡ get_or v k 0
   pub rest : (k : ℕ) → 12 * i + e ≤ k → get_or w k 0 ≡ get_or v k 0
 
-pub numbering_start : {g : Grid} {n : ℕ} {c : Site} {i : ℕ} {w : List ℕ} → 12 * i + 12 ≤ length w → Numbering g n c i w w 0
-numbering_start h = record { e≤ = omega arith; len = refl; room = h; done = λ j l x. absurd (omega arith); below = λ k l. refl; rest = λ k l. refl }
+pub numbering_start : (g : Grid) (n : ℕ) (c : Site) (i : ℕ) (w : List ℕ) → Numbering g n c i w w 0
+numbering_start g n c i w = record { done = λ j l x. absurd (omega arith); below = λ k l. refl; rest = λ k l. refl }
 
-turn_by : {g : Grid} {n : ℕ} {c : Site} {i : ℕ} {v w : List ℕ} {e : ℕ} (x : ℕ) (b : Bool) → Numbering g n c i v w e → e < 12 → edge_crosses g c e ≡ b → x ≡ slot_number g n c e
+turn_by : {g : Grid} {n : ℕ} {c : Site} {i : ℕ} {v w : List ℕ} {e : ℕ} (x : ℕ) (b : Bool) → Numbering g n c i v w e → 12 * i + e < length w → edge_crosses g c e ≡ b → x ≡ slot_number g n c e
     → Numbering g n c i v (cond b (set w (12 * i + e) x) w) (e + 1)
 turn_by {g} {n} {c} {i} {v} {w} {e} x true N h t q = record {
-  e≤ = omega arith;
-  len = length-set w (12 * i + e) x ∙ N.len;
-  room = rw (length-set w (12 * i + e) x) N.room;
   done = λ j l y. ⊎_elim
-      (λ (z : j ≡ e). rw z (get_or-set_same w (12 * i + e) x 0 (omega (arith, N.room)) ∙ q))
+      (λ (z : j ≡ e). rw z (get_or-set_same w (12 * i + e) x 0 h ∙ q))
       (λ (z : j ≡ e → ⊥). get_or-set_other w (12 * i + e) (12 * i + j) x 0 (λ u. z (omega (arith, u))) ∙ N.done j (omega arith) y)
       (eq-or-ne j e);
   below = λ k l. get_or-set_other w (12 * i + e) k x 0 (λ u. absurd (omega (arith, u))) ∙ N.below k l;
   rest = λ k l. get_or-set_other w (12 * i + e) k x 0 (λ u. absurd (omega (arith, u))) ∙ N.rest k (omega arith);
 }
 turn_by {g} {n} {c} {i} {v} {w} {e} x false N h t q = record {
-  e≤ = omega arith;
-  len = N.len;
-  room = N.room;
   done = λ j l y. ⊎_elim
       (λ (z : j ≡ e). absurd (false≢true (sym t ∙ rw z at y)))
       (λ (z : j ≡ e → ⊥). N.done j (omega arith) y)
@@ -113,14 +104,14 @@ turn_by {g} {n} {c} {i} {v} {w} {e} x false N h t q = record {
   rest = λ k l. N.rest k (omega arith);
 }
 
-pub numbering-turn : {g : Grid} {n : ℕ} {c : Site} {i : ℕ} {v w z : List ℕ} {e kind first : ℕ} {G : List ℕ} → Numbering g n c i v w e → e < 12 → Known g c kind G → i ≡ index_of n c
+pub numbering-turn : {g : Grid} {n : ℕ} {c : Site} {i : ℕ} {v w z : List ℕ} {e kind first : ℕ} {G : List ℕ} → Numbering g n c i v w e → e < 12 → 12 * i + 12 ≤ length w → Known g c kind G → i ≡ index_of n c
     → first ≡ length (points_to g n i) → z ≡ numbered_if g c i first kind G e w → Numbering g n c i v z (e + 1)
 unfolding numbered_if
-numbering-turn {g} {n} {c} {i} {e = e} {kind} {first} {G} N h K q f d =
-    rw d (turn_by (8 * (first + rank_in kind G (get_or G e 0)) + label_of g c e) (bit_of kind e) N h (bit-crosses e K h refl refl) (ap (λ m. 8 * m + label_of g c e) (number_is n i first e K q f)))
+numbering-turn {g} {n} {c} {i} {e = e} {kind} {first} {G} N h l K q f d =
+    rw d (turn_by (8 * (first + rank_in kind G (get_or G e 0)) + label_of g c e) (bit_of kind e) N (omega arith) (bit-crosses e K h refl refl) (ap (λ m. 8 * m + label_of g c e) (number_is n i first e K q f)))
 
-pub numbering-end : {g : Grid} {n : ℕ} {c : Site} {i : ℕ} {v w : List ℕ} {e : ℕ} → Numbering g n c i v w e → 12 ≤ e → Numbered g n c i v w
-numbering-end {e = e} N h = let a = N.e≤ in record {
+pub numbering-end : {g : Grid} {n : ℕ} {c : Site} {i : ℕ} {v w : List ℕ} {e : ℕ} → Numbering g n c i v w e → e ≡ 12 → Numbered g n c i v w
+numbering-end {e = e} N h = record {
   is = λ j l x. N.done j (omega arith) x;
   below = N.below;
   above = λ k l. N.rest k (omega arith);
@@ -129,9 +120,6 @@ numbering-end {e = e} N h = let a = N.e≤ in record {
 -- a slot that is not numbered yet has its path
 pub path-kept : {g : Grid} {n : ℕ} {c : Site} {i : ℕ} {v w : List ℕ} {e : ℕ} → Numbering g n c i v w e → CellPaths g c i v → e < 12 → edge_crosses g c e ≡ true → get_or w (12 * i + e) 0 ≡ edge_path g c e
 path-kept {i = i} {e = e} N P h x = N.rest (12 * i + e) (omega arith) ∙ P.is e h x
-
-pub cell_same : {n : ℕ} {c : Site} {i l m : ℕ} → CellAt n c i l → m ≡ l → CellAt n c i m
-cell_same C q = rw q C
 
 -- ---- a cell by its number
 

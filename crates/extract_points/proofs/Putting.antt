@@ -70,9 +70,6 @@ group-none {g} {c} k K e t = point-none _ (group-length g c k ∙ ap (λ z. cond
 
 -- the points of the groups below k
 pub record Placing (g : Grid) (c : Site) (place : ℕ) (v s : List Float) (next k : ℕ) : Type 0 where
-  pub k≤ : k ≤ 12
-  pub room : 3 * (place + length (cell_points g c)) ≤ length v
-  pub len : length s ≡ length v
   pub next≤ : next ≤ place + k
   pub next_is : next ≡ place + length (join_to (group_points g c) k)
   pub is : s ≡ put_points (join_to (group_points g c) k) place v
@@ -80,25 +77,21 @@ pub record Placing (g : Grid) (c : Site) (place : ℕ) (v s : List Float) (next 
 group-le : (g : Grid) (c : Site) (k : ℕ) → length (group_points g c k) ≤ 1
 group-le g c k = rw (group-length g c k) (one-le (some (is_member g c k) 12))
 
-pub placing-start : {g : Grid} {c : Site} {place : ℕ} {v : List Float} → 3 * (place + length (cell_points g c)) ≤ length v → Placing g c place v v place 0
+pub placing-start : (g : Grid) (c : Site) (place : ℕ) (v : List Float) → Placing g c place v v place 0
 unfolding join_to put_points
-placing-start h = record { k≤ = omega arith; room = h; len = refl; next≤ = omega arith; next_is = omega arith; is = refl }
+placing-start g c place v = record { next≤ = omega arith; next_is = omega arith; is = refl }
 
-pub placing-room : {g : Grid} {c : Site} {place : ℕ} {v s : List Float} {next k : ℕ} → Placing g c place v s next k → k < 12 → 3 * (next + length (group_points g c k)) ≤ length s
+pub placing-room : {g : Grid} {c : Site} {place : ℕ} {v s : List Float} {next k : ℕ} → Placing g c place v s next k → k < 12 → length s ≡ length v
+    → 3 * (place + length (cell_points g c)) ≤ length v → 3 * (next + length (group_points g c k)) ≤ length s
 unfolding cell_points
-placing-room {g} {c} {k = k} P h =
+placing-room {g} {c} {k = k} P h l r =
     let b = join-below (group_points g c) k 12 h in
-    let r = P.room in
-    let l = P.len in
     let q = P.next_is in
     omega arith
 
-pub placing-turn : {g : Grid} {c : Site} {place : ℕ} {v s t : List Float} {next k r : ℕ} → Placing g c place v s next k → k < 12 → r ≡ next + length (group_points g c k)
+pub placing-turn : {g : Grid} {c : Site} {place : ℕ} {v s t : List Float} {next k r : ℕ} → Placing g c place v s next k → r ≡ next + length (group_points g c k)
     → t ≡ put_points (group_points g c k) next s → Placing g c place v t r (k + 1)
-placing-turn {g} {c} {place} {v} {s} {k = k} P h e f = record {
-  k≤ = omega arith;
-  room = P.room;
-  len = rw f (length-put (group_points g c k) _ s) ∙ P.len;
+placing-turn {g} {c} {place} {v} {s} {k = k} P e f = record {
   next≤ = let a = P.next≤ in let o = group-le g c k in omega arith;
   next_is = let j = length-join (group_points g c) k in let q = P.next_is in omega arith;
   is = f ∙ (rw (P.next_is, P.is) (sym (joined k)));
@@ -107,11 +100,9 @@ placing-turn {g} {c} {place} {v} {s} {k = k} P h e f = record {
     joined : (k : ℕ) → put_points (join_to (group_points g c) (k + 1)) place v ≡ put_points (group_points g c k) (place + length (join_to (group_points g c) k)) (put_points (join_to (group_points g c) k) place v)
     joined k = ap (λ l. put_points l place v) (join-suc (group_points g c) k) ∙ put-append (join_to (group_points g c) k) (group_points g c k) place v
 
-pub placing-end : {g : Grid} {c : Site} {place : ℕ} {v s : List Float} {next k : ℕ} → Placing g c place v s next k → 12 ≤ k → (next ≡ place + length (cell_points g c)) × (s ≡ put_points (cell_points g c) place v)
+pub placing-end : {g : Grid} {c : Site} {place : ℕ} {v s : List Float} {next k : ℕ} → Placing g c place v s next k → k ≡ 12 → (next ≡ place + length (cell_points g c)) × (s ≡ put_points (cell_points g c) place v)
 unfolding cell_points
-placing-end {g} {c} {place} {v} {k = k} P h =
-    let a = P.k≤ in
-    let q : k ≡ 12 = omega arith in
+placing-end {g} {c} {place} {v} P q =
     (P.next_is ∙ ap (λ m. place + length (join_to (group_points g c) m)) q, P.is ∙ ap (λ m. put_points (join_to (group_points g c) m) place v) q)
 
 -- ---- one group

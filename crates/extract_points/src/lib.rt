@@ -2,7 +2,7 @@
 
 #![tactic(auto)]
 
-ghost use Rattle.std.specs.Prelude.{◌≡◌, true, cond, map, ◌+◌, ◌*◌, ◌^◌, ◌≤◌, ◌<◌, length, get_or};
+ghost use Rattle.std.specs.Prelude.{◌≡◌, true, map, ◌+◌, ◌*◌, ◌^◌, ◌≤◌, ◌<◌, length, get_or};
 ghost use Rattle.rule_sheet.specs.Lent.{limit};
 ghost use Rattle.rule_extract.specs.Lattice.{site_at, case_of};
 ghost use Rattle.extract_grid.specs.Lattice.{Samples};
@@ -42,21 +42,12 @@ fn is_member(kind: u32, group: u32, k: u32, e: usize) -> bool
 fn has_member(kind: u32, groups: [u32; 12], k: u32) -> bool
     ensures { result ≡ has_in kind groups k }
 {
-    let mut e = 0;
-    while e < 12 {
-        if is_member(kind, groups[e], k, e) {
+    for (e, group) in groups.iter().enumerate() {
+        if is_member(kind, *group, k, e) {
             return true;
         }
-        e += 1;
     }
     false
-}
-
-// 1 where a test holds.
-fn one_if(test: bool) -> usize
-    ensures { result ≡ cond test 1 0 }
-{
-    if test { 1 } else { 0 }
 }
 
 // How many of the groups below k have a crossing.
@@ -66,10 +57,8 @@ fn rank(kind: u32, groups: [u32; 12], k: u32) -> usize
     ensures upper_bound { result ≤ 12 }
 {
     let mut count = 0;
-    let mut i: u32 = 0;
-    while i < k {
-        count = count + one_if(has_member(kind, groups, i));
-        i += 1;
+    for i in 0..k {
+        count += usize::from(has_member(kind, groups, i));
     }
     count
 }
@@ -85,10 +74,7 @@ fn cell_count(g: Grid, n: usize, e: usize, samples: &[f64]) -> usize
 {
     let c = extract_grid::site_at(n, e);
     let case = extract_grid::case_at(samples, n + 1, c);
-    if case == 0 {
-        return 0;
-    }
-    if case == 255 {
+    if case == 0 || case == 255 {
         return 0;
     }
     let kind = extract_cells::cell_kind(case);
@@ -104,10 +90,8 @@ pub fn count_points(g: Grid, n: usize, count: usize, samples: &[f64]) -> usize
     ensures upper_bound { result ≤ 12 * count }
 {
     let mut total = 0;
-    let mut e = 0;
-    while e < count {
-        total = total + cell_count(g, n, e, samples);
-        e += 1;
+    for e in 0..count {
+        total += cell_count(g, n, e, samples);
     }
     total
 }
@@ -175,10 +159,8 @@ fn group_mean(
         point: points::origin(),
         count: 0,
     };
-    let mut e = 0;
-    while e < 12 {
-        s = add_member(g, n, c, i, kind, groups[e], k, e, w, s);
-        e += 1;
+    for (e, group) in groups.iter().enumerate() {
+        s = add_member(g, n, c, i, kind, *group, k, e, w, s);
     }
     points::mul(s.point, 1.0 / numeric::float(s.count))
 }
@@ -233,10 +215,8 @@ fn put_groups(
     ensures out_after { out.new ≡ put_points (cell_points g c) place out.old }
 {
     let mut next = place;
-    let mut k: u32 = 0;
-    while k < 12 {
+    for k in 0..12 {
         next = put_group(g, n, c, i, kind, groups, k, next, w, out);
-        k += 1;
     }
     next
 }
@@ -252,7 +232,7 @@ fn slot_label(g: Grid, n: usize, c: Site, i: usize, e: usize, w: &[u32]) -> u32
     ensures upper_bound { result < 8 }
 {
     if e % 4 == 0 {
-        return extract_samples::sample(g, crossing_at(g, n, c, i, e, w)).label as u32;
+        return u32::from(extract_samples::sample(g, crossing_at(g, n, c, i, e, w)).label);
     }
     0
 }
@@ -280,7 +260,6 @@ fn put_number(
         let label = slot_label(g, n, c, i, e, w);
         let number = first + rank(kind, groups, groups[e]);
         w[12 * i + e] = 8 * (number as u32) + label;
-        return;
     }
 }
 
@@ -302,10 +281,8 @@ fn put_numbers(
     requires first_value { first ≡ length (points_to g n i) }
     ensures { Numbered g n c i w.old w.new }
 {
-    let mut e = 0;
-    while e < 12 {
+    for e in 0..12 {
         put_number(g, n, c, i, kind, groups, first, e, w);
-        e += 1;
     }
 }
 
@@ -359,16 +336,13 @@ pub fn draw_cell_at(
 {
     let c = extract_grid::site_at(n, e);
     let case = extract_grid::case_at(samples, n + 1, c);
-    if case == 0 {
-        return place;
-    }
-    if case == 255 {
+    if case == 0 || case == 255 {
         return place;
     }
     draw_cell(g, n, case, c, e, place, w, out)
 }
 
-// The points of all cells of the grid, and their numbers in the slots of the cells.
+// ---- all cells
 
 // Draws the points of all cells in order, and their numbers into the slots; answers how many points.
 pub fn draw_points(g: Grid, n: usize, samples: &[f64], w: &mut [u32], out: &mut [f64]) -> usize
@@ -380,12 +354,9 @@ pub fn draw_points(g: Grid, n: usize, samples: &[f64], w: &mut [u32], out: &mut 
     ensures front { Front (flat_points (points_to g n (n * n * n))) out.new }
     ensures all_numbered { AllNumbered g n w.new }
 {
-    let count = n * n * n;
     let mut place = 0;
-    let mut e = 0;
-    while e < count {
+    for e in 0..n * n * n {
         place = draw_cell_at(g, n, e, place, samples, w, out);
-        e += 1;
     }
     place
 }

@@ -88,16 +88,6 @@ drawn-more {g} {n} {r} {count} {row} {Q} {labels} j D R h x E =
 
 -- ---- rows
 
--- the slices as they came, of the same lengths, and what is drawn
-pub record Drawing (g : Grid) (n t count : ℕ) (u v Q labels : List ℕ) : Type 0 where
-  pub quads_len : length Q ≡ length u
-  pub labels_len : length labels ≡ length v
-  pub drawn : Drawn g n t count Q labels
-
-pub drawing-next : {g : Grid} {n t count r : ℕ} {u v Q labels Q' labels' : List ℕ} (s : ℕ) → Drawing g n t count u v Q labels → length Q' ≡ length Q → length labels' ≡ length labels → Drawn g n s r Q' labels'
-    → Drawing g n s r u v Q' labels'
-drawing-next s D e f K = record { quads_len = e ∙ D.quads_len; labels_len = f ∙ D.labels_len; drawn = K }
-
 pub drawn-next : {g : Grid} {n count : ℕ} {Q labels : List ℕ} (r j : ℕ) → Drawn g n (edge_number n r j + 1) count Q labels → Drawn g n (edge_number n r (j + 1)) count Q labels
 drawn-next {n = n} r j D = let e : edge_number n r j + 1 ≡ edge_number n r (j + 1) = omega arith in rw e at D
 

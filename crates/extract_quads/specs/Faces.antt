@@ -15,11 +15,14 @@ use Rattle.extract_edges.specs.Rows.{Counted}
 
 -- "offsets (1,1), (0,1), (0,0), (1,0)": how far cell k begins before its edge, along the next axis and along the
 -- one after
+abbrev pub offsets : List (ℕ × ℕ)
+offsets = (1, 1) ∷ (0, 1) ∷ (0, 0) ∷ (1, 0) ∷ []
+
 abbrev pub offset_u : ℕ → ℕ
-offset_u k = get_or (1 ∷ 0 ∷ 0 ∷ 1 ∷ []) k 0
+offset_u k = (get_or offsets k (0, 0)).0
 
 abbrev pub offset_w : ℕ → ℕ
-offset_w k = get_or (1 ∷ 1 ∷ 0 ∷ 0 ∷ []) k 0
+offset_w k = (get_or offsets k (0, 0)).1
 
 -- the cell u and w before an edge
 abbrev pub cell_by : Inner → ℕ → ℕ → Site

@@ -21,9 +21,7 @@ use rule_extract::Grid;
 
 // The four cells of an inner edge, in the order of its quad: how far each begins before the edge, along the next
 // axis and along the one after.
-const OFFSET_U: [usize; 4] = [1, 0, 0, 1];
-
-const OFFSET_W: [usize; 4] = [1, 1, 0, 0];
+const OFFSETS: [(usize, usize); 4] = [(1, 1), (0, 1), (0, 0), (1, 0)];
 
 // The slot of the edge j of a row in the cell k of its four.
 fn slot_at(g: Grid, n: usize, row: Row, j: usize, k: usize, w: &[u32]) -> u32
@@ -35,8 +33,7 @@ fn slot_at(g: Grid, n: usize, row: Row, j: usize, k: usize, w: &[u32]) -> u32
     ensures { result ≡ slot_by g n (edge_in row j) (offset_u k) (offset_w k) }
 {
     let axis = row.axis;
-    let u = OFFSET_U[k];
-    let v = OFFSET_W[k];
+    let (u, v) = OFFSETS[k];
     let c = extract_edges::place_on(axis, row.a, row.b - u, j + 1 - v);
     w[12 * extract_grid::index_of(n, c) + (axis * 4 + u * 2 + v)]
 }
@@ -71,9 +68,9 @@ fn put_quad(
     labels[place] = (s % 8) as u8;
     if sign {
         sheet::put_quad(quads, place, p / 8, q / 8, s / 8, t / 8);
-        return;
+    } else {
+        sheet::put_quad(quads, place, t / 8, s / 8, q / 8, p / 8);
     }
-    sheet::put_quad(quads, place, t / 8, s / 8, q / 8, p / 8);
 }
 
 // Puts the quad and the label of the edge j of the row r, if it crosses; the next place.
@@ -123,10 +120,8 @@ fn put_row(
 {
     let row = extract_edges::row_at(n, r);
     let mut next = place;
-    let mut j = 0;
-    while j < n - 1 {
+    for j in 0..n - 1 {
         next = put_edge(g, n, r, row, j, next, samples, w, quads, labels);
-        j += 1;
     }
     next
 }
@@ -147,11 +142,8 @@ pub fn put_quads(
     ensures front { Front (flat_quads (join_to (quad_if g n) (inner_count n))) quads.new }
     ensures front_2 { Front (join_to (label_if g n) (inner_count n)) labels.new }
 {
-    let rows = extract_edges::row_count(n);
     let mut place = 0;
-    let mut r = 0;
-    while r < rows {
+    for r in 0..extract_edges::row_count(n) {
         place = put_row(g, n, r, place, samples, w, quads, labels);
-        r += 1;
     }
 }

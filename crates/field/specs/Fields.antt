@@ -1,11 +1,9 @@
 -- The three kinds of field: value and gradient, worked left to right, each operation rounded.
-use Rattle.std.specs.Prelude.{Float}
+use Rattle.std.specs.Prelude.{Float, Some, None, Option}
 use Rattle.points.specs.declared.Point.{Point}
 use Rattle.points.specs.Points.{◌⊕◌, ◌⊖◌, ◌⊗◌, two}
 use Rattle.field.specs.declared.Field.{Field}
 use Rattle.field.specs.declared.Field.TheVariants.{Plane, Ball, Quadric}
-use Rattle.field.specs.declared.FieldGradient.{FieldGradient}
-use Rattle.field.specs.declared.FieldGradient.TheVariants.{Known, Missing}
 
 -- dx·dx + dy·dy + dz·dz − r
 abbrev pub ball_value : Float → Float → Float → Float → Float
@@ -22,8 +20,8 @@ value_of (Quadric k) p =
     ⊕ k.k6 ⊗ p.x ⊕ k.k7 ⊗ p.y ⊕ k.k8 ⊗ p.z ⊕ k.k9
 
 -- Plane: gradient (a, b, c). Ball: gradient (2·dx, 2·dy, 2·dz). Quadric: no gradient of its own.
-unfoldable pub field_gradient_of : Field → Point → FieldGradient
-field_gradient_of (Plane a b c d) p = Known (record { x = a; y = b; z = c })
+unfoldable pub field_gradient_of : Field → Point → Option Point
+field_gradient_of (Plane a b c d) p = Some (record { x = a; y = b; z = c })
 field_gradient_of (Ball cx cy cz r) p =
-    Known (record { x = two ⊗ (p.x ⊖ cx); y = two ⊗ (p.y ⊖ cy); z = two ⊗ (p.z ⊖ cz) })
-field_gradient_of (Quadric k) p = Missing
+    Some (record { x = two ⊗ (p.x ⊖ cx); y = two ⊗ (p.y ⊖ cy); z = two ⊗ (p.z ⊖ cz) })
+field_gradient_of (Quadric k) p = None

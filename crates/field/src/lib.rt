@@ -30,13 +30,6 @@ pub enum Field {
     Quadric(Coefficients),
 }
 
-// A gradient of the field's own, or none.
-#[derive(Clone, Copy)]
-pub enum FieldGradient {
-    Known(Point),
-    Missing,
-}
-
 // The field's value at p.
 pub fn value(f: Field, p: Point) -> f64
     ensures { result ≡ value_of f p }
@@ -65,16 +58,16 @@ pub fn value(f: Field, p: Point) -> f64
 }
 
 // The gradient at p, if the field has one of its own.
-pub fn gradient(f: Field, p: Point) -> FieldGradient
+pub fn gradient(f: Field, p: Point) -> Option<Point>
     ensures { result ≡ field_gradient_of f p }
 {
     match f {
-        Field::Plane(a, b, c, _) => FieldGradient::Known(Point { x: a, y: b, z: c }),
-        Field::Ball(cx, cy, cz, _) => FieldGradient::Known(Point {
+        Field::Plane(a, b, c, _) => Some(Point { x: a, y: b, z: c }),
+        Field::Ball(cx, cy, cz, _) => Some(Point {
             x: 2.0 * (p.x - cx),
             y: 2.0 * (p.y - cy),
             z: 2.0 * (p.z - cz),
         }),
-        Field::Quadric(_) => FieldGradient::Missing,
+        Field::Quadric(_) => None,
     }
 }

@@ -13,25 +13,23 @@ use Rattle.lists.specs.Regions.{part}
 use Rattle.encoding.specs.Encoding.{little, number, littles, number_at, numbers, Bytes}
 use Rattle.encoding.proofs.Laws.{little-bytes, littles-numbers, under_drop, under-part}
 use Rattle.rule_sheet.specs.declared.Counts.{Counts}
-use Rattle.rule_sheet.specs.declared.Verdict.{Verdict}
-use Rattle.rule_sheet.specs.declared.Verdict.TheVariants.{Accepted, Refused}
 use Rattle.rule_sheet.specs.Lent.{is_large, is_short, before_verdict}
 use Rattle.rule_sheet.specs.Outcomes.{refuses, gives, after_test}
-use Rattle.rule_job.specs.declared.Sum.{Sum}
-use Rattle.rule_job.specs.declared.Sum.TheVariants.{Missing, Written}
-use Rattle.rule_job.specs.declared.Trailer.{Trailer}
-use Rattle.rule_job.specs.declared.Trailer.TheVariants.{Found, Broken}
 use Rattle.rule_job.specs.Files.{Job, sum_of, quads_at, labels_at, trailer_at, starts_of, sum_bytes, trailer_size, trailer_bytes, file_with, file_of, size_of, word_at, trailer_of, job_in}
-use Rattle.rule_job.specs.Jobs.{sum_number, JobRoom, is_short_job, room_in, held_job, save_rule, is_other, summed, open_with, open_rule}
+use Rattle.rule_job.specs.Jobs.{JobRoom, is_short_job, room_in, held_job, save_rule, is_other, summed, open_with, open_rule}
 use Rattle.job_save.proofs.Saving.{Sized, accepted-by}
 use Rattle.job_open.proofs.Trailers.{EndsWith, found_in}
 use Rattle.job_open.proofs.Opening.{in-sized}
+use Rattle.std.specs.Prelude.{Ok, Err, Some, None, Option}
+use Rattle.rule_sheet.specs.Verdicts.{Verdict}
+use Rattle.rule_job.specs.declared.Trailer.{Trailer}
+use Rattle.rule_sheet.specs.declared.Refusal.TheVariants as refusals
 
 -- the trailer with which a job is opened
 pub record Opened (F : List ℕ) (j : Job) : Type 0 where
   pub counts : Counts
-  pub sum : Sum
-  pub found : trailer_of F ≡ Found counts sum
+  pub sum : Option ℕ
+  pub found : trailer_of F ≡ Some (record { counts = counts; sum = sum })
   pub few : is_large counts ≡ false
   pub own : is_other sum (sum_of j) ≡ false
   pub is : job_in F counts ≡ j
@@ -40,18 +38,18 @@ pub open_gives : (F : List ℕ) (r : JobRoom) (j : Job) → open_rule F r ≡ gi
 unfolding open_with summed
 open_gives F r j = go (trailer_of F) refl
   where
-    own : (c : Counts) (s : Sum) → trailer_of F ≡ Found c s → is_large c ≡ false → (b : Bool) → is_other s (sum_of (job_in F c)) ≡ b
-        → cond b (refuses sum_number) (gives (job_in F c)) ≡ gives j → Opened F j
+    own : (c : Counts) (s : Option ℕ) → trailer_of F ≡ Some (record { counts = c; sum = s }) → is_large c ≡ false → (b : Bool) → is_other s (sum_of (job_in F c)) ≡ b
+        → cond b (refuses refusals.Sum) (gives (job_in F c)) ≡ gives j → Opened F j
     own c s d f true o e = absurd (let z : ◌≡◌ {A = ℕ} 0 1 = cc in omega arith)
     own c s d f false o e = let i : job_in F c ≡ j = cc in record { counts = c; sum = s; found = d; few = f; own = rw i at o; is = i }
 
-    tested : (c : Counts) (s : Sum) → trailer_of F ≡ Found c s → (v : Verdict) → before_verdict c (is_short_job c r) ≡ v → after_test v (summed s (job_in F c)) ≡ gives j → Opened F j
-    tested c s d Accepted a e = own c s d (accepted-by c (is_short_job c r) a).0 (is_other s (sum_of (job_in F c))) refl e
-    tested c s d (Refused n) a e = absurd (let z : ◌≡◌ {A = ℕ} 0 1 = cc in omega arith)
+    tested : (c : Counts) (s : Option ℕ) → trailer_of F ≡ Some (record { counts = c; sum = s }) → (v : Verdict) → before_verdict c (is_short_job c r) ≡ v → after_test v (summed s (job_in F c)) ≡ gives j → Opened F j
+    tested c s d (Ok u) a e = own c s d (accepted-by c (is_short_job c r) a).0 (is_other s (sum_of (job_in F c))) refl e
+    tested c s d (Err n) a e = absurd (let z : ◌≡◌ {A = ℕ} 0 1 = cc in omega arith)
 
-    go : (t : Trailer) → trailer_of F ≡ t → open_with F r t ≡ gives j → Opened F j
-    go (Found c s) d e = tested c s d (before_verdict c (is_short_job c r)) refl e
-    go Broken d e = absurd (let z : ◌≡◌ {A = ℕ} 0 1 = cc in omega arith)
+    go : (t : Option Trailer) → trailer_of F ≡ t → open_with F r t ≡ gives j → Opened F j
+    go (Some t) d e = tested t.counts t.sum d (before_verdict t.counts (is_short_job t.counts r)) refl e
+    go None d e = absurd (let z : ◌≡◌ {A = ℕ} 0 1 = cc in omega arith)
 
 -- a list from a on: its first m elements, and the list from b on
 cut : (a m b : ℕ) (F : List ℕ) → b ≡ a + m → take m (drop a F) ++ drop b F ≡ drop a F
@@ -71,12 +69,12 @@ same-four : {a b c d a' b' c' d' : ℕ} → a ≡ a' → b ≡ b' → c ≡ c' �
 same-four p q r s = cc
 
 -- the end of a file: the sum, if there is one, and the trailer's length
-read-end : (F : List ℕ) (c : Counts) (s : Sum) → Bytes F → EndsWith F c s → sum_bytes s ++ little 4 (trailer_size s) ≡ drop (trailer_at c + 16) F
-read-end F c Missing by E =
+read-end : (F : List ℕ) (c : Counts) (s : Option ℕ) → Bytes F → EndsWith F c s → sum_bytes s ++ little 4 (trailer_size s) ≡ drop (trailer_at c + 16) F
+read-end F c None by E =
     let z = E.starts.size in
     let a : length F - 4 ≡ trailer_at c + 16 = omega arith in
     read-last 4 20 (trailer_at c + 16) F by (omega arith) (sym (rw a at E.tail))
-read-end F c (Written n) by E =
+read-end F c (Some n) by E =
     let z = E.starts.size in
     let a : length F - 12 ≡ trailer_at c + 16 = omega arith in
     let b : length F - 4 ≡ trailer_at c + 24 = omega arith in
@@ -84,13 +82,13 @@ read-end F c (Written n) by E =
     let l = read-last 4 28 (trailer_at c + 24) F by (omega arith) (sym (rw b at E.tail)) in
     rw (m, l) (cut (trailer_at c + 16) 8 (trailer_at c + 24) F (omega arith))
 
-module _ (F : List ℕ) (c : Counts) (s : Sum) (by : Bytes F) (E : EndsWith F c s) where
+module _ (F : List ℕ) (c : Counts) (s : Option ℕ) (by : Bytes F) (E : EndsWith F c s) where
   fits : trailer_at c + 20 ≤ length F
   fits = at_least s E.starts.size
     where
-      at_least : (s : Sum) → trailer_at c + trailer_size s ≡ length F → trailer_at c + 20 ≤ length F
-      at_least Missing e = omega arith
-      at_least (Written n) e = omega arith
+      at_least : (s : Option ℕ) → trailer_at c + trailer_size s ≡ length F → trailer_at c + 20 ≤ length F
+      at_least None e = omega arith
+      at_least (Some n) e = omega arith
 
   -- a start
   at_start : (a i : ℕ) → a ≡ trailer_at c + 4 * i → word_at a F ≡ number_at 4 (drop (trailer_at c) F) i
@@ -168,17 +166,17 @@ unfolding job_in
 save-in F c j f h e = rw (← e) (save-sized (job_in F c) f (in-sized F c h))
 
 -- a written sum that is not another is the same
-pub own-sum : (n m : ℕ) → is_other (Written n) m ≡ false → n ≡ m
+pub own-sum : (n m : ℕ) → is_other (Some n) m ≡ false → n ≡ m
 own-sum n m o = eqb-true n m (not-false (eqb n m) o)
 
 -- the file by its trailer's length
-file-by : (F : List ℕ) (j : Job) (c : Counts) (s : Sum) → EndsWith F c s → is_other s (sum_of j) ≡ false → file_with s j ≡ F
-    → cond (eqb (word_at (length F - 4) F) 20) (file_with Missing j) (file_of j) ≡ F
-file-by F j c Missing E o e = rw E.tail e
-file-by F j c (Written n) E o e = rw (E.tail, ← own-sum n (sum_of j) o) e
+file-by : (F : List ℕ) (j : Job) (c : Counts) (s : Option ℕ) → EndsWith F c s → is_other s (sum_of j) ≡ false → file_with s j ≡ F
+    → cond (eqb (word_at (length F - 4) F) 20) (file_with None j) (file_of j) ≡ F
+file-by F j c None E o e = rw E.tail e
+file-by F j c (Some n) E o e = rw (E.tail, ← own-sum n (sum_of j) o) e
 
 pub opened-again : (F : List ℕ) (j : Job) → Bytes F → Opened F j
-    → (cond (eqb (word_at (length F - 4) F) 20) (file_with Missing j) (file_of j) ≡ F) × (save_rule j j.counts.points (size_of j.counts) ≡ gives j)
+    → (cond (eqb (word_at (length F - 4) F) 20) (file_with None j) (file_of j) ≡ F) × (save_rule j j.counts.points (size_of j.counts) ≡ gives j)
 opened-again F j b O =
     let E = found_in F O.counts O.sum O.found in
     let r = read-job F O.counts O.sum b E in

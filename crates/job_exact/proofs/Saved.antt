@@ -17,13 +17,11 @@ use Rattle.rule_sheet.specs.Lent.{is_large, before_verdict}
 use Rattle.rule_sheet.specs.Outcomes.{gives}
 use Rattle.sheet.specs.Sheet.{Few}
 use Rattle.sheet.proofs.Tests.{few-of}
-use Rattle.rule_job.specs.declared.Sum.{Sum}
-use Rattle.rule_job.specs.declared.Sum.TheVariants.{Missing, Written}
-use Rattle.rule_job.specs.declared.Trailer.TheVariants.{Found}
 use Rattle.rule_job.specs.Files.{Job, sum_of, quads_at, labels_at, trailer_at, starts_of, sum_bytes, trailer_size, trailer_bytes, file_with, word_at, good_starts, counts_by, starts_at, trailer_by, trailer_of, job_in}
 use Rattle.rule_job.specs.Jobs.{JobRoom, is_short_job, is_other, summed, open_with, open_rule}
 use Rattle.job_save.proofs.Saving.{Sized, headed, pointed, cornered, labelled, long-header, long-pointed, long-cornered, long-labelled, long-starts, long-file}
 use Rattle.job_exact.specs.Exact.{InMemory}
+use Rattle.std.specs.Prelude.{Some, None, Option}
 
 -- ---- the trailer
 
@@ -49,11 +47,11 @@ drop_past : (B R : List ℕ) (t a k : ℕ) → length B ≡ t → a ≡ t + k �
 drop_past B R t a k l e = rw (e, ← l) (drop-append-add B R k)
 
 -- what is said of a sum fits
-abbrev pub Fits : Sum → Type 0
-Fits Missing = Unit {0}
-Fits (Written n) = n < 256 ^ 8
+abbrev pub Fits : Option ℕ → Type 0
+Fits None = Unit {0}
+Fits (Some n) = n < 256 ^ 8
 
-module _ (j : Job) (few : is_large j.counts ≡ false) (S : Sized j) (s : Sum) where
+module _ (j : Job) (few : is_large j.counts ≡ false) (S : Sized j) (s : Option ℕ) where
   abbrev c : Counts
   c = j.counts
 
@@ -72,7 +70,7 @@ module _ (j : Job) (few : is_large j.counts ≡ false) (S : Sized j) (s : Sum) w
       rw d (start_word c R (few-of c few) i h)
 
   -- what the starts tell
-  saved-starts : (r : Sum) → starts_at (trailer_at c) (trailer_size s) r F ≡ Found c r
+  saved-starts : (r : Option ℕ) → starts_at (trailer_at c) (trailer_size s) r F ≡ Some (record { counts = c; sum = r })
   unfolding starts_at counts_by good_starts
   saved-starts r =
       let n = long-file j S s in
@@ -146,28 +144,28 @@ module _ (j : Job) (few : is_large j.counts ≡ false) (S : Sized j) (s : Sum) w
 
 module _ (j : Job) (few : is_large j.counts ≡ false) (S : Sized j) where
   -- the sum stands before the trailer's length
-  saved-sum : (n : ℕ) → n < 256 ^ 8 → number (part (length (file_with (Written n) j) - 12) 8 (file_with (Written n) j)) ≡ n
+  saved-sum : (n : ℕ) → n < 256 ^ 8 → number (part (length (file_with (Some n) j) - 12) 8 (file_with (Some n) j)) ≡ n
   unfolding file_with trailer_bytes
   saved-sum n h =
       let A = littles 4 (starts_of j.counts) in
-      let l : length (labelled j ++ A) ≡ length (file_with (Written n) j) - 12 = omega (arith, length-append (labelled j) A, long-labelled j S, long-starts j.counts, long-file j S (Written n)) in
-      number-part 8 n (length (file_with (Written n) j) - 12) (file_with (Written n) j) (labelled j ++ A) (little 4 28) (simp append_assoc) l h
+      let l : length (labelled j ++ A) ≡ length (file_with (Some n) j) - 12 = omega (arith, length-append (labelled j) A, long-labelled j S, long-starts j.counts, long-file j S (Some n)) in
+      number-part 8 n (length (file_with (Some n) j) - 12) (file_with (Some n) j) (labelled j ++ A) (little 4 28) (simp append_assoc) l h
 
-  pub saved-trailer : (s : Sum) → Fits s → trailer_of (file_with s j) ≡ Found j.counts s
+  pub saved-trailer : (s : Option ℕ) → Fits s → trailer_of (file_with s j) ≡ Some (record { counts = j.counts; sum = s })
   unfolding trailer_of trailer_by
-  saved-trailer Missing h =
-      let n = long-file j S Missing in
-      let l : ltb (length (file_with Missing j)) 84 ≡ false = le-ltb (length (file_with Missing j)) 84 (omega arith) in
-      let a : length (file_with Missing j) - 20 ≡ trailer_at j.counts = omega arith in
-      rw (l, saved-tail j few S Missing (omega arith), a) (saved-starts j few S Missing Missing)
-  saved-trailer (Written m) h =
-      let n = long-file j S (Written m) in
-      let l : ltb (length (file_with (Written m) j)) 84 ≡ false = le-ltb (length (file_with (Written m) j)) 84 (omega arith) in
-      let a : length (file_with (Written m) j) - 28 ≡ trailer_at j.counts = omega arith in
-      rw (l, saved-tail j few S (Written m) (omega arith), saved-sum m h, a) (saved-starts j few S (Written m) (Written m))
+  saved-trailer None h =
+      let n = long-file j S None in
+      let l : ltb (length (file_with None j)) 84 ≡ false = le-ltb (length (file_with None j)) 84 (omega arith) in
+      let a : length (file_with None j) - 20 ≡ trailer_at j.counts = omega arith in
+      rw (l, saved-tail j few S None (omega arith), a) (saved-starts j few S None None)
+  saved-trailer (Some m) h =
+      let n = long-file j S (Some m) in
+      let l : ltb (length (file_with (Some m) j)) 84 ≡ false = le-ltb (length (file_with (Some m) j)) 84 (omega arith) in
+      let a : length (file_with (Some m) j) - 28 ≡ trailer_at j.counts = omega arith in
+      rw (l, saved-tail j few S (Some m) (omega arith), saved-sum m h, a) (saved-starts j few S (Some m) (Some m))
 
   -- a file of a job opens to it, if the sum is its own
-  pub open-bytes : (s : Sum) → Fits s → is_other s (sum_of j) ≡ false → InMemory j → (r : JobRoom) → is_short_job j.counts r ≡ false
+  pub open-bytes : (s : Option ℕ) → Fits s → is_other s (sum_of j) ≡ false → InMemory j → (r : JobRoom) → is_short_job j.counts r ≡ false
       → open_rule (file_with s j) r ≡ gives j
   unfolding open_with before_verdict summed
   open-bytes s f o M r h = rw (saved-trailer s f, few, h, saved-job j few S s M, o) refl

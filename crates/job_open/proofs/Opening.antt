@@ -1,5 +1,5 @@
 -- What opening leaves in the slices. Assumes nothing.
-use Prim.Native.Nat.{ℕ, ◌+◌, ◌*◌, ◌≤◌}
+use Prim.Native.Nat.{ℕ, ◌*◌, ◌≤◌}
 use mathlib.Core.Path.{◌≡◌, refl, sym, ap, ◌∙◌}
 use mathlib.Core.Bool.{Bool, true, false}
 use mathlib.Core.List.{List, ◌++◌}
@@ -10,21 +10,20 @@ use Rattle.lists.specs.Regions.{part}
 use Rattle.encoding.specs.Encoding.{numbers}
 use Rattle.encoding.proofs.Laws.{length-numbers}
 use Rattle.rule_sheet.specs.declared.Counts.{Counts}
-use Rattle.rule_sheet.specs.declared.Answer.{Answer}
-use Rattle.rule_sheet.specs.declared.Answer.TheVariants as answers
-use Rattle.rule_sheet.specs.declared.Verdict.TheVariants.{Accepted, Refused}
 use Rattle.rule_sheet.specs.Flat.{quads_of}
 use Rattle.rule_sheet.specs.Lent.{before_verdict}
 use Rattle.rule_sheet.specs.Outcomes.{refuses, gives, after_test}
 use Rattle.rule_sheet.specs.Squared.{squared}
 use Rattle.sheet.proofs.Results.{pad-over, pad-none}
-use Rattle.rule_job.specs.declared.Sum.{Sum}
-use Rattle.rule_job.specs.declared.Trailer.TheVariants.{Found, Broken}
 use Rattle.rule_job.specs.Files.{Job, sum_of, quads_at, labels_at, trailer_at, trailer_of, job_in}
-use Rattle.rule_job.specs.Jobs.{trailer_number, sum_number, JobRoom, job_room_of, is_short_job, is_other, summed, open_with, open_rule, Opens}
+use Rattle.rule_job.specs.Jobs.{JobRoom, job_room_of, is_short_job, is_other, summed, open_with, open_rule, Opens}
 use Rattle.job_save.specs.Steps.{LentJob}
 use Rattle.job_save.proofs.Saving.{Sized}
 use Rattle.job_open.specs.Steps.{Zeros, Reads}
+use Rattle.std.specs.Prelude.{Ok, Err, Some, None, Option}
+use Rattle.rule_sheet.specs.Verdicts.{Answer, Accepted}
+use Rattle.rule_sheet.specs.declared.Refusal.TheVariants as refusals
+use Rattle.rule_sheet.specs.declared.Refusal.{Refusal}
 
 -- the lists of the job in a file
 pub in-sized : (F : List ℕ) (c : Counts) → trailer_at c ≤ length F → Sized (job_in F c)
@@ -41,13 +40,13 @@ pub reads_of : (F : List ℕ) (c : Counts) (H P Q L : List ℕ) {H' P' Q' L' : L
     → H' ≡ numbers 8 8 F ++ drop 8 H
     → P' ≡ numbers 8 (3 * c.points) (drop 64 F) ++ drop (3 * c.points) P
     → Q' ≡ numbers 4 (4 * c.quads) (drop (quads_at c) F) ++ drop (4 * c.quads) Q
-    → L' ≡ part (labels_at c) c.labels F ++ drop (0 + c.labels) L
+    → L' ≡ part (labels_at c) c.labels F ++ drop c.labels L
     → Reads (job_in F c) H P Q L H' P' Q' L'
 unfolding job_in
-reads_of F c H P Q L a b d e = let z : 0 + c.labels ≡ c.labels = omega arith in record { header = a; points = b; quads = d; labels = rw z at e }
+reads_of F c H P Q L a b d e = record { header = a; points = b; quads = d; labels = e }
 
 -- zeros are what a refusal leaves
-pub zeros-open : (n : ℕ) {r : JobRoom} {H P Q L : List ℕ} → Zeros r H P Q L → Opens (refuses n) r (answers.Refused n) H P Q L
+pub zeros-open : (n : Refusal) {r : JobRoom} {H P Q L : List ℕ} → Zeros r H P Q L → Opens (refuses n) r (Err n) H P Q L
 zeros-open n {r} Z = record {
   answer = refl;
   header = pad-none 0 r.header Z.header;
@@ -58,7 +57,7 @@ zeros-open n {r} Z = record {
 
 -- a job is read into slices of zeros
 reads-open : {r : JobRoom} {j : Job} {H P Q L H' P' Q' L' : List ℕ} → Zeros r H P Q L → Sized j → Reads j H P Q L H' P' Q' L'
-    → Opens (gives j) r (answers.Done (record { count = 0; sheet = j.counts })) H' P' Q' L'
+    → Opens (gives j) r (Ok (record { count = 0; sheet = j.counts })) H' P' Q' L'
 reads-open {r} {j} Z S R = record {
   answer = refl;
   header = pad-over 0 8 r.header j.header Z.header S.header R.header;
@@ -70,7 +69,7 @@ reads-open {r} {j} Z S R = record {
 -- ---- what is opened, by the test of the slices and by the sum
 
 -- what the quads that were read add up to
-pub other-is : (F : List ℕ) (c : Counts) (s : Sum) {H P Q L H' P' Q' L' : List ℕ} {b : Bool} → Sized (job_in F c) → Reads (job_in F c) H P Q L H' P' Q' L'
+pub other-is : (F : List ℕ) (c : Counts) (s : Option ℕ) {H P Q L H' P' Q' L' : List ℕ} {b : Bool} → Sized (job_in F c) → Reads (job_in F c) H P Q L H' P' Q' L'
     → b ≡ is_other s (squared c.points (quads_of c.quads (take (4 * c.quads) Q'))) → is_other s (sum_of (job_in F c)) ≡ b
 unfolding job_in
 other-is F c s {Q = Q} S R e =
@@ -81,33 +80,33 @@ pub corners-read : (F : List ℕ) (c : Counts) {H P Q L H' P' Q' L' : List ℕ} 
 unfolding job_in
 corners-read F c {Q = Q} S R = omega (arith, ap length R.quads ∙ length-append (job_in F c).quads (drop (4 * c.quads) Q), S.quads)
 
-module _ (F : List ℕ) (c : Counts) (s : Sum) (r : JobRoom) where
+module _ (F : List ℕ) (c : Counts) (s : Option ℕ) (r : JobRoom) where
   -- the outcome
   abbrev Opened : Answer → List ℕ → List ℕ → List ℕ → List ℕ → Type 0
   Opened a H P Q L = Opens (after_test (before_verdict c (is_short_job c r)) (summed s (job_in F c))) r a H P Q L
 
-  pub tested-refuses : (n : ℕ) {H P Q L : List ℕ} → before_verdict c (is_short_job c r) ≡ Refused n → Zeros r H P Q L → Opened (answers.Refused n) H P Q L
+  pub tested-refuses : (n : Refusal) {H P Q L : List ℕ} → before_verdict c (is_short_job c r) ≡ Err n → Zeros r H P Q L → Opened (Err n) H P Q L
   tested-refuses n e Z = rw e (zeros-open n Z)
 
-  pub sum-refuses : {H P Q L : List ℕ} → before_verdict c (is_short_job c r) ≡ Accepted → is_other s (sum_of (job_in F c)) ≡ true → Zeros r H P Q L → Opened (answers.Refused sum_number) H P Q L
+  pub sum-refuses : {H P Q L : List ℕ} → before_verdict c (is_short_job c r) ≡ Accepted → is_other s (sum_of (job_in F c)) ≡ true → Zeros r H P Q L → Opened (Err refusals.Sum) H P Q L
   unfolding summed
-  sum-refuses e o Z = rw (e, o) (zeros-open sum_number Z)
+  sum-refuses e o Z = rw (e, o) (zeros-open refusals.Sum Z)
 
   pub tested-opens : {H P Q L H' P' Q' L' : List ℕ} → before_verdict c (is_short_job c r) ≡ Accepted → is_other s (sum_of (job_in F c)) ≡ false
       → Sized (job_in F c) → Zeros r H P Q L → Reads (job_in F c) H P Q L H' P' Q' L'
-      → Opened (answers.Done (record { count = 0; sheet = c })) H' P' Q' L'
+      → Opened (Ok (record { count = 0; sheet = c })) H' P' Q' L'
   unfolding summed job_in
   tested-opens e o S Z R = rw (e, o) (reads-open Z S R)
 
 -- by the trailer
-pub opens-found : (F : List ℕ) {c : Counts} {s : Sum} {r : JobRoom} {a : Answer} {H P Q L : List ℕ} → trailer_of F ≡ Found c s
+pub opens-found : (F : List ℕ) {c : Counts} {s : Option ℕ} {r : JobRoom} {a : Answer} {H P Q L : List ℕ} → trailer_of F ≡ Some (record { counts = c; sum = s })
     → Opens (after_test (before_verdict c (is_short_job c r)) (summed s (job_in F c))) r a H P Q L → Opens (open_rule F r) r a H P Q L
 unfolding open_with
 opens-found F e O = rw e O
 
-pub opens-broken : (F : List ℕ) {r : JobRoom} {H P Q L : List ℕ} → trailer_of F ≡ Broken → Zeros r H P Q L → Opens (open_rule F r) r (answers.Refused trailer_number) H P Q L
+pub opens-broken : (F : List ℕ) {r : JobRoom} {H P Q L : List ℕ} → trailer_of F ≡ None → Zeros r H P Q L → Opens (open_rule F r) r (Err refusals.Trailer) H P Q L
 unfolding open_with
-opens-broken F e Z = rw e (zeros-open trailer_number Z)
+opens-broken F e Z = rw e (zeros-open refusals.Trailer Z)
 
 -- ---- slices that were cleared
 

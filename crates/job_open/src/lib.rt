@@ -13,81 +13,76 @@ ghost use Rattle.rule_job.specs.Jobs.{job_room_with, job_room_of, is_short_job, 
 ghost use Rattle.job_save.specs.Steps.{LentJob};
 ghost use Rattle.job_open.specs.Steps.{Reads, Zeros};
 
-use rule_job::{Sum, Trailer};
-use rule_sheet::{Answer, Counts, Tally, Verdict};
-
-// The numbers of the refusals of a trailer and of a sum.
-pub const BAD_TRAILER: u32 = 14;
-
-pub const BAD_SUM: u32 = 17;
+use rule_job::Trailer;
+use rule_sheet::{Counts, Refusal, Tally};
 
 // How many bytes a trailer without a sum has.
 const OLDER: usize = 20;
 
 // What the starts p, q, l and t and the trailer's length z tell, in a file of n bytes, beside what is said of the sum.
-fn counts_by(p: u32, q: u32, l: u32, t: u32, z: usize, n: usize, s: Sum) -> Trailer
+fn counts_by(p: u32, q: u32, l: u32, t: u32, z: usize, n: usize, s: Option<u64>) -> Option<Trailer>
     requires { z ≤ 28 }
     ensures { result ≡ counts_by p q l t z n s }
 {
     if p != 64 {
-        return Trailer::Broken;
+        return None;
     }
     if q < p {
-        return Trailer::Broken;
+        return None;
     }
     if (q - p) % 24 != 0 {
-        return Trailer::Broken;
+        return None;
     }
     if l < q {
-        return Trailer::Broken;
+        return None;
     }
     if (l - q) % 16 != 0 {
-        return Trailer::Broken;
+        return None;
     }
     if t < l {
-        return Trailer::Broken;
+        return None;
     }
     if t as usize + z != n {
-        return Trailer::Broken;
+        return None;
     }
-    let c = Counts {
+    let counts = Counts {
         points: ((q - p) / 24) as usize,
         quads: ((l - q) / 16) as usize,
         labels: (t - l) as usize,
     };
-    Trailer::Found(c, s)
+    Some(Trailer { counts, sum: s })
 }
 
 // The same of the four starts from the place a on.
-fn starts_at(file: &[u8], a: usize, z: usize, s: Sum) -> Trailer
+fn starts_at(file: &[u8], a: usize, z: usize, s: Option<u64>) -> Option<Trailer>
     requires a_in_bounds { a + 16 ≤ length file.now }
     requires z_bound { z ≤ 28 }
     ensures { result ≡ starts_at a z s file.now }
 {
-    let p = encoding::u32_at(file, a);
-    let q = encoding::u32_at(file, a + 4);
-    let l = encoding::u32_at(file, a + 8);
-    let t = encoding::u32_at(file, a + 12);
+    let p: u32 = encoding::get(file, a);
+    let q: u32 = encoding::get(file, a + 4);
+    let l: u32 = encoding::get(file, a + 8);
+    let t: u32 = encoding::get(file, a + 12);
     counts_by(p, q, l, t, z, file.len(), s)
 }
 
 // What the trailer at the end of a file tells.
-pub fn read_trailer(file: &[u8]) -> Trailer
+pub fn read_trailer(file: &[u8]) -> Option<Trailer>
     ensures { result ≡ trailer_of file.now }
 {
     let n = file.len();
     if n < job_save::HEAD + OLDER {
-        return Trailer::Broken;
+        return None;
     }
-    let z = encoding::u32_at(file, n - 4) as usize;
+    let z = encoding::get::<u32>(file, n - 4) as usize;
     if z == OLDER {
-        return starts_at(file, n - OLDER, OLDER, Sum::Missing);
+        return starts_at(file, n - OLDER, OLDER, None);
     }
     if z == job_save::TRAILER {
-        let sum = Sum::Written(encoding::u64_at(file, n - 12));
+        let sum = Some(encoding::get(file, n - 12));
         return starts_at(file, n - job_save::TRAILER, job_save::TRAILER, sum);
     }
-    Trailer::Broken
+    None
 }
 
 // 12 and 13, of slices of these lengths.
@@ -98,17 +93,17 @@ fn tested(
     quads: usize,
     labels: usize,
     work: usize,
-) -> Verdict
+) -> Result<(), Refusal>
     ensures { result ≡ before_verdict c (is_short_job c (job_room_with header points quads labels work)) }
 {
     if sheet::is_large(c) {
-        return Verdict::Refused(sheet::LARGE);
+        return Err(Refusal::Large);
     }
     let short = sheet::is_short(c, points, quads, labels);
     if (header < job_save::HEADER) | short | (work < c.points) {
-        return Verdict::Refused(sheet::SHORT);
+        return Err(Refusal::Short);
     }
-    Verdict::Accepted
+    Ok(())
 }
 
 // Reads the job in a file of these counts into the fronts of the slices.
@@ -128,10 +123,10 @@ fn get_job(
 {
     let q = job_save::HEAD + 24 * c.points;
     let l = q + 16 * c.quads;
-    encoding::get_u64s(file, 0, header, job_save::HEADER);
-    encoding::get_u64s(file, job_save::HEAD, points, 3 * c.points);
-    encoding::get_u32s(file, q, quads, 4 * c.quads);
-    encoding::copy_bytes(file, l, labels, 0, c.labels);
+    encoding::get_all(file, 0, header, job_save::HEADER);
+    encoding::get_all(file, job_save::HEAD, points, 3 * c.points);
+    encoding::get_all(file, q, quads, 4 * c.quads);
+    labels[..c.labels].copy_from_slice(&file[l..l + c.labels]);
 }
 
 // Sets every element of the slices of a job to 0.
@@ -141,14 +136,14 @@ fn clear_job(header: &mut [u64], points: &mut [u64], quads: &mut [u32], labels: 
     ensures quads_after { quads.new ≡ replicate (length quads.old) 0 }
     ensures labels_after { labels.new ≡ replicate (length labels.old) 0 }
 {
-    lists::clear_u64(header);
-    lists::clear_u64(points);
+    lists::clear(header);
+    lists::clear(points);
     lists::clear(quads);
-    lists::clear_u8(labels);
+    lists::clear(labels);
 }
 
 // Whether a sum is written that is not that of the quads. The work is zeros before and after.
-fn is_other(s: Sum, c: Counts, quads: &[u32], work: &mut [u32]) -> bool
+fn is_other(s: Option<u64>, c: Counts, quads: &[u32], work: &mut [u32]) -> bool
     requires few { Few c }
     requires quads_in_bounds { 4 * c.quads ≤ length quads.now }
     requires points_in_bounds { c.points ≤ length work.old }
@@ -158,8 +153,8 @@ fn is_other(s: Sum, c: Counts, quads: &[u32], work: &mut [u32]) -> bool
     ensures work_unchanged { work.new ≡ work.old }
 {
     match s {
-        Sum::Missing => false,
-        Sum::Written(n) => n != job_sum::sum_of(c, quads, work),
+        None => false,
+        Some(n) => n != job_sum::sum_of(c, quads, work),
     }
 }
 
@@ -167,13 +162,13 @@ fn is_other(s: Sum, c: Counts, quads: &[u32], work: &mut [u32]) -> bool
 fn open_found(
     file: &[u8],
     c: Counts,
-    s: Sum,
+    s: Option<u64>,
     header: &mut [u64],
     points: &mut [u64],
     quads: &mut [u32],
     labels: &mut [u8],
     work: &mut [u32],
-) -> Answer
+) -> Result<Tally, Refusal>
     requires s_value { trailer_at c + trailer_size s ≡ length file.now }
     requires zeros { Zeros (job_room_of header.old points.old quads.old labels.old work.old)
         header.old points.old quads.old labels.old }
@@ -184,23 +179,20 @@ fn open_found(
         header.new points.new quads.new labels.new }
     ensures work_unchanged { work.new ≡ work.old }
 {
-    let v = tested(
+    tested(
         c,
         header.len(),
         points.len(),
         quads.len(),
         labels.len(),
         work.len(),
-    );
-    if let Verdict::Refused(n) = v {
-        return Answer::Refused(n);
-    }
+    )?;
     get_job(file, c, header, points, quads, labels);
     if is_other(s, c, quads, work) {
         clear_job(header, points, quads, labels);
-        return Answer::Refused(BAD_SUM);
+        return Err(Refusal::Sum);
     }
-    Answer::Done(Tally { count: 0, sheet: c })
+    Ok(Tally { count: 0, sheet: c })
 }
 
 // Opens a job: header, points, quads and labels in front of the lent slices, zeros behind each; or the first refusal.
@@ -212,7 +204,7 @@ pub fn open(
     quads: &mut [u32],
     labels: &mut [u8],
     work: &mut [u32],
-) -> Answer
+) -> Result<Tally, Refusal>
     ensures fact { let room = job_room_of header.old points.old quads.old labels.old
         work.old in
         Opens (open_rule file.now room) room result
@@ -221,8 +213,8 @@ pub fn open(
 {
     clear_job(header, points, quads, labels);
     lists::clear(work);
-    match read_trailer(file) {
-        Trailer::Found(c, s) => open_found(file, c, s, header, points, quads, labels, work),
-        Trailer::Broken => Answer::Refused(BAD_TRAILER),
-    }
+    let Some(t) = read_trailer(file) else {
+        return Err(Refusal::Trailer);
+    };
+    open_found(file, t.counts, t.sum, header, points, quads, labels, work)
 }

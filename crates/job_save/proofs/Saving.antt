@@ -13,18 +13,16 @@ use Rattle.encoding.specs.Encoding.{little, littles}
 use Rattle.encoding.proofs.Laws.{length-little, length-littles}
 use Rattle.encoding.proofs.Loops.{Written, written_is, written_none, written-more}
 use Rattle.rule_sheet.specs.declared.Counts.{Counts}
-use Rattle.rule_sheet.specs.declared.Answer.TheVariants as answers
-use Rattle.rule_sheet.specs.declared.Verdict.{Verdict}
-use Rattle.rule_sheet.specs.declared.Verdict.TheVariants.{Accepted, Refused}
-use Rattle.rule_sheet.specs.Numbers.{large, short}
 use Rattle.rule_sheet.specs.Lent.{is_large, before_verdict}
 use Rattle.sheet.proofs.Tests.{or_left, or_right, holds_of}
 use Rattle.sheet.proofs.Results.{pad-over, pad-none}
-use Rattle.rule_job.specs.declared.Sum.{Sum}
-use Rattle.rule_job.specs.declared.Sum.TheVariants as sums
 use Rattle.rule_job.specs.Files.{Job, sum_of, quads_at, labels_at, trailer_at, starts_of, sum_bytes, trailer_size, trailer_bytes, file_with, file_of, size_of}
 use Rattle.rule_job.specs.Jobs.{JobRoom, is_short_job, room_in, held_job, save_rule, Saves}
 use Rattle.job_save.specs.Steps.{LentJob}
+use Rattle.std.specs.Prelude.{Ok, Err, Some, None, Option}
+use Rattle.rule_sheet.specs.Verdicts.{Verdict, Accepted}
+use Rattle.rule_sheet.specs.declared.Refusal.TheVariants.{Large, Short}
+use Rattle.rule_sheet.specs.declared.Refusal.{Refusal}
 
 -- ---- what 12 and 13 leave
 
@@ -46,7 +44,7 @@ pub accepted-by : (c : Counts) (too_short : Bool) → before_verdict c too_short
 unfolding before_verdict
 accepted-by c too_short = go (is_large c) too_short
   where
-    go : (a b : Bool) → cond a (Refused large) (cond b (Refused short) Accepted) ≡ Accepted → (a ≡ false) × (b ≡ false)
+    go : (a b : Bool) → cond a (Err Large) (cond b (Err Short) Accepted) ≡ Accepted → (a ≡ false) × (b ≡ false)
     go true b e = absurd (let z : ◌≡◌ {A = ℕ} 0 1 = cc in omega arith)
     go false true e = absurd (let z : ◌≡◌ {A = ℕ} 0 1 = cc in omega arith)
     go false false e = (refl, refl)
@@ -100,15 +98,15 @@ held-sized x K = record {
 pub long-starts : (c : Counts) → length (littles 4 (starts_of c)) ≡ 16
 long-starts c = length-littles 4 (starts_of c)
 
-pub long-trailer : (c : Counts) (s : Sum) → length (trailer_bytes c s) ≡ trailer_size s
+pub long-trailer : (c : Counts) (s : Option ℕ) → length (trailer_bytes c s) ≡ trailer_size s
 unfolding trailer_bytes
 long-trailer c s =
     length-append (littles 4 (starts_of c) ++ sum_bytes s) (little 4 (trailer_size s))
     ∙ omega (arith, length-append (littles 4 (starts_of c)) (sum_bytes s), long-starts c, long-sum s, length-little 4 (trailer_size s))
   where
-    long-sum : (s : Sum) → length (sum_bytes s) + 20 ≡ trailer_size s
-    long-sum sums.Missing = refl
-    long-sum (sums.Written n) = omega (arith, length-little 8 n)
+    long-sum : (s : Option ℕ) → length (sum_bytes s) + 20 ≡ trailer_size s
+    long-sum None = refl
+    long-sum (Some n) = omega (arith, length-little 8 n)
 
 -- the parts of a file before the points, the quads, the labels and the trailer
 abbrev pub headed : Job → List ℕ
@@ -142,7 +140,7 @@ module _ (j : Job) (S : Sized j) where
   pub long-labelled : length (labelled j) ≡ trailer_at j.counts
   long-labelled = length-append (cornered j) j.labels ∙ omega (arith, long-cornered, S.labels)
 
-  pub long-file : (s : Sum) → length (file_with s j) ≡ trailer_at j.counts + trailer_size s
+  pub long-file : (s : Option ℕ) → length (file_with s j) ≡ trailer_at j.counts + trailer_size s
   unfolding file_with
   long-file s = length-append (labelled j) (trailer_bytes j.counts s) ∙ omega (arith, long-labelled, long-trailer j.counts s)
 
@@ -157,7 +155,7 @@ pub put_three : (c : Counts) (n : ℕ) (d : List ℕ) {s₁ s₂ s₃ : List ℕ
     → Put (trailer_at c) 16 (littles 4 (starts_of c)) d s₁
     → Put (trailer_at c + 16) 8 (little 8 n) s₁ s₂
     → Put (trailer_at c + 24) 4 (little 4 28) s₂ s₃
-    → s₃ ≡ take (trailer_at c) d ++ trailer_bytes c (sums.Written n) ++ drop (size_of c) d
+    → s₃ ≡ take (trailer_at c) d ++ trailer_bytes c (Some n) ++ drop (size_of c) d
 unfolding trailer_bytes
 put_three c n d room e f g =
     let p = take (trailer_at c) d ++ [] in
@@ -183,12 +181,12 @@ module _ (j : Job) (S : Sized j) (d : List ℕ) (room : size_of j.counts ≤ len
   put-labels : {s y : List ℕ} → Written (cornered j) d s → Put (labels_at j.counts) j.counts.labels j.labels s y → Written (labelled j) d y
   put-labels W e = written-more (labels_at j.counts) j.counts.labels j.labels W (long-cornered j S) S.labels (omega arith) e
 
-  put_last : (n : ℕ) {s y : List ℕ} → Written (labelled j) d s → Put (trailer_at j.counts) 28 (trailer_bytes j.counts (sums.Written n)) s y
-      → y ≡ file_with (sums.Written n) j ++ drop (size_of j.counts) d
+  put_last : (n : ℕ) {s y : List ℕ} → Written (labelled j) d s → Put (trailer_at j.counts) 28 (trailer_bytes j.counts (Some n)) s y
+      → y ≡ file_with (Some n) j ++ drop (size_of j.counts) d
   unfolding file_with
   put_last n W e =
-      let t = trailer_bytes j.counts (sums.Written n) in
-      let l = long-trailer j.counts (sums.Written n) in
+      let t = trailer_bytes j.counts (Some n) in
+      let l = long-trailer j.counts (Some n) in
       let G = written-more (trailer_at j.counts) 28 t W (long-labelled j S) l room e in
       written_is (size_of j.counts) G (length-append (labelled j) t ∙ omega (arith, long-labelled j S))
 
@@ -199,8 +197,8 @@ pub put_five : (x : Job) (n : ℕ) (d : List ℕ) {s₁ s₂ s₃ s₄ s₅ : Li
     → Put 64 (8 * (3 * x.counts.points)) (littles 8 (take (3 * x.counts.points) x.points)) s₁ s₂
     → Put (quads_at x.counts) (4 * (4 * x.counts.quads)) (littles 4 (take (4 * x.counts.quads) x.quads)) s₂ s₃
     → Put (labels_at x.counts) x.counts.labels (part 0 x.counts.labels x.labels) s₃ s₄
-    → Put (trailer_at x.counts) 28 (trailer_bytes x.counts (sums.Written n)) s₄ s₅
-    → s₅ ≡ file_with (sums.Written n) (held_job x) ++ drop (size_of x.counts) d
+    → Put (trailer_at x.counts) 28 (trailer_bytes x.counts (Some n)) s₄ s₅
+    → s₅ ≡ file_with (Some n) (held_job x) ++ drop (size_of x.counts) d
 put_five x n d K room e₁ e₂ e₃ e₄ e₅ =
     let j = held_job x in
     let S = held-sized x K in
@@ -214,17 +212,17 @@ still-zeros {n} {w} e = let l : length w ≡ n = ap length e ∙ length-replicat
 
 -- ---- the answer
 
-pub saves-refused : (x : Job) (w n k : ℕ) {F : List ℕ} → save_verdict x w n ≡ Refused k
-    → F ≡ replicate n 0 → Saves (save_rule x w n) n (answers.Refused k) F
+pub saves-refused : (x : Job) (w n : ℕ) (k : Refusal) {F : List ℕ} → save_verdict x w n ≡ Err k
+    → F ≡ replicate n 0 → Saves (save_rule x w n) n (Err k) F
 unfolding save_rule
 saves-refused x w n k e z = rw e (record { answer = refl; file = pad-none 0 n z })
 
 pub saves-done : (x : Job) (w n r m : ℕ) {Z F : List ℕ} → Holds x
     → save_verdict x w n ≡ Accepted → m ≡ sum_of (held_job x)
-    → Z ≡ replicate n 0 → F ≡ file_with (sums.Written m) (held_job x) ++ drop (size_of x.counts) Z → r ≡ size_of x.counts
-    → Saves (save_rule x w n) n (answers.Done (record { count = r; sheet = x.counts })) F
+    → Z ≡ replicate n 0 → F ≡ file_with (Some m) (held_job x) ++ drop (size_of x.counts) Z → r ≡ size_of x.counts
+    → Saves (save_rule x w n) n (Ok (record { count = r; sheet = x.counts })) F
 unfolding save_rule
 saves-done x w n r m {Z} {F} K e i z f g =
-    let l = long-file (held_job x) (held-sized x K) (sums.Written (sum_of (held_job x))) in
+    let l = long-file (held_job x) (held-sized x K) (Some (sum_of (held_job x))) in
     let h : F ≡ file_of (held_job x) ++ drop (size_of x.counts) Z = rw i at f in
     rw e (record { answer = rw (g, l); file = pad-over 0 (size_of x.counts) n (file_of (held_job x)) z l h })

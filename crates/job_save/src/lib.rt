@@ -2,15 +2,14 @@
 
 #![tactic(auto)]
 
-ghost use Rattle.std.specs.Prelude.{◌≡◌, ◌||◌, ◌++◌, ◌≤◌, ltb, length, take, drop, replicate};
+ghost use Rattle.std.specs.Prelude.{Some, ◌≡◌, ◌||◌, ◌++◌, ◌≤◌, ltb, length, take, drop, replicate};
 ghost use Rattle.rule_sheet.specs.Lent.{before_verdict};
 ghost use Rattle.sheet.specs.Sheet.{Few};
-ghost use Rattle.rule_job.specs.declared.Sum.TheVariants.{Written};
 ghost use Rattle.rule_job.specs.Files.{job_of, trailer_at, trailer_bytes, file_with, size_of};
 ghost use Rattle.rule_job.specs.Jobs.{job_room_with, is_short_job, held_job, save_rule, Saves};
 ghost use Rattle.job_save.specs.Steps.{LentJob};
 
-use rule_sheet::{Answer, Counts, Tally, Verdict};
+use rule_sheet::{Counts, Refusal, Tally};
 
 // How many elements the header has, how many bytes it has, and how many the trailer.
 pub const HEADER: usize = 8;
@@ -36,34 +35,34 @@ fn tested(
     labels: usize,
     work: usize,
     file: usize,
-) -> Verdict
+) -> Result<(), Refusal>
     ensures { result ≡ before_verdict c (is_short_job c (job_room_with header points quads labels work)
         || ltb file (size_of c)) }
 {
     if sheet::is_large(c) {
-        return Verdict::Refused(sheet::LARGE);
+        return Err(Refusal::Large);
     }
     let short = sheet::is_short(c, points, quads, labels);
     if ((header < HEADER) | short | (work < c.points)) | (file < size_of(c)) {
-        return Verdict::Refused(sheet::SHORT);
+        return Err(Refusal::Short);
     }
-    Verdict::Accepted
+    Ok(())
 }
 
 // Puts the trailer of these counts, with the sum.
 fn put_trailer(c: Counts, sum: u64, file: &mut [u8])
     requires few { Few c }
     requires c_in_bounds { size_of c ≤ length file.old }
-    ensures { file.new ≡ take (trailer_at c) file.old ++ trailer_bytes c (Written sum)
+    ensures { file.new ≡ take (trailer_at c) file.old ++ trailer_bytes c (Some sum)
         ++ drop (size_of c) file.old }
 {
     let q = HEAD + 24 * c.points;
     let l = q + 16 * c.quads;
     let t = l + c.labels;
     let starts: [u32; 4] = [64, q as u32, l as u32, t as u32];
-    encoding::put_u32s(file, t, &starts, 4);
-    encoding::put_u64(file, t + 16, sum);
-    encoding::put_u32(file, t + 24, TRAILER as u32);
+    encoding::put_all(file, t, &starts, 4);
+    encoding::put(file, t + 16, sum);
+    encoding::put(file, t + 24, TRAILER as u32);
 }
 
 // Puts a job with this sum into the front of a file.
@@ -79,14 +78,14 @@ fn put_job(
     requires lent_job { LentJob c (length header.now) (length points.now) (length quads.now) (length labels.now) }
     requires c_in_bounds { size_of c ≤ length file.old }
     ensures { let x = job_of c header.now points.now quads.now labels.now in
-        file.new ≡ file_with (Written sum) (held_job x) ++ drop (size_of c) file.old }
+        file.new ≡ file_with (Some sum) (held_job x) ++ drop (size_of c) file.old }
 {
     let q = HEAD + 24 * c.points;
     let l = q + 16 * c.quads;
-    encoding::put_u64s(file, 0, header, HEADER);
-    encoding::put_u64s(file, HEAD, points, 3 * c.points);
-    encoding::put_u32s(file, q, quads, 4 * c.quads);
-    encoding::copy_bytes(labels, 0, file, l, c.labels);
+    encoding::put_all(file, 0, header, HEADER);
+    encoding::put_all(file, HEAD, points, 3 * c.points);
+    encoding::put_all(file, q, quads, 4 * c.quads);
+    file[l..l + c.labels].copy_from_slice(&labels[..c.labels]);
     put_trailer(c, sum, file);
 }
 
@@ -99,7 +98,7 @@ pub fn save(
     c: Counts,
     work: &mut [u32],
     file: &mut [u8],
-) -> Answer
+) -> Result<Tally, Refusal>
     ensures fact { let x = job_of c header.now points.now quads.now labels.now in
         let n = length file.old in
         Saves (save_rule x (length work.old) n) n result file.new }
@@ -115,16 +114,12 @@ pub fn save(
         file.len(),
     );
     lists::clear(work);
-    lists::clear_u8(file);
-    match v {
-        Verdict::Refused(n) => Answer::Refused(n),
-        Verdict::Accepted => {
-            let sum = job_sum::sum_of(c, quads, work);
-            put_job(header, points, quads, labels, c, sum, file);
-            Answer::Done(Tally {
-                count: size_of(c),
-                sheet: c,
-            })
-        }
-    }
+    lists::clear(file);
+    v?;
+    let sum = job_sum::sum_of(c, quads, work);
+    put_job(header, points, quads, labels, c, sum, file);
+    Ok(Tally {
+        count: size_of(c),
+        sheet: c,
+    })
 }

@@ -1,12 +1,12 @@
 -- The counts of corners, and what they add up to. Assumes nothing.
-use Prim.Native.Nat.{ℕ, zero, suc, ◌+◌, ◌*◌, ◌≤◌, ◌<◌, ◌^◌, zero-le}
+use Prim.Native.Nat.{ℕ, zero, suc, ◌+◌, ◌-◌, ◌*◌, ◌≤◌, ◌<◌, ◌^◌, zero-le}
 use mathlib.Core.Path.{◌≡◌, refl, sym, ap, ◌∙◌}
 use mathlib.Core.Logic.{⊎_elim}
 use mathlib.Core.List.{List, [], ◌∷◌, ◌++◌}
 use native.Mathlib.Omega.{arith}
 use native.Mathlib.Numerals.{add-one}
 use lib.ListN.{length, get_or, take, drop, set, replicate, take-append-drop}
-use lib.Seq.{take-suc, take_all, length-take-le}
+use lib.Seq.{take-suc, length-take-le}
 use Rattle.lists.specs.Sort.{tabulate, itself}
 use Rattle.lists.proofs.Laws.{lt-or-le, length-tab, get_or-tab, tab-ext, tab-set, tab-same, always}
 use Rattle.rule_sheet.specs.Quads.{Quad, is, sum, valence}
@@ -14,7 +14,7 @@ use Rattle.rule_sheet.specs.Flat.{quads_of}
 use Rattle.rule_sheet.specs.Lent.{limit}
 use Rattle.rule_sheet.specs.Squared.{sq, squared}
 use Rattle.rule_sheet.proofs.Sums.{upto, sum-append, sum-tab, upto-ext}
-use Rattle.rule_sheet.proofs.Weigh.{is_le}
+use Rattle.rule_sheet.proofs.Weigh.{is_le, sq-low, sq-high}
 use Rattle.rule_sheet.proofs.FirstUse.{is-other}
 use Rattle.rule_sheet.proofs.Base.{eqb-self}
 use Rattle.sheet.specs.Flat.{from}
@@ -115,17 +115,18 @@ counting-turn {Q} {n} {m} {w} {w'} {i} {v} C h e f = rw f (⊎_elim
     (λ (l : length w ≤ v). rw (set_past w v (get_or w v 0 + 1) l) (counting-past C h e l))
     (lt-or-le v (length w)))
 
-pub counting-end : {Q : List ℕ} {n m : ℕ} {w : List ℕ} {i : ℕ} → Counting Q n m w i → n ≤ i → w ≡ tabulate (named_in Q n) m
-counting-end {Q} {n} {m} {w} {i} C h = let e : i ≡ n = omega (arith, C.i≤) in rw e at C.is
-
 -- ---- adding their squares, the first i of them
+
+-- how far a number is from 4, squared
+pub far_squared : (k r : ℕ) → r ≡ (k - 4) + (4 - k) → r * r ≡ sq k
+far_squared k r e = ⊎_elim
+    (λ (l : k < 4). let h : r ≡ 4 - k = omega arith in rw h (sq-low k (omega arith)))
+    (λ (l : 4 ≤ k). let h : r ≡ k - 4 = omega arith in rw h (sq-high k (omega arith)))
+    (lt-or-le k 4)
 
 pub record Adding (l : List ℕ) (s i : ℕ) : Type 0 where
   pub i≤ : i ≤ length l
   pub is : s ≡ sum sq (take i l)
-
-pub adding-start : (l : List ℕ) → Adding l 0 0
-adding-start l = record { i≤ = zero-le; is = refl }
 
 take-le : (i : ℕ) (l : List ℕ) → sum sq (take i l) ≤ sum sq l
 take-le i l = let e = ap (sum sq) (take-append-drop i l) in omega (arith, sum-append sq (take i l) (drop i l))
@@ -139,9 +140,6 @@ adding-turn {l} {s} {i} {r} A h e = record {
 -- the sum so far fits
 pub adding-fits : {l : List ℕ} {s i r : ℕ} → Adding l s i → i < length l → r ≡ sq (get_or l i 0) → sum sq l < 2 ^ 64 → s + r < 2 ^ 64
 adding-fits {l} {s} {i} {r} A h e f = omega (arith, (adding-turn A h e).is, take-le (i + 1) l)
-
-pub adding-end : {l : List ℕ} {s i : ℕ} → Adding l s i → length l ≤ i → s ≡ sum sq l
-adding-end {l} {s} {i} A h = A.is ∙ ap (sum sq) (take_all i l h)
 
 -- ---- the squared sum
 

@@ -17,10 +17,8 @@ use rule_sheet::Counts;
 fn square(k: u32) -> u64
     ensures { result ≡ sq k }
 {
-    if k < 4 {
-        return (4 - k) as u64 * (4 - k) as u64;
-    }
-    (k - 4) as u64 * (k - 4) as u64
+    let far = u64::from(k.abs_diff(4));
+    far * far
 }
 
 // One more at a place, if there is such a place.
@@ -31,7 +29,7 @@ fn count_at(counts: &mut [u32], v: usize)
     if counts.len() <= v {
         return;
     }
-    counts[v] = counts[v] + 1;
+    counts[v] += 1;
 }
 
 // Counts for each point how many of n corners name it; one out of range is counted nowhere.
@@ -41,10 +39,8 @@ fn count_corners(n: usize, corners: &[u32], counts: &mut [u32])
     requires counts_value { counts.old ≡ replicate (length counts.old) 0 }
     ensures { counts.new ≡ tabulate (named_in corners.now n) (length counts.old) }
 {
-    let mut i = 0;
-    while i < n {
+    for i in 0..n {
         count_at(counts, lists::at(corners, i));
-        i += 1;
     }
 }
 
@@ -54,10 +50,8 @@ fn add_squares(counts: &[u32]) -> u64
     ensures { result ≡ sum sq counts.now }
 {
     let mut sum: u64 = 0;
-    let mut i = 0;
-    while i < counts.len() {
-        sum += square(counts[i]);
-        i += 1;
+    for x in counts {
+        sum += square(*x);
     }
     sum
 }

@@ -11,9 +11,6 @@ use borrow.Author.Tests.{ltb-false}
 use Rattle.lists.specs.Sort.{tabulate}
 use Rattle.setting.specs.Settings.{Domain}
 use Rattle.rule_sheet.specs.declared.Counts.{Counts}
-use Rattle.rule_sheet.specs.declared.Verdict.{Verdict}
-use Rattle.rule_sheet.specs.declared.Verdict.TheVariants as verdict
-use Rattle.rule_sheet.specs.Numbers.{large, short}
 use Rattle.rule_sheet.specs.Edges.{join_of}
 use Rattle.rule_sheet.specs.Lent.{Lent, Work, is_large, before_verdict}
 use Rattle.rule_sheet.specs.Outcomes.{Outcome, refuses, gives}
@@ -22,12 +19,16 @@ use Rattle.sheet.specs.Results.{cleared, Front}
 use Rattle.sheet.proofs.Results.{pad}
 use Rattle.sheet.proofs.Fronts.{front-none}
 use Rattle.rule_quality.specs.declared.report.Quality.{Quality}
-use Rattle.rule_quality.specs.declared.report.Assessed.{Assessed}
-use Rattle.rule_quality.specs.declared.report.Assessed.TheVariants.{Done, Refused}
-use Rattle.rule_quality.specs.Quality.{Assessment, quality_rule, assessed_of}
+use Rattle.rule_quality.specs.declared.report.Assessment.{Assessment}
+use Rattle.rule_quality.specs.Quality.{quality_rule, assessed_of}
 use Rattle.rule_page.specs.Page.{bytes_of, line_of, lines_of, page_of, page_outcome, page_rule, Pages}
 use Rattle.page.specs.Steps.{shown_of}
 use Rattle.page.proofs.Lines.{Short, lines-length, line-next}
+use Rattle.std.specs.Prelude.{Ok, Err}
+use Rattle.rule_sheet.specs.Verdicts.{Verdict, Accepted}
+use Rattle.rule_quality.specs.Quality.{Assessed}
+use Rattle.rule_sheet.specs.declared.Refusal.TheVariants as refusals
+use Rattle.rule_sheet.specs.declared.Refusal.{Refusal}
 
 -- ---- the page of a record
 
@@ -70,15 +71,16 @@ page-size q = lines-length (lines_of q) (names-short q)
 
 -- ---- what is shown
 
-pub page-shown : {r : Assessed} {q : Quality} {t : Bool} {s s' : List ℕ} (n : ℕ) → r ≡ Done q t → Front (page_of q) s → length s ≡ n → s' ≡ cleared 0 328 s → Pages (shown_of r) n verdict.Accepted s'
-page-shown {r} {q} {t} {s} n e F l c = rw e (record { answer = refl; page = c ∙ pad 0 328 (page_of q) s F (sym (page-size q)) ∙ rw l })
+pub page-shown : {r : Assessed} {a : Assessment} {s s' : List ℕ} (n : ℕ) → r ≡ Ok a → Front (page_of a.quality) s → length s ≡ n → s' ≡ cleared 0 328 s → Pages (shown_of r) n Accepted s'
+page-shown {r} {a} {s} n e F l c =
+    rw e (record { answer = refl; page = c ∙ pad 0 328 (page_of a.quality) s F (sym (page-size a.quality)) ∙ rw l })
 
 -- zeros alone
-pub zeros-shown : {n : ℕ} {s : List ℕ} (k : ℕ) → s ≡ replicate n 0 → Pages (refuses k) n (verdict.Refused k) s
+pub zeros-shown : {n : ℕ} {s : List ℕ} (k : Refusal) → s ≡ replicate n 0 → Pages (refuses k) n (Err k) s
 unfolding padded
 zeros-shown {n} k c = let e : n - 0 ≡ n = omega arith in record { answer = refl; page = rw e c }
 
-pub refusal-shown : {r : Assessed} {k n : ℕ} {s : List ℕ} → r ≡ Refused k → s ≡ replicate n 0 → Pages (shown_of r) n (verdict.Refused k) s
+pub refusal-shown : {r : Assessed} {k : Refusal} {n : ℕ} {s : List ℕ} → r ≡ Err k → s ≡ replicate n 0 → Pages (shown_of r) n (Err k) s
 refusal-shown {r} {k} e c = rw e (zeros-shown k c)
 
 -- ---- the rule
@@ -89,21 +91,21 @@ shown-is (gives a) = refl
 
 module _ (d : Domain) (x : Lent) (w : Work) (n : ℕ) where
   -- 12, or 13 for a page that is too short
-  pub rule-refused : {k : ℕ} {s : List ℕ} → before_verdict x.counts (ltb n 328) ≡ verdict.Refused k → s ≡ replicate n 0 → Pages (page_rule d x w n) n (verdict.Refused k) s
+  pub rule-refused : {k : Refusal} {s : List ℕ} → before_verdict x.counts (ltb n 328) ≡ Err k → s ≡ replicate n 0 → Pages (page_rule d x w n) n (Err k) s
   unfolding page_rule
   rule-refused {k} e c = rw e (zeros-shown k c)
 
   -- what `quality` answers
-  pub rule-shown : {r : Assessed} {v : Verdict} {s : List ℕ} → before_verdict x.counts (ltb n 328) ≡ verdict.Accepted → r ≡ assessed_of (quality_rule d x w) → Pages (shown_of r) n v s → Pages (page_rule d x w n) n v s
+  pub rule-shown : {r : Assessed} {v : Verdict} {s : List ℕ} → before_verdict x.counts (ltb n 328) ≡ Accepted → r ≡ assessed_of (quality_rule d x w) → Pages (shown_of r) n v s → Pages (page_rule d x w n) n v s
   unfolding page_rule
   rule-shown e f S = rw (e, ← shown-is (quality_rule d x w), ← f) S
 
 -- a page that is not too short
-pub long-enough : (c : Counts) (n : ℕ) → before_verdict c (ltb n 328) ≡ verdict.Accepted → 328 ≤ n
+pub long-enough : (c : Counts) (n : ℕ) → before_verdict c (ltb n 328) ≡ Accepted → 328 ≤ n
 unfolding before_verdict
 long-enough c n e = ltb-false n 328 (go (is_large c) (ltb n 328) e)
   where
-    go : (a b : Bool) → cond a (verdict.Refused large) (cond b (verdict.Refused short) verdict.Accepted) ≡ verdict.Accepted → b ≡ false
+    go : (a b : Bool) → cond a (Err refusals.Large) (cond b (Err refusals.Short) Accepted) ≡ Accepted → b ≡ false
     go true b h = absurd (let z : ◌≡◌ {A = ℕ} 0 1 = cc in omega arith)
     go false true h = absurd (let z : ◌≡◌ {A = ℕ} 0 1 = cc in omega arith)
     go false false h = refl

@@ -1,9 +1,8 @@
 -- A line byte by byte, and the outcome of an answer of `quality`.
-use Rattle.std.specs.Prelude.{ℕ, ◌-◌, cond, List, ltb, get_or}
+use Rattle.std.specs.Prelude.{ℕ, ◌-◌, cond, List, ltb, get_or, Ok, Err}
 use Rattle.rule_sheet.specs.Outcomes.{Outcome, refuses, gives}
-use Rattle.rule_quality.specs.declared.report.Assessed.{Assessed}
-use Rattle.rule_quality.specs.declared.report.Assessed.TheVariants.{Done, Refused}
 use Rattle.rule_page.specs.Page.{space, line_end, column_of, page_of}
+use Rattle.rule_quality.specs.Quality.{Assessed}
 
 -- byte i of a line
 abbrev pub byte_of : List ℕ → ℕ → ℕ → ℕ
@@ -11,5 +10,5 @@ byte_of name n i = cond (ltb i 24) (get_or name i space) (cond (ltb i 40) (colum
 
 -- the outcome that an answer shows
 abbrev pub shown_of : Assessed → Outcome (List ℕ)
-shown_of (Done q t) = gives (page_of q)
-shown_of (Refused n) = refuses n
+shown_of (Ok a) = gives (page_of a.quality)
+shown_of (Err n) = refuses n

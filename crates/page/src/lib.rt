@@ -11,8 +11,8 @@ ghost use Rattle.rule_page.specs.Page.{column_of, line_of, page_of, page_rule, P
 ghost use Rattle.page.specs.Steps.{byte_of, shown_of};
 
 use band::Band;
-use rule_quality::report::{Assessed, Quality};
-use rule_sheet::{Counts, Verdict};
+use rule_quality::report::{Assessment, Quality};
+use rule_sheet::{Counts, Refusal};
 
 // How many bytes a page, a line, and the name in a line have.
 pub const PAGE: usize = 328;
@@ -21,22 +21,13 @@ const LINE: usize = 41;
 
 const NAME: usize = 24;
 
-// A space, the digit 0, and the end of a line.
-const SPACE: u8 = 32;
-
-const ZERO: u8 = 48;
-
-const LINE_END: u8 = 10;
-
 // A number without its last k digits.
 fn without(n: usize, k: usize) -> usize
     ensures { result ≡ n / 10 ^ k }
 {
     let mut rest = n;
-    let mut i = 0;
-    while i < k {
+    for _ in 0..k {
         rest /= 10;
-        i += 1;
     }
     rest
 }
@@ -47,9 +38,9 @@ fn column(n: usize, k: usize) -> u8
 {
     let rest = without(n, k);
     if (rest == 0) & (0 < k) {
-        return SPACE;
+        return b' ';
     }
-    ZERO + (rest % 10) as u8
+    b'0' + (rest % 10) as u8
 }
 
 // Byte i of the line of a name and a count.
@@ -61,12 +52,12 @@ fn line_byte(name: &[u8], n: usize, i: usize) -> u8
         return name[i];
     }
     if i < NAME {
-        return SPACE;
+        return b' ';
     }
     if i < LINE - 1 {
         return column(n, LINE - 2 - i);
     }
-    LINE_END
+    b'\n'
 }
 
 // Writes line j.
@@ -76,10 +67,8 @@ fn put_line(page: &mut [u8], j: usize, name: &[u8], n: usize)
     ensures { Front (take (41 * j) page.old ++ line_of name.now n)
         page.new }
 {
-    let mut i = 0;
-    while i < LINE {
+    for i in 0..LINE {
         page[LINE * j + i] = line_byte(name, n, i);
-        i += 1;
     }
 }
 
@@ -99,19 +88,19 @@ fn put_page(page: &mut [u8], q: Quality)
 }
 
 // Shows what `quality` answers: the page and zeros behind it, or zeros.
-fn show(page: &mut [u8], r: Assessed) -> Verdict
+fn show(page: &mut [u8], r: Result<Assessment, Refusal>) -> Result<(), Refusal>
     requires { 328 ≤ length page.old }
     ensures { Pages (shown_of r) (length page.old) result page.new }
 {
     match r {
-        Assessed::Done(q, _) => {
-            put_page(page, q);
-            sheet::clear_behind_u8(PAGE, page);
-            Verdict::Accepted
+        Ok(a) => {
+            put_page(page, a.quality);
+            sheet::clear_behind(PAGE, page);
+            Ok(())
         }
-        Assessed::Refused(n) => {
-            lists::clear_u8(page);
-            Verdict::Refused(n)
+        Err(refusal) => {
+            lists::clear(page);
+            Err(refusal)
         }
     }
 }
@@ -126,7 +115,7 @@ pub fn page(
     work: &mut [u32],
     floats: &mut [f64],
     page: &mut [u8],
-) -> Verdict
+) -> Result<(), Refusal>
     ensures answer { let x = lent_of c points.now quads.now labels.now in
         let w = work_of work.old floats.old in
         let n = length page.old in
@@ -135,10 +124,10 @@ pub fn page(
         floats.new }
 {
     let tested = sheet::before_verdict(c, page.len() < PAGE);
-    if let Verdict::Refused(n) = tested {
+    if let Err(refusal) = tested {
         sheet::clear_work(work, floats);
-        lists::clear_u8(page);
-        return Verdict::Refused(n);
+        lists::clear(page);
+        return Err(refusal);
     }
     let r = quality::quality(b, c, points, quads, labels, work, floats);
     show(page, r)

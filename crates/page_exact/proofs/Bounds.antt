@@ -21,19 +21,21 @@ use Rattle.rule_admission.specs.Admission.{measurable_verdict}
 use Rattle.sheet.proofs.Flat.{length-quads}
 use Rattle.admission.proofs.Admitted.{admitted}
 use Rattle.incidence.specs.Corners.{Cornered, edge_order}
+use Rattle.edges.specs.declared.EdgeKind.{EdgeKind}
+use Rattle.edges.specs.declared.EdgeKind.TheVariants.{Boundary, Turned, Nonmanifold}
 use Rattle.edges.specs.Steps.{has_kind}
 use Rattle.edges.proofs.Walk.{below-order}
 use Rattle.edges.proofs.Sides.{boundary-places, nonmanifold-places, turned-places}
 use Rattle.rule_quality.specs.Census.{irregular, bad_links, duplicate_faces}
 use Rattle.rule_quality.specs.declared.Measures.{Measures}
-use Rattle.rule_quality.specs.declared.Measured.{Measured}
-use Rattle.rule_quality.specs.declared.Measured.TheVariants as measured
-use Rattle.rule_quality.specs.Measure.{flat, has_normal, cell_jacobian, cells_of, invalid_of, summary_of, measures_of, normal_number, measure_rule}
+use Rattle.rule_quality.specs.Measure.{flat, has_normal, cell_jacobian, cells_of, invalid_of, summary_of, measures_of, measure_rule}
 use Rattle.rule_quality.specs.declared.report.Quality.{Quality}
-use Rattle.rule_quality.specs.declared.report.Assessed.TheVariants.{Done}
 use Rattle.rule_quality.specs.Quality.{quality_of, eight_counts, quality_rule, assessed_of}
 use Rattle.quality.proofs.Accepted.{accepted}
 use Rattle.quality.proofs.Tight.{told}
+use Rattle.std.specs.Prelude.{Ok, Err}
+use Rattle.rule_quality.specs.Measure.{Measured}
+use Rattle.rule_sheet.specs.declared.Refusal.TheVariants.{Normal}
 
 -- ---- counts of points and quads
 
@@ -53,17 +55,17 @@ duplicates-le S = count-le _ (length S)
 
 module _ (np nq : ℕ) (Q : List ℕ) (C : Cornered np nq Q) (good : all (proper np) (quads_of nq Q) ≡ true) where
   -- at most as many places in edge order have one kind as there are places
-  kind-le : (k : ℕ) {n : ℕ} → count_to (has_kind Q (length (edge_order np nq Q)) (edge_order np nq Q) k) (length (edge_order np nq Q)) ≡ n → n ≤ 4 * nq
+  kind-le : (k : EdgeKind) {n : ℕ} → count_to (has_kind Q (length (edge_order np nq Q)) (edge_order np nq Q) k) (length (edge_order np nq Q)) ≡ n → n ≤ 4 * nq
   kind-le k e = omega (arith, count-le (has_kind Q (length (edge_order np nq Q)) (edge_order np nq Q) k) (length (edge_order np nq Q)), e, (below-order C).len)
 
   boundary-le : boundary_edges np (quads_of nq Q) ≤ 4 * nq
-  boundary-le = kind-le 1 (boundary-places np nq Q good)
+  boundary-le = kind-le Boundary (boundary-places np nq Q good)
 
   nonmanifold-le : nonmanifold_edges np (quads_of nq Q) ≤ 4 * nq
-  nonmanifold-le = kind-le 4 (nonmanifold-places np nq Q good)
+  nonmanifold-le = kind-le Nonmanifold (nonmanifold-places np nq Q good)
 
   orientation-le : orientation_errors np (quads_of nq Q) ≤ 4 * nq
-  orientation-le = kind-le 3 (turned-places np nq Q good)
+  orientation-le = kind-le Turned (turned-places np nq Q good)
 
 -- ---- cells
 
@@ -86,16 +88,16 @@ cells-le : (d : Domain) (s : Sheet) → length (cells_of d s) ≤ length s.quads
 unfolding cells_of
 cells-le d s = zip-le _ s.quads s.labels
 
-invalid-le : (d : Domain) (s : Sheet) (m : Measures) → measure_rule d s ≡ measured.Done m → m.invalid_cells ≤ length s.quads
+invalid-le : (d : Domain) (s : Sheet) (m : Measures) → measure_rule d s ≡ Ok m → m.invalid_cells ≤ length s.quads
 unfolding measure_rule measures_of summary_of
 invalid-le d s m e = go (all has_normal (cells_of d s)) e
   where
     -- what is measured, m where nothing is
     measures_or : Measured → Measures
-    measures_or (measured.Done k) = k
-    measures_or (measured.Refused k) = m
+    measures_or (Ok k) = k
+    measures_or (Err k) = m
 
-    go : (b : Bool) → cond b (measured.Done (measures_of (cells_of d s))) (measured.Refused normal_number) ≡ measured.Done m → m.invalid_cells ≤ length s.quads
+    go : (b : Bool) → cond b (Ok (measures_of (cells_of d s))) (Err Normal) ≡ Ok m → m.invalid_cells ≤ length s.quads
     go true h = rw (sym (ap measures_or h)) (omega (arith, flat-le (map cell_jacobian (cells_of d s)), length-map (cells_of d s) cell_jacobian, cells-le d s))
     go false h = absurd (let z : ◌≡◌ {A = ℕ} 0 1 = cc in omega arith)
 
@@ -105,7 +107,7 @@ eight-fit : (m : ℕ) {a b c d e f g h : ℕ} → a ≤ m → b ≤ m → c ≤ 
 eight-fit m ha hb hc hd he hf hg hh = rw (le-leb _ m ha, le-leb _ m hb, le-leb _ m hc, le-leb _ m hd, le-leb _ m he, le-leb _ m hf, le-leb _ m hg, le-leb _ m hh)
 
 module _ (d : Domain) (x : Lent) (w : Work) (q : Quality) (t : Bool) where
-  pub counts-fit : assessed_of (quality_rule d x w) ≡ Done q t → all (λ n. leb n (4 * limit)) (eight_counts q) ≡ true
+  pub counts-fit : assessed_of (quality_rule d x w) ≡ Ok (record { quality = q; is_tight = t }) → all (λ n. leb n (4 * limit)) (eight_counts q) ≡ true
   unfolding quality_of
   counts-fit e =
       let T = told d x w q t e in

@@ -13,15 +13,14 @@ use borrow.Author.Tests.{lt-ltb, le-ltb, ne_eqb, leb-true, not-true}
 use Rattle.lists.specs.Sort.{tabulate}
 use Rattle.lists.proofs.Every.{and_left, and_right}
 use Rattle.lists.proofs.Laws.{lt-or-le, length-tab, get_or-tab}
-use Rattle.rule_sheet.specs.declared.Verdict.{Verdict}
-use Rattle.rule_sheet.specs.declared.Verdict.TheVariants.{Accepted, Refused}
 use Rattle.rule_sheet.specs.Quads.{all}
 use Rattle.rule_sheet.specs.Edges.{join_of}
 use Rattle.rule_sheet.specs.Lent.{limit, before_verdict}
 use Rattle.rule_sheet.specs.Outcomes.{Outcome, refuses, gives, after_test}
 use Rattle.rule_sheet.specs.Results.{padded}
 use Rattle.rule_quality.specs.declared.report.Quality.{Quality}
-use Rattle.rule_quality.specs.Quality.{eight_counts, Assessment, quality_rule, assessed_of}
+use Rattle.rule_quality.specs.declared.report.Assessment.{Assessment}
+use Rattle.rule_quality.specs.Quality.{eight_counts, quality_rule, assessed_of}
 use Rattle.rule_page.specs.Page.{bytes_of, space, line_end, column_of, line_of, Line, lines_of, joined, page_of, page_size, page_outcome, page_rule}
 use Rattle.page.specs.Steps.{byte_of}
 use Rattle.page.proofs.Lines.{padded-tab, line-bytes, line-length, Short}
@@ -29,6 +28,8 @@ use Rattle.page.proofs.Rule.{names-short, page-size}
 use Rattle.page_exact.specs.Exact.{count_in, counts_in, Legible, EveryPage}
 use Rattle.page_exact.proofs.Digits.{count-read, column-no-end}
 use Rattle.page_exact.proofs.Bounds.{counts-fit}
+use Rattle.std.specs.Prelude.{Ok, Err}
+use Rattle.rule_sheet.specs.Verdicts.{Verdict}
 
 -- ---- reading back
 
@@ -118,8 +119,8 @@ unfolding EveryPage page_rule
 every-page d x w n p e = go (before_verdict x.counts (ltb n page_size)) (quality_rule d x w) refl e
   where
     go : (v : Verdict) (o : Outcome Assessment) → quality_rule d x w ≡ o → after_test v (page_outcome o) ≡ gives p → (a : Assessment) × (quality_rule d x w ≡ gives a) × Legible a.quality p
-    go (Refused k) o eo h = absurd (let z : ◌≡◌ {A = ℕ} 0 1 = cc in omega arith)
-    go Accepted (refuses k) eo h = absurd (let z : ◌≡◌ {A = ℕ} 0 1 = cc in omega arith)
-    go Accepted (gives a) eo h =
+    go (Err k) o eo h = absurd (let z : ◌≡◌ {A = ℕ} 0 1 = cc in omega arith)
+    go (Ok u) (refuses k) eo h = absurd (let z : ◌≡◌ {A = ℕ} 0 1 = cc in omega arith)
+    go (Ok u) (gives a) eo h =
         let r : page_of a.quality ≡ p = ap (given_or p) h in
         (a, eo, rw r at (legible a.quality (counts-fit d x w a.quality a.is_tight (ap assessed_of eo))))

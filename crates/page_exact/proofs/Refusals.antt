@@ -5,26 +5,27 @@ use mathlib.Core.Bool.{Bool, true, false, cond}
 use mathlib.Core.List.{List}
 use borrow.Author.Tests.{lt-ltb, le-ltb}
 use lib.ListN.{length}
-use Rattle.rule_sheet.specs.declared.Verdict.{Verdict}
-use Rattle.rule_sheet.specs.declared.Verdict.TheVariants.{Accepted, Refused}
-use Rattle.rule_sheet.specs.Numbers.{large, short}
 use Rattle.rule_sheet.specs.Sheet.{sheet_verdict}
 use Rattle.rule_sheet.specs.Lent.{held, room_in, is_large, is_short, is_short_work, lent_verdict, before_verdict}
 use Rattle.rule_sheet.specs.Outcomes.{Outcome, refuses, after_test}
 use Rattle.rule_admission.specs.Admission.{and_then, measurable_verdict, admits_after}
 use Rattle.rule_quality.specs.Measure.{measure_rule}
-use Rattle.rule_quality.specs.Quality.{Assessment, with_counts, quality_rule}
+use Rattle.rule_quality.specs.declared.report.Assessment.{Assessment}
+use Rattle.rule_quality.specs.Quality.{with_counts, quality_rule}
 use Rattle.rule_page.specs.Page.{page_outcome, page_rule}
 use Rattle.page_exact.specs.Exact.{EveryRefusal}
+use Rattle.std.specs.Prelude.{Err}
+use Rattle.rule_sheet.specs.Verdicts.{Verdict, Accepted}
+use Rattle.rule_sheet.specs.declared.Refusal.TheVariants.{Large, Short}
 
 -- what is above the limit `quality` refuses with 12 too
 same-refusal : (a b c : Bool) (v : Verdict) (o : Outcome Assessment)
-    → after_test (cond a (Refused large) (cond false (Refused short) Accepted)) (page_outcome (after_test (and_then (cond a (Refused large) (cond b (Refused short) (cond c (Refused short) Accepted))) v) o))
-    ≡ page_outcome (after_test (and_then (cond a (Refused large) (cond b (Refused short) (cond c (Refused short) Accepted))) v) o)
+    → after_test (cond a (Err Large) (cond false (Err Short) Accepted)) (page_outcome (after_test (and_then (cond a (Err Large) (cond b (Err Short) (cond c (Err Short) Accepted))) v) o))
+    ≡ page_outcome (after_test (and_then (cond a (Err Large) (cond b (Err Short) (cond c (Err Short) Accepted))) v) o)
 same-refusal true b c v o = refl
 same-refusal false b c v o = refl
 
-short-refusal : (a : Bool) (o : Outcome (List ℕ)) → after_test (cond a (Refused large) (cond true (Refused short) Accepted)) o ≡ refuses (cond a large short)
+short-refusal : (a : Bool) (o : Outcome (List ℕ)) → after_test (cond a (Err Large) (cond true (Err Short) Accepted)) o ≡ refuses (cond a Large Short)
 short-refusal true o = refl
 short-refusal false o = refl
 

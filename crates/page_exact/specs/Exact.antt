@@ -4,13 +4,14 @@ use Rattle.std.specs.Prelude.{drop}
 use mathlib.Core.List.{List, [], ◌∷◌, foldl}
 use Rattle.lists.specs.Regions.{part}
 use Rattle.setting.specs.Settings.{Domain}
-use Rattle.rule_sheet.specs.Numbers.{large, short}
 use Rattle.rule_sheet.specs.Quads.{all}
 use Rattle.rule_sheet.specs.Lent.{Lent, Work, limit, is_large}
 use Rattle.rule_sheet.specs.Outcomes.{refuses, gives}
 use Rattle.rule_quality.specs.declared.report.Quality.{Quality}
-use Rattle.rule_quality.specs.Quality.{eight_counts, Assessment, quality_rule}
+use Rattle.rule_quality.specs.declared.report.Assessment.{Assessment}
+use Rattle.rule_quality.specs.Quality.{eight_counts, quality_rule}
 use Rattle.rule_page.specs.Page.{space, line_end, page_size, page_outcome, page_rule}
+use Rattle.rule_sheet.specs.declared.Refusal.TheVariants.{Large, Short}
 
 -- ---- reading a page back
 
@@ -47,4 +48,4 @@ EveryPage = (d : Domain) (x : Lent) (w : Work) (n : ℕ) (p : List ℕ)
 unfoldable pub EveryRefusal : Type 0
 EveryRefusal = (d : Domain) (x : Lent) (w : Work) (n : ℕ)
     → (page_size ≤ n → page_rule d x w n ≡ page_outcome (quality_rule d x w))
-    × (n < page_size → page_rule d x w n ≡ refuses (cond (is_large x.counts) large short))
+    × (n < page_size → page_rule d x w n ≡ refuses (cond (is_large x.counts) Large Short))

@@ -1,5 +1,6 @@
 -- Projection: it puts masked box coordinates on their faces, and for a level it then looks up to 20 times.
-use Rattle.std.specs.Prelude.{ℕ, zero, suc, ◌/◌, ◌%◌, Bool, true, false, not, ◌&&◌, ◌||◌, cond, eqb, leb, Float}
+use Rattle.std.specs.Prelude.{ℕ, zero, suc, ◌/◌, ◌%◌, Bool, true, false, not, ◌&&◌, ◌||◌, cond, eqb, leb, Float, Some}
+use Rattle.std.specs.Prelude.{None, Option}
 use Rattle.std.specs.Float.{binary64}
 use Rattle.std.specs.Float.Ieee.{div, neg, lt, le, of_bits}
 use Rattle.numeric.specs.Num.{zero_f, twentieth, finite_of, abs_of, clamp_of}
@@ -12,8 +13,6 @@ use Rattle.band.specs.Bands.{length_of, gradient_with}
 use Rattle.setting.specs.Settings.{Setting, band_in, domain_in}
 use Rattle.projection.specs.declared.Look.{Look}
 use Rattle.projection.specs.declared.Look.TheVariants.{Singular, Arrived, Moved}
-use Rattle.projection.specs.declared.Projected.{Projected}
-use Rattle.projection.specs.declared.Projected.TheVariants.{Onto, Refused}
 
 -- ---- figures
 
@@ -95,15 +94,15 @@ unfoldable pub look_of : Field → Float → Float → Float → Point → Point
 look_of f len longest t free p = look_with p (times_p (gradient_with f len p) free) (value_of f p ⊖ t) len longest
 
 -- what a look says, with what follows a move
-abbrev pub after_look : Look → Point → (Point → Projected) → Projected
-after_look Singular p k = Refused
-after_look Arrived p k = Onto p
+abbrev pub after_look : Look → Point → (Point → Option Point) → Option Point
+after_look Singular p k = None
+after_look Arrived p k = Some p
 after_look (Moved q) p k = k q
 
 -- n looks are left. Being within length × 1e-12 must show in one of them, so a point that arrives with the last move
 -- is refused.
-unfoldable pub walk_from : ℕ → Field → Float → Float → Float → Point → Point → Projected
-walk_from zero f len longest t free p = Refused
+unfoldable pub walk_from : ℕ → Field → Float → Float → Float → Point → Point → Option Point
+walk_from zero f len longest t free p = None
 walk_from (suc n) f len longest t free p =
     after_look (look_of f len longest t free p) p (walk_from n f len longest t free)
 
@@ -120,16 +119,16 @@ inside_of low high p len =
     && within_of p.z low.z high.z (len ⊗ beyond)
 
 -- the point itself if it is inside
-unfoldable pub close_of : Point → Point → Point → Float → Projected
-close_of low high p len = cond (inside_of low high p len) (Onto p) Refused
+unfoldable pub close_of : Point → Point → Point → Float → Option Point
+close_of low high p len = cond (inside_of low high p len) (Some p) None
 
 -- a walk's answer, closed
-abbrev pub close_after : Point → Point → Float → Projected → Projected
-close_after low high len (Onto q) = close_of low high q len
-close_after low high len Refused = Refused
+abbrev pub close_after : Point → Point → Float → Option Point → Option Point
+close_after low high len (Some q) = close_of low high q len
+close_after low high len None = None
 
 -- the projection with the band's length, the longest move as a part of it, and the number of looks
-unfoldable pub project_with : Band → Float → Float → ℕ → Point → ℕ → Projected
+unfoldable pub project_with : Band → Float → Float → ℕ → Point → ℕ → Option Point
 project_with b len longest looks p mask =
     let q = on_faces_of b.low b.high p mask in
     let t = target_of b.lower b.upper mask in
@@ -137,17 +136,17 @@ project_with b len longest looks p mask =
     (close_after b.low b.high len (walk_from looks b.field len longest t (free_part_of mask) q))
 
 -- the projection of a call: a move is at most length × 0.05, and it looks up to 20 times
-unfoldable pub project_of : Setting → Point → ℕ → Projected
+unfoldable pub project_of : Setting → Point → ℕ → Option Point
 project_of s p mask = let b = band_in (domain_in s) in project_with b (length_of b) longest_move look_count p mask
 
 -- ---- what it answers
 
 -- a projection succeeds
-abbrev pub is_onto : Projected → Bool
-is_onto (Onto p) = true
-is_onto Refused = false
+abbrev pub is_onto : Option Point → Bool
+is_onto (Some p) = true
+is_onto None = false
 
 -- the point that a projection leads to; of a refused one it is not asked for
-abbrev pub onto_of : Projected → Point
-onto_of (Onto p) = p
-onto_of Refused = origin
+abbrev pub onto_of : Option Point → Point
+onto_of (Some p) = p
+onto_of None = origin

@@ -16,13 +16,6 @@ pub const LONGEST_MOVE: f64 = 0.05;
 // How many looks a projection takes.
 pub const LOOKS: usize = 20;
 
-// What a projection answers.
-#[derive(Clone, Copy)]
-pub enum Projected {
-    Onto(Point),
-    Refused,
-}
-
 // One look of a projection: refused, arrived, or the point moved to.
 #[derive(Clone, Copy)]
 pub enum Look {
@@ -147,23 +140,21 @@ pub fn walk(
     t: f64,
     free: Point,
     p: Point,
-) -> Projected
+) -> Option<Point>
     ensures { result ≡ walk_from looks f len longest t free p }
 {
     let mut q = p;
-    let mut left = looks;
-    while 0 < left {
+    for _ in 0..looks {
         let l = look_at(f, len, longest, t, free, q);
         match l {
-            Look::Singular => return Projected::Refused,
-            Look::Arrived => return Projected::Onto(q),
+            Look::Singular => return None,
+            Look::Arrived => return Some(q),
             Look::Moved(r) => {
                 q = r;
             }
         }
-        left -= 1;
     }
-    Projected::Refused
+    None
 }
 
 // Whether a coordinate is finite and at most `slack` outside its bounds.
@@ -184,17 +175,17 @@ pub fn inside(low: Point, high: Point, p: Point, len: f64) -> bool
 }
 
 // The point itself if it is inside.
-pub fn close(low: Point, high: Point, p: Point, len: f64) -> Projected
+pub fn close(low: Point, high: Point, p: Point, len: f64) -> Option<Point>
     ensures { result ≡ close_of low high p len }
 {
     if inside(low, high, p, len) {
-        return Projected::Onto(p);
+        return Some(p);
     }
-    Projected::Refused
+    None
 }
 
 // The point put on the faces and the level of its mask; len is the band's length.
-pub fn project(b: Band, len: f64, longest: f64, looks: usize, p: Point, mask: u8) -> Projected
+pub fn project(b: Band, len: f64, longest: f64, looks: usize, p: Point, mask: u8) -> Option<Point>
     ensures { result ≡ project_with b len longest looks p mask }
 {
     let q = on_faces(b.low, b.high, p, mask);
@@ -203,9 +194,6 @@ pub fn project(b: Band, len: f64, longest: f64, looks: usize, p: Point, mask: u8
     }
     let f = b.field;
     let t = target(b.lower, b.upper, mask);
-    let w = walk(f, len, longest, looks, t, free_part(mask), q);
-    let Projected::Onto(r) = w else {
-        return Projected::Refused;
-    };
+    let r = walk(f, len, longest, looks, t, free_part(mask), q)?;
     close(b.low, b.high, r, len)
 }

@@ -453,7 +453,7 @@ pub fn quads_page(
     let v = export_band::told_verdict(c, false, numbers.len(), bounds.len());
     let b = export_band::band_of(kind, numbers, bounds, lower, upper);
     let r = export_page::page_after(v, b, c, points, quads, labels, work, floats, page);
-    export_band::verdict_number(r)
+    export_band::answer_number(r)
 }
 
 // `save`: answer[0] is how many bytes the file has, answer[1..4] are the counts. Header and points are f64 elsewhere;

@@ -7,7 +7,6 @@ use native.Mathlib.Omega.{arith}
 use lib.ListN.{length, take}
 use Rattle.lists.proofs.Every.{every-at}
 use Rattle.setting.specs.Settings.{Domain}
-use Rattle.rule_sheet.specs.declared.Verdict.TheVariants.{Accepted}
 use Rattle.rule_sheet.specs.Quads.{all}
 use Rattle.rule_sheet.specs.Flat.{quad_at, quads_of}
 use Rattle.rule_sheet.specs.Tests.{proper, good_corners}
@@ -18,6 +17,7 @@ use Rattle.admission.proofs.Admitted.{admitted}
 use Rattle.incidence.proofs.Corners.{cornered}
 use Rattle.sheet.proofs.Corners.{Four, four-of}
 use Rattle.quality.specs.Quality.{Measuring}
+use Rattle.rule_sheet.specs.Verdicts.{Accepted}
 
 -- ---- four corners are four points
 

@@ -9,7 +9,6 @@ use Rattle.lists.specs.Sort.{tabulate}
 use Rattle.lists.specs.Regions.{Part, Out, Kept}
 use Rattle.lists.proofs.Regions.{part-kept}
 use Rattle.setting.specs.Settings.{Domain}
-use Rattle.rule_sheet.specs.declared.Verdict.TheVariants as verdict
 use Rattle.rule_sheet.specs.Flat.{quads_of}
 use Rattle.rule_sheet.specs.Lent.{Lent, Work, held}
 use Rattle.rule_admission.specs.Admission.{measurable}
@@ -25,10 +24,12 @@ use Rattle.quality_links.specs.Links.{LinkRoom}
 use Rattle.rule_quality.specs.declared.Measures.{Measures}
 use Rattle.rule_quality.specs.Measure.{measure_rule}
 use Rattle.quality.specs.declared.PointCounts.{PointCounts}
-use Rattle.rule_quality.specs.declared.report.Assessed.{Assessed}
-use Rattle.rule_quality.specs.declared.report.Assessed.TheVariants.{Done, Refused}
-use Rattle.rule_quality.specs.Quality.{quality_of, with_counts, quality_rule, assessed_of}
+use Rattle.rule_quality.specs.Quality.{quality_of, assessment_of, with_counts, quality_rule, assessed_of}
 use Rattle.quality.specs.Quality.{point_counts, Countable}
+use Rattle.std.specs.Prelude.{Ok, Err}
+use Rattle.rule_quality.specs.Quality.{Assessed}
+use Rattle.rule_sheet.specs.declared.Refusal.{Refusal}
+use Rattle.rule_sheet.specs.Verdicts.{Accepted}
 
 -- the slice after the numbers of quads are taken has what the links ask
 pub link-room : {np nq m : ℕ} {Q v w : List ℕ} → Countable np nq Q m → m ≡ length v → Part (0 * (np + nq)) (np + 1) (tabulate (first_at nq Q) (np + 1)) v → Part (2 * (np + nq)) (4 * nq) (corners_at np nq Q) v → Kept (Out (10 * (np + nq)) np) v w
@@ -55,20 +56,23 @@ link-room {np} {nq} {m} {Q} {v} {w} C e S O K =
 -- the record of the counts
 pub counted : (n nq : ℕ) (Q : List ℕ) (m : Measures) (p : PointCounts) (e : EdgeCounts) (d : ℕ) (t : Bool)
     → p ≡ point_counts n (quads_of nq Q) → e ≡ edge_counts n (quads_of nq Q) → d ≡ duplicate_faces (quads_of nq Q) → t ≡ tight_by e p.bad_links
-    → Done (record {
-      quads = nq;
-      irregular_vertices = p.irregular;
-      boundary_edges = e.boundary;
-      nonmanifold_edges = e.nonmanifold;
-      orientation_errors = e.orientation;
-      bad_vertex_links = p.bad_links;
-      duplicate_faces = d;
-      minimum_shape = m.minimum_shape;
-      shape_size_p05 = m.shape_size_p05;
-      shape_size_mean = m.shape_size_mean;
-      minimum_sampled_jacobian = m.minimum_sampled_jacobian;
-      invalid_cells = m.invalid_cells;
-    }) t ≡ Done (quality_of n (quads_of nq Q) m) (tight n (quads_of nq Q))
+    → record {
+      quality = record {
+        quads = nq;
+        irregular_vertices = p.irregular;
+        boundary_edges = e.boundary;
+        nonmanifold_edges = e.nonmanifold;
+        orientation_errors = e.orientation;
+        bad_vertex_links = p.bad_links;
+        duplicate_faces = d;
+        minimum_shape = m.minimum_shape;
+        shape_size_p05 = m.shape_size_p05;
+        shape_size_mean = m.shape_size_mean;
+        minimum_sampled_jacobian = m.minimum_sampled_jacobian;
+        invalid_cells = m.invalid_cells;
+      };
+      is_tight = t;
+    } ≡ assessment_of n (quads_of nq Q) m
 unfolding quality_of point_counts edge_counts
 counted n nq Q m p e d t ep ee ed et = rw (et, ep, ee, ed, length-quads nq Q, tight-counts n (quads_of nq Q))
 
@@ -76,11 +80,11 @@ counted n nq Q m p e d t ep ee ed et = rw (et, ep, ee, ed, length-quads nq Q, ti
 
 module _ (d : Domain) (x : Lent) (w : Work) where
   -- 12, 13, 1, 5, 6 or 7
-  pub rule-refused : (k : ℕ) → measurable d x w ≡ verdict.Refused k → Refused k ≡ assessed_of (quality_rule d x w)
+  pub rule-refused : (k : Refusal) → measurable d x w ≡ Err k → Err k ≡ assessed_of (quality_rule d x w)
   unfolding quality_rule
   rule-refused k e = rw e
 
   -- 11, or the record
-  pub rule-assessed : (r : Assessed) → measurable d x w ≡ verdict.Accepted → r ≡ assessed_of (with_counts x.counts.points (held x).quads (measure_rule d (held x))) → r ≡ assessed_of (quality_rule d x w)
+  pub rule-assessed : (r : Assessed) → measurable d x w ≡ Accepted → r ≡ assessed_of (with_counts x.counts.points (held x).quads (measure_rule d (held x))) → r ≡ assessed_of (quality_rule d x w)
   unfolding quality_rule
   rule-assessed r e g = rw (e, length-points x.counts.points x.points) g

@@ -11,15 +11,14 @@ ghost use Rattle.rule_sheet.specs.Results.{Cleared};
 ghost use Rattle.edges.specs.Steps.{edge_counts};
 ghost use Rattle.rule_quality.specs.Census.{duplicate_faces};
 ghost use Rattle.rule_quality.specs.Measure.{measure_rule};
-ghost use Rattle.rule_quality.specs.declared.Measured.TheVariants.{Done};
-ghost use Rattle.rule_quality.specs.Quality.{with_counts, quality_rule, assessed_of};
+ghost use Rattle.rule_quality.specs.Quality.{assessment_of, with_counts, quality_rule, assessed_of};
 ghost use Rattle.quality.specs.Quality.{point_counts, Countable, Measuring};
 
 use band::Band;
 use edges::EdgeCounts;
-use rule_quality::report::{Assessed, Quality};
-use rule_quality::{Measured, Measures};
-use rule_sheet::{Counts, Verdict};
+use rule_quality::Measures;
+use rule_quality::report::{Assessment, Quality};
+use rule_sheet::{Counts, Refusal};
 
 // Where the regions of the counts begin in the work slice, in units of points and quads together. Where the corners of
 // each point begin in their order, or those of each key in a sort.
@@ -98,14 +97,14 @@ fn count_duplicates(np: usize, nq: usize, quads: &[u32], work: &mut [u32]) -> us
 }
 
 // The record of a sheet with these measures, and whether it is tight.
-fn with_counts(np: usize, nq: usize, quads: &[u32], m: Measures, work: &mut [u32]) -> Assessed
+fn with_counts(np: usize, nq: usize, quads: &[u32], m: Measures, work: &mut [u32]) -> Assessment
     requires { Countable np nq quads.now (length work.old) }
-    ensures { result ≡ assessed_of (with_counts np (quads_of nq quads.now) (Done m)) }
+    ensures { result ≡ assessment_of np (quads_of nq quads.now) m }
 {
     let points = count_points(np, nq, quads, work);
     let edges = count_edges(np, nq, quads, work);
     let duplicate_faces = count_duplicates(np, nq, quads, work);
-    let q = Quality {
+    let quality = Quality {
         quads: nq,
         irregular_vertices: points.irregular,
         boundary_edges: edges.boundary,
@@ -119,7 +118,10 @@ fn with_counts(np: usize, nq: usize, quads: &[u32], m: Measures, work: &mut [u32
         minimum_sampled_jacobian: m.minimum_sampled_jacobian,
         invalid_cells: m.invalid_cells,
     };
-    Assessed::Done(q, quality_counts::is_tight(edges, points.bad_links))
+    Assessment {
+        quality,
+        is_tight: quality_counts::is_tight(edges, points.bad_links),
+    }
 }
 
 // The measures of a sheet that the tests accept, and its counts if it has them.
@@ -131,7 +133,7 @@ fn assess(
     labels: &[u8],
     work: &mut [u32],
     floats: &mut [f64],
-) -> Assessed
+) -> Result<Assessment, Refusal>
     requires { Measuring c (length points.now) quads.now (length labels.now) (length work.old)
         (length floats.old) }
     ensures { result ≡ assessed_of (with_counts c.points (quads_of c.quads quads.now)
@@ -139,11 +141,8 @@ fn assess(
 {
     let np = c.points;
     let nq = c.quads;
-    let r = quality_measures::measure(b, c, points, quads, labels, 0, work, floats);
-    match r {
-        Measured::Done(m) => with_counts(np, nq, quads, m, work),
-        Measured::Refused(k) => Assessed::Refused(k),
-    }
+    let m = quality_measures::measure(b, c, points, quads, labels, 0, work, floats)?;
+    Ok(with_counts(np, nq, quads, m, work))
 }
 
 // The answer; the work slices behind it may hold anything.
@@ -155,14 +154,11 @@ fn quality_or_refusal(
     labels: &[u8],
     work: &mut [u32],
     floats: &mut [f64],
-) -> Assessed
+) -> Result<Assessment, Refusal>
     ensures { result ≡ assessed_of (quality_rule (domain_of b) (lent_of c points.now quads.now
         labels.now) (work_of work.old floats.old)) }
 {
-    let tested = admission::measure_verdict(b, c, points, quads, labels, work, floats.len());
-    if let Verdict::Refused(k) = tested {
-        return Assessed::Refused(k);
-    }
+    admission::measure_verdict(b, c, points, quads, labels, work, floats.len())?;
     assess(b, c, points, quads, labels, work, floats)
 }
 
@@ -175,7 +171,7 @@ pub fn quality(
     labels: &[u8],
     work: &mut [u32],
     floats: &mut [f64],
-) -> Assessed
+) -> Result<Assessment, Refusal>
     ensures answer { result ≡ assessed_of (quality_rule (domain_of b) (lent_of c points.now
         quads.now labels.now) (work_of work.old floats.old)) }
     ensures cleared { Cleared work.old floats.old work.new

@@ -17,16 +17,6 @@ pub struct Arm {
     pub norm: f64,
 }
 
-// The directions at 0, 1/4, 1/2, 3/4 and 1.
-#[derive(Clone, Copy)]
-pub struct Arms {
-    pub a0: Arm,
-    pub a1: Arm,
-    pub a2: Arm,
-    pub a3: Arm,
-    pub a4: Arm,
-}
-
 // x over a denominator that is above 0, else 0.
 pub fn quotient(x: f64, denominator: f64) -> f64
     ensures { result ≡ quotient_of x denominator }
@@ -66,16 +56,17 @@ pub fn arm_at(a: Point, b: Point, t: f64) -> Arm
     Arm { along, norm }
 }
 
-// The directions at the five places.
-pub fn arms_of(a: Point, b: Point) -> Arms
+// The directions at 0, 1/4, 1/2, 3/4 and 1.
+pub fn arms_of(a: Point, b: Point) -> [Arm; 5]
     ensures { result ≡ arms_of a b }
 {
-    let a0 = arm_at(a, b, 0.0);
-    let a1 = arm_at(a, b, 0.25);
-    let a2 = arm_at(a, b, 0.5);
-    let a3 = arm_at(a, b, 0.75);
-    let a4 = arm_at(a, b, 1.0);
-    Arms { a0, a1, a2, a3, a4 }
+    [
+        arm_at(a, b, 0.0),
+        arm_at(a, b, 0.25),
+        arm_at(a, b, 0.5),
+        arm_at(a, b, 0.75),
+        arm_at(a, b, 1.0),
+    ]
 }
 
 // The Jacobian of two directions.
@@ -88,26 +79,19 @@ pub fn ratio(x: Arm, y: Arm, n: Point) -> f64
     )
 }
 
-// The least of w and of the five Jacobians of a row.
-pub fn row(w: f64, x: Arms, y: Arm, n: Point) -> f64
-    ensures { result ≡ row_of w x y n }
+// The least of w and of the Jacobians of y with each of x.
+pub fn row(w: f64, x: &[Arm], y: Arm, n: Point) -> f64
+    ensures { result ≡ row_of w x.now y n }
 {
-    let w0 = numeric::min(w, ratio(x.a0, y, n));
-    let w1 = numeric::min(w0, ratio(x.a1, y, n));
-    let w2 = numeric::min(w1, ratio(x.a2, y, n));
-    let w3 = numeric::min(w2, ratio(x.a3, y, n));
-    numeric::min(w3, ratio(x.a4, y, n))
+    x.iter()
+        .fold(w, |least, arm| numeric::min(least, ratio(*arm, y, n)))
 }
 
-// The least of 1 and of the Jacobians of all five rows.
-pub fn rows(x: Arms, y: Arms, n: Point) -> f64
-    ensures { result ≡ rows_of x y n }
+// The least of 1 and of the Jacobians of each of y with each of x.
+pub fn rows(x: &[Arm], y: &[Arm], n: Point) -> f64
+    ensures { result ≡ rows_of x.now y.now n }
 {
-    let w0 = row(1.0, x, y.a0, n);
-    let w1 = row(w0, x, y.a1, n);
-    let w2 = row(w1, x, y.a2, n);
-    let w3 = row(w2, x, y.a3, n);
-    row(w3, x, y.a4, n)
+    y.iter().fold(1.0, |least, arm| row(least, x, *arm, n))
 }
 
 // The least Jacobian of the quad at 5 by 5 places, at most 1.
@@ -116,7 +100,7 @@ pub fn jacobian(p: Corners, n: Point) -> f64
 {
     let x = arms_of(points::sub(p.p1, p.p0), points::sub(p.p2, p.p3));
     let y = arms_of(points::sub(p.p3, p.p0), points::sub(p.p2, p.p1));
-    rows(x, y, n)
+    rows(&x, &y, n)
 }
 
 // The area of the quad's two triangles at p0.

@@ -22,13 +22,11 @@ fn other_sum(d: u32, s: u32, y: u32) -> u32
     requires y_lt_limit { y < limit }
     ensures { result ≡ other_sum d s y }
 {
-    if d == 0 {
-        return y;
+    match d {
+        0 => y,
+        1 => s + y,
+        _ => s,
     }
-    if d == 1 {
-        return s + y;
-    }
-    s
 }
 
 // The point before corner c in its quad.
@@ -58,14 +56,12 @@ fn join_all(np: usize, quads: &[u32], from: usize, m: usize, deg: usize, acc: us
         (others_to quads.now (part from m w.old) m) deg acc w.new }
     ensures kept { Kept (Out2 deg np acc np) w.old w.new }
 {
-    let mut j = 0;
-    while j < m {
+    for j in 0..m {
         let c = lists::at(w, from + j);
         let p = point_before(quads, c);
         let n = edges::point_after(quads, c);
         register(deg, acc, p, n, w);
         register(deg, acc, n, p, w);
-        j += 1;
     }
 }
 
@@ -94,11 +90,8 @@ fn all_two(
     requires { Joining np quads.now (part from m w.now) from m deg acc w.now }
     ensures { result ≡ every (two_at quads.now deg w.now (part from m w.now)) m }
 {
-    let mut j = 0;
-    while j < m {
-        if both_two(quads, lists::at(w, from + j), deg, w) {
-            j += 1;
-        } else {
+    for j in 0..m {
+        if !both_two(quads, lists::at(w, from + j), deg, w) {
             return false;
         }
     }
@@ -120,14 +113,12 @@ fn clear_joins(
     ensures unjoined { Unjoined np deg w.new }
     ensures kept { Kept (Out deg np) w.old w.new }
 {
-    let mut j = 0;
-    while j < m {
+    for j in 0..m {
         let c = lists::at(w, from + j);
         let p = point_before(quads, c);
         let n = edges::point_after(quads, c);
         w[deg + p] = 0;
         w[deg + n] = 0;
-        j += 1;
     }
 }
 
@@ -230,10 +221,8 @@ pub fn bad_links(
 {
     lists::clear(&mut w[deg..deg + np]);
     let mut count = 0;
-    let mut v = 0;
-    while v < np {
-        count += sheet::one_if(!is_good_link(np, nq, quads, v, starts, order, deg, acc, w));
-        v += 1;
+    for v in 0..np {
+        count += usize::from(!is_good_link(np, nq, quads, v, starts, order, deg, acc, w));
     }
     count
 }

@@ -18,11 +18,12 @@ use Rattle.rule_sheet.specs.Quads.{all}
 use Rattle.rule_sheet.specs.Sheet.{sheet_of}
 use Rattle.rule_sheet.specs.Lent.{limit}
 use Rattle.rule_quality.specs.declared.Measures.{Measures}
-use Rattle.rule_quality.specs.declared.Measured.TheVariants.{Done, Refused}
-use Rattle.rule_quality.specs.Measure.{Cell, has_normal, cells_of, least_of, mean_of, invalid_of, p05_of, score_of, scores_of, summary_of, measures_of, measure_rule, normal_number}
+use Rattle.rule_quality.specs.Measure.{Cell, has_normal, cells_of, least_of, mean_of, invalid_of, p05_of, score_of, scores_of, summary_of, measures_of, measure_rule}
 use Rattle.quality_readings.specs.Readings.{cells_to, Readings, Measurable}
 use Rattle.quality_readings.proofs.Zips.{zip-tab}
 use Rattle.quality_readings.proofs.Cells.{cells-flat}
+use Rattle.std.specs.Prelude.{Ok, Err}
+use Rattle.rule_sheet.specs.declared.Refusal.TheVariants.{Normal}
 
 -- ---- the loop of the scores
 
@@ -118,7 +119,7 @@ module _ (b : Band) (c : Counts) (P : List Float) (Q labels : List ℕ) (M : Mea
 
   -- a cell has no normal
   pub refused : (len : Float) (g : Bool) (at : ℕ) (F G : List Float) (w : List ℕ) → len ≡ length_of b → g ≡ false → Read len g F G
-      → (Refused normal_number ≡ measure_rule b (sheet_of c P Q labels)) × (Kept (Out at (2 * c.quads + 256)) w w × Kept (Out 0 (5 * c.quads)) F G)
+      → (Err Normal ≡ measure_rule b (sheet_of c P Q labels)) × (Kept (Out at (2 * c.quads + 256)) w w × Kept (Out 0 (5 * c.quads)) F G)
   unfolding measure_rule
   refused len g at F G w el t R =
       let e : all has_normal (cells len) ≡ false = sym R.0 ∙ t in
@@ -129,7 +130,7 @@ module _ (b : Band) (c : Counts) (P : List Float) (Q labels : List ℕ) (M : Mea
       → Part (4 * c.quads) c.quads (sort_floats (scores_of (part 0 c.quads G) (part (2 * c.quads) c.quads G))) H
       × (Kept (Out (3 * c.quads) (2 * c.quads)) G H × Kept (Out at (2 * c.quads + 256)) w w')
       → r ≡ summary_of (part 0 c.quads H) (part c.quads c.quads H) (part (4 * c.quads) c.quads H)
-      → (Done r ≡ measure_rule b (sheet_of c P Q labels)) × (Kept (Out at (2 * c.quads + 256)) w w' × Kept (Out 0 (5 * c.quads)) F H)
+      → (Ok r ≡ measure_rule b (sheet_of c P Q labels)) × (Kept (Out at (2 * c.quads + 256)) w w' × Kept (Out 0 (5 * c.quads)) F H)
   unfolding measure_rule measures_of
   measured len g at F G H w w' r el t R S u =
       let e : all has_normal (cells len) ≡ true = sym R.0 ∙ t in
@@ -138,4 +139,4 @@ module _ (b : Band) (c : Counts) (P : List Float) (Q labels : List ℕ) (M : Mea
       let s = part-kept A.shapes K (λ i p q p' q'. omega arith) in
       let j = part-kept A.jacobians K (λ i p q p' q'. omega arith) in
       let v : r ≡ measures_of (cells len) = u ∙ rw (s.is, j.is, S.0.is, A.shapes.is, A.areas.is) in
-      (rw (same-cells len el, e) (ap Done v), (S.1.1, kept_then R.1.1 K (λ i o. (λ p q. o p (omega arith), λ p q. o (omega arith) (omega arith)))))
+      (rw (same-cells len el, e) (ap Ok v), (S.1.1, kept_then R.1.1 K (λ i o. (λ p q. o p (omega arith), λ p q. o (omega arith) (omega arith)))))

@@ -12,11 +12,8 @@ ghost use Rattle.rule_quality.specs.Measure.{score_of, scores_of, summary_of, me
 ghost use Rattle.quality_readings.specs.Readings.{Measurable};
 
 use band::Band;
-use rule_quality::{Measured, Measures};
-use rule_sheet::Counts;
-
-// The number of the refusal: a normal that is not finite or shorter than 0.5.
-pub const NORMAL: u32 = 11;
+use rule_quality::Measures;
+use rule_sheet::{Counts, Refusal};
 
 // The score of a shape and an area, by the mean of the areas.
 fn score(mean: f64, shape: f64, area: f64) -> f64
@@ -36,10 +33,8 @@ fn scores(mean: f64, n: usize, floats: &mut [f64])
         (part (2 * n) n floats.old)) floats.new }
     ensures kept { Kept (Out (3 * n) n) floats.old floats.new }
 {
-    let mut q = 0;
-    while q < n {
+    for q in 0..n {
         floats[3 * n + q] = score(mean, floats[q], floats[2 * n + q]);
-        q += 1;
     }
 }
 
@@ -93,7 +88,7 @@ pub fn measure(
     at: usize,
     work: &mut [u32],
     floats: &mut [f64],
-) -> Measured
+) -> Result<Measures, Refusal>
     requires measurable { Measurable c (length points.now) quads.now (length labels.now) }
     requires quads_in_bounds { at + (2 * c.quads + 256) ≤ length work.old }
     requires quads_in_bounds_2 { 5 * c.quads ≤ length floats.old }
@@ -106,7 +101,7 @@ pub fn measure(
     let f = b.field;
     if quality_readings::read_cells(f, len, n, points, quads, labels, floats) {
         sort_scores(n, at, work, floats);
-        return Measured::Done(summary(n, floats));
+        return Ok(summary(n, floats));
     }
-    Measured::Refused(NORMAL)
+    Err(Refusal::Normal)
 }

@@ -98,19 +98,9 @@ pub fn read_cells(
         labels.now n) floats.new }
     ensures kept { Kept (Out 0 (3 * n)) floats.old floats.new }
 {
-    let mut q = 0;
-    while q < n {
-        if read_cell(
-            f,
-            len,
-            corners_at(points, quads, q),
-            labels[q],
-            n,
-            q,
-            floats,
-        ) {
-            q += 1;
-        } else {
+    for q in 0..n {
+        let p = corners_at(points, quads, q);
+        if !read_cell(f, len, p, labels[q], n, q, floats) {
             return false;
         }
     }

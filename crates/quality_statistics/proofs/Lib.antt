@@ -1,3 +1,3 @@
--- `Folds` has loops that fold a list from its front, `Places` that the place 0.05 × (n − 1) lies in a list of n.
+-- `Folds` has folds and counts of a whole list, `Places` that the place 0.05 × (n − 1) lies in a list of n.
 pub mod Folds
 pub mod Places

@@ -3,11 +3,9 @@
 #![tactic(auto)]
 
 ghost use Rattle.std.specs.Prelude.{◌≡◌, ◌<◌, ◌≤◌, length};
-ghost use Rattle.std.specs.Float.Ieee.{le};
 ghost use Rattle.numeric.specs.Num.{floor_of};
-ghost use Rattle.rule_sheet.specs.Quads.{num};
 ghost use Rattle.rule_sheet.specs.Lent.{limit};
-ghost use Rattle.rule_quality.specs.Measure.{least_of, total_of, mean_of, flat, invalid_of, fract_of, ceil_of};
+ghost use Rattle.rule_quality.specs.Measure.{least_of, total_of, mean_of, invalid_of, fract_of, ceil_of};
 ghost use Rattle.rule_quality.specs.Measure.{value_at_place};
 ghost use Rattle.rule_quality.specs.Measure.{p05_of};
 
@@ -15,26 +13,14 @@ ghost use Rattle.rule_quality.specs.Measure.{p05_of};
 pub fn least(s: &[f64]) -> f64
     ensures { result ≡ least_of s.now }
 {
-    let mut w = 1.0 / 0.0;
-    let mut i = 0;
-    while i < s.len() {
-        w = numeric::min(w, s[i]);
-        i += 1;
-    }
-    w
+    s.iter().fold(1.0 / 0.0, |w, x| numeric::min(w, *x))
 }
 
 // The sum in order, from -0.0 on.
 fn total(s: &[f64]) -> f64
     ensures { result ≡ total_of s.now }
 {
-    let mut w = -0.0;
-    let mut i = 0;
-    while i < s.len() {
-        w = w + s[i];
-        i += 1;
-    }
-    w
+    s.iter().fold(-0.0, |w, x| w + *x)
 }
 
 // The sum over the count.
@@ -44,24 +30,11 @@ pub fn mean(s: &[f64]) -> f64
     total(s) / numeric::float(s.len())
 }
 
-// 1 for a Jacobian of at most 1e-8, else 0.
-fn invalid_one(jacobian: f64) -> usize
-    ensures { result ≡ num (le jacobian flat) }
-{
-    if jacobian <= 1e-8 { 1 } else { 0 }
-}
-
 // How many elements are at most 1e-8.
 pub fn invalid(s: &[f64]) -> usize
     ensures { result ≡ invalid_of s.now }
 {
-    let mut k = 0;
-    let mut i = 0;
-    while i < s.len() {
-        k = k + invalid_one(s[i]);
-        i += 1;
-    }
-    k
+    s.iter().filter(|x| **x <= 1e-8).count()
 }
 
 // x without its whole part.

@@ -1,31 +1,34 @@
 -- The turns of the loops of `refine`: the links from corner to corner, the numbers of the points, and the slices that are written. Assumes nothing.
-use Prim.Native.Nat.{ℕ, zero, suc, ◌+◌, ◌-◌, ◌*◌, ◌/◌, ◌%◌, ◌^◌, ◌≤◌, ◌<◌, zero-le}
+use Prim.Native.Nat.{ℕ, zero, suc, ◌+◌, ◌-◌, ◌*◌, ◌/◌, ◌%◌, ◌^◌, ◌≤◌, ◌<◌}
 use mathlib.Core.Path.{◌≡◌, refl, sym, ap, ◌∙◌}
 use mathlib.Core.Bool.{Bool, true, false, cond}
 use mathlib.Core.List.{List, [], ◌∷◌, ◌++◌, append-nil, append_assoc}
 use native.Mathlib.Omega.{arith}
 use native.Mathlib.Numerals.{add-one}
-use lib.ListN.{length, get_or, set, length-append}
+use lib.ListN.{length, get_or, set, take, length-append}
+use lib.Seq.{take-append_seam, length-take-le}
+use Rattle.std.proofs.Common.{IsTrue, EachIndex, ◌↔◌}
+use Rattle.std.proofs.lemmas.List.{get_or-take}
 use lib.Ieee.{Float}
-use borrow.Author.Tests.{eq-eqb, ne_eqb, eqb-true, lt-ltb, le-ltb}
+use borrow.Author.Tests.{eq-eqb, ne_eqb, eqb-true, lt-ltb, ltb-true}
 use Rattle.points.specs.declared.Point.{Point}
 use Rattle.points.specs.Points.{halfway_p, centre_p}
 use Rattle.points.specs.Steps.{with_point}
 use Rattle.lists.specs.Sort.{tabulate}
-use Rattle.lists.specs.Every.{count_to}
+use Rattle.lists.specs.Every.{every, count_to}
 use Rattle.lists.specs.Regions.{part, Part, Out, Kept}
 use Rattle.lists.proofs.Laws.{get_or-tab, length-tab, tab-suc}
-use Rattle.lists.proofs.Every.{count-le, count-zero}
+use Rattle.lists.proofs.Every.{count-le, count-zero, bool_iff, every-each, every-at}
 use Rattle.lists.proofs.Regions.{part_of, part-get, part-set, part-as, part-kept, kept_refl, kept_set, RegionFilled, region-start, region-turn, region-part, region-end, region-other}
 use Rattle.rule_sheet.specs.Quads.{Quad, quad}
 use Rattle.rule_sheet.specs.Flat.{corner, flat_quads}
 use Rattle.sheet.specs.Flat.{with_quad}
 use Rattle.rule_sheet.specs.Sheet.{flat_points}
 use Rattle.sheet.specs.Results.{Front}
-use Rattle.sheet.proofs.Fronts.{front-none, front-point, front-quad, length-with, length-with-quad}
+use Rattle.sheet.proofs.Fronts.{front-none, front-point, front-quad}
 use Rattle.incidence.specs.Corners.{edge_order, Positioned}
 use Rattle.refine.specs.Requests.{request_of, first_of, own, number_of, linked_to, position_in, child_at}
-use Rattle.refine.specs.Loops.{low_at, Linking, Numbering, Numbered, Writing, made_to, put_request}
+use Rattle.refine.specs.Loops.{low_at, Linking, Numbering, Making, Adds, made_to}
 use Rattle.lists.specs.Steps.{nth}
 use Rattle.edges.specs.Steps.{same_edge}
 use Rattle.refine.proofs.Edges.{Same, sorted, same-yes, same-no, linked-new, linked-same, linked-end}
@@ -95,13 +98,6 @@ link-end {np} {nq} {Q} {order} {first} {i} {w} L e = part-as (rw e at L.linked) 
 bit_le : (b : Bool) → cond b 1 0 ≤ 1
 bit_le true = omega arith
 bit_le false = omega arith
-
--- the count of a request that is the first of its key, and of another
-pub own-yes : (first m t : ℕ) (w : List ℕ) → first + m ≤ length w → t < m → get_or w (first + t) 0 ≡ t → ◌≡◌ {A = ℕ} 1 (cond (own (part first m w) t) 1 0)
-own-yes first m t w h l e = rw (eq-eqb (get_or (part first m w) t 0) t (sym (part-get 0 t (part_of first m w h) l) ∙ e))
-
-pub own-no : (first m t : ℕ) (w : List ℕ) → first + m ≤ length w → t < m → (get_or w (first + t) 0 ≡ t → ⊥) → ◌≡◌ {A = ℕ} 0 (cond (own (part first m w) t) 1 0)
-own-no first m t w h l e = rw (ne_eqb (get_or (part first m w) t 0) t (λ q. e (part-get 0 t (part_of first m w h) l ∙ q)))
 
 pub count-suc : (p : ℕ → Bool) (i : ℕ) → count_to p (i + 1) ≡ count_to p i + cond (p i) 1 0
 unfolding count_to
@@ -193,102 +189,68 @@ made-suc : {A : Type 0} (F : List ℕ) (pos : ℕ → A) (t : ℕ) → made_to F
 unfolding made_to
 made-suc F pos t = rw (add-one t)
 
--- the invariant of the loop that writes the new points behind the n old ones, ps
-pub record PointLoop (n m : ℕ) (ps : List Point) (pos : ℕ → Point) (F : List ℕ) (d s : List Float) (t : ℕ) : Type 0 where
-  pub t≤ : t ≤ m
-  pub old : length ps ≡ n
-  pub len : length s ≡ length d
-  pub front : Front (flat_points (ps ++ made_to F pos t)) s
+module _ {n m first num : ℕ} {F N w : List ℕ} {room t : ℕ} (M : Making n m first num F N w room) (h : t < m) where
+  -- the number of a request, read, has room
+  pub number-room : (k : ℕ) → k ≡ get_or w (num + t) 0 → k * 3 + 3 ≤ room
+  number-room k e = rw (e, part-get 0 t M.numbers h) (M.rooms t h)
 
-pub points-start : {n : ℕ} (m : ℕ) (ps : List Point) (pos : ℕ → Point) (F : List ℕ) (d : List Float) → length ps ≡ n → Front (flat_points ps) d → PointLoop n m ps pos F d d 0
-unfolding made_to
-points-start m ps pos F d e h = record { t≤ = zero-le; old = e; len = refl; front = rw append-nil h }
+  pub own-read : (f : ℕ) → f ≡ get_or w (first + t) 0 → f ≡ t → own F t ≡ true
+  own-read f e q = eq-eqb (get_or F t 0) t (sym (part-get 0 t M.firsts h) ∙ sym e ∙ q)
 
-module _ {n m : ℕ} {ps : List Point} {pos : ℕ → Point} {F : List ℕ} {d s : List Float} {t : ℕ} (I : PointLoop n m ps pos F d s t) where
-  pub points-turn : (N : List ℕ) (r : List Float) → t < m → Numbered n m F N → get_or N t 0 * 3 + 3 ≤ length d → r ≡ put_request F N pos t s → PointLoop n m ps pos F d r (t + 1)
+  number-own : own F t ≡ true → get_or N t 0 ≡ n + count_to (own F) t
   unfolding number_of
-  points-turn N r h G room er = go (own F t) refl
-    where
-      all : List Point
-      all = ps ++ made_to F pos t
+  number-own o =
+      ap (λ (x : List ℕ). get_or x t 0) M.numbered.is ∙ get_or-tab (number_of n F) m t 0 h
+      ∙ ap (λ (k : ℕ). n + count_to (own F) k) (eqb-true (get_or F t 0) t o)
 
-      go : (b : Bool) → own F t ≡ b → PointLoop n m ps pos F d r (t + 1)
-      go false e = record {
-        t≤ = omega arith;
-        old = I.old;
-        len = rw (er, e) I.len;
-        front = rw (er, e, made-suc F pos t, e, append-nil) I.front;
-      }
-      go true e =
-          let f : get_or F t 0 ≡ t = eqb-true (get_or F t 0) t e in
-          let k : get_or N t 0 ≡ length all = ap (λ (l : List ℕ). get_or l t 0) G.is ∙ get_or-tab (number_of n F) m t 0 h ∙ ap (λ (k : ℕ). n + count_to (own F) k) f
-          ∙ sym (length-append ps (made_to F pos t) ∙ rw (I.old, length-made F pos t)) in
-          record {
-            t≤ = omega arith;
-            old = I.old;
-            len = rw (er, e) (length-with s (get_or N t 0) (pos t) ∙ I.len);
-            front = rw (er, e, made-suc F pos t, e, ← append_assoc) (front-point all (get_or N t 0) (pos t) I.front k (omega (arith, I.len)));
-          }
+  module _ {Gives : ℕ → Point → Type 0} {d s : List Float} (I : Adds Gives n m F d s t) where
+    pub adds-yes : (f k : ℕ) (p : Point) {r : List Float} → f ≡ get_or w (first + t) 0 → f ≡ t → k ≡ get_or w (num + t) 0 → length s ≡ room → Gives t p → r ≡ with_point s k p
+        → Adds Gives n m F d r (t + 1)
+    adds-yes f k p ef q ek b g er ps pos l e gives =
+        let o : own F t ≡ true = own-read f ef q in
+        let i : k ≡ length (ps ++ made_to F pos t) = ek ∙ part-get 0 t M.numbers h ∙ number-own o ∙ sym (length-append ps (made_to F pos t) ∙ rw (l, length-made F pos t)) in
+        rw (er, made-suc F pos t, o, ← gives t p h o g, ← append_assoc) (front-point (ps ++ made_to F pos t) k p (I ps pos l e gives) i (omega (arith, number-room k ek)))
 
--- at the end all of them stand
-pub points-end : {n m : ℕ} {ps : List Point} {pos : ℕ → Point} {F : List ℕ} {d s : List Float} {t : ℕ} → PointLoop n m ps pos F d s t → m ≤ t → Front (flat_points (ps ++ made_to F pos m)) s
-points-end {n} {m} {ps} {pos} {F} {d} {s} {t} I h = let e : t ≡ m = omega (arith, I.t≤) in rw e at I.front
+    pub adds-no : (f : ℕ) → f ≡ get_or w (first + t) 0 → (f ≡ t → ⊥) → Adds Gives n m F d s (t + 1)
+    adds-no f ef q ps pos l e gives =
+        let o : own F t ≡ false = ne_eqb (get_or F t 0) t (λ i. q (ef ∙ part-get 0 t M.firsts h ∙ i)) in
+        rw (made-suc F pos t, o, append-nil) (I ps pos l e gives)
 
--- the writing goes on in a slice of the same length
-pub writing-same : {np nq : ℕ} {P : List Float} {Q : List ℕ} {first num : ℕ} {F N w : List ℕ} {room more : ℕ} → Writing np nq P Q first num F N w room → more ≡ room → Writing np nq P Q first num F N w more
-writing-same W e = rw e W
-
-module _ {np nq : ℕ} {P : List Float} {Q : List ℕ} {first num : ℕ} {F N w : List ℕ} {room : ℕ} (W : Writing np nq P Q first num F N w room) (t : ℕ) (h : t < 5 * nq) where
-  pub writing-room : get_or w (num + t) 0 * 3 + 3 ≤ room
-  writing-room = rw (part-get 0 t W.numbers h) (W.rooms t h)
-
-  pub put-yes : (pos : ℕ → Point) (k : ℕ) (p : Point) (s r : List Float) → get_or w (first + t) 0 ≡ t → k ≡ get_or w (num + t) 0 → p ≡ pos t → r ≡ with_point s k p → r ≡ put_request F N pos t s
-  put-yes pos k p s r e ek ep er = rw (eq-eqb (get_or F t 0) t (sym (part-get 0 t W.firsts h) ∙ e), ← part-get 0 t W.numbers h, ← ek, ← ep) er
-
-  pub put-no : (pos : ℕ → Point) (s : List Float) → (get_or w (first + t) 0 ≡ t → ⊥) → s ≡ put_request F N pos t s
-  put-no pos s e = rw (ne_eqb (get_or F t 0) t (λ q. e (part-get 0 t W.firsts h ∙ q)))
+pub adds-start : (Gives : ℕ → Point → Type 0) (n m : ℕ) (F : List ℕ) (d : List Float) → Adds Gives n m F d d 0
+unfolding made_to
+adds-start Gives n m F d ps pos l f gives = rw append-nil f
 
 -- ---- the old points
 
-pub record OldLoop (f : ℕ → Point) (n : ℕ) (d s : List Float) (v : ℕ) : Type 0 where
-  pub v≤ : v ≤ n
-  pub len : length s ≡ length d
-  pub front : Front (flat_points (tabulate f v)) s
+-- what is copied stands in front
+pub front-copied : {A : Type 0} {l s : List A} {n : ℕ} {x : List A} (y : List A) → Front l s → length l ≡ n → x ≡ take n s → Front l (x ++ y)
+front-copied {A} {l} {s} {n} {x} y F e ex =
+    let is : x ≡ l = ex ∙ rw (← e) F.is in
+    rw is (record { fits = omega (arith, length-append l y); is = take-append_seam l y })
 
-pub old-start : (f : ℕ → Point) (n : ℕ) (d : List Float) → OldLoop f n d d 0
+pub length-flat : (ps : List Point) → length (flat_points ps) ≡ 3 * length ps
+unfolding flat_points
+length-flat [] = refl
+length-flat (p ∷ ps) = omega (arith, length-flat ps)
+
+-- the first v points, and one more
+pub points-none : (f : ℕ → Point) (s : List Float) → Front (flat_points (tabulate f 0)) s
 unfolding tabulate flat_points
-old-start f n d = record { v≤ = zero-le; len = refl; front = front-none d }
+points-none f s = front-none s
 
-pub old-turn : {f : ℕ → Point} {n : ℕ} {d s : List Float} {v : ℕ} (p : Point) (r : List Float) → OldLoop f n d s v → v < n → 3 * n ≤ length d → p ≡ f v → r ≡ with_point s v p → OldLoop f n d r (v + 1)
-old-turn {f} {n} {d} {s} {v} p r I h b ep er = record {
-  v≤ = omega arith;
-  len = rw er (length-with s v p ∙ I.len);
-  front = rw (add-one v, tab-suc f v, ← ep, er) (front-point (tabulate f v) v p I.front (sym (length-tab f v)) (omega (arith, I.len)));
-}
-
-pub old-end : {f : ℕ → Point} {n : ℕ} {d s : List Float} {v : ℕ} → OldLoop f n d s v → n ≤ v → Front (flat_points (tabulate f n)) s
-old-end {f} {n} {d} {s} {v} I h = let e : v ≡ n = omega (arith, I.v≤) in rw e at I.front
+pub points-more : (f : ℕ → Point) (s : List Float) (v : ℕ) (p : Point) (r : List Float) → Front (flat_points (tabulate f v)) s → v * 3 + 3 ≤ length s → p ≡ f v → r ≡ with_point s v p
+    → Front (flat_points (tabulate f (v + 1))) r
+points-more f s v p r F h ep er = rw (add-one v, tab-suc f v, ← ep, er) (front-point (tabulate f v) v p F (sym (length-tab f v)) h)
 
 -- ---- the quads
 
-pub record QuadLoop (f : ℕ → Quad) (m : ℕ) (d s : List ℕ) (c : ℕ) : Type 0 where
-  pub c≤ : c ≤ m
-  pub len : length s ≡ length d
-  pub front : Front (flat_quads (tabulate f c)) s
-
-pub quads-start : (f : ℕ → Quad) (m : ℕ) (d : List ℕ) → QuadLoop f m d d 0
+-- the first c quads, and one more
+pub quads-none : (f : ℕ → Quad) (s : List ℕ) → Front (flat_quads (tabulate f 0)) s
 unfolding tabulate flat_quads
-quads-start f m d = record { c≤ = zero-le; len = refl; front = front-none d }
+quads-none f s = front-none s
 
-pub quads-turn : {f : ℕ → Quad} {m : ℕ} {d s : List ℕ} {c : ℕ} (r : List ℕ) → QuadLoop f m d s c → c < m → 4 * m ≤ length d → r ≡ with_quad s c (f c) → QuadLoop f m d r (c + 1)
-quads-turn {f} {m} {d} {s} {c} r I h b er = record {
-  c≤ = omega arith;
-  len = rw er (length-with-quad s c (f c) ∙ I.len);
-  front = rw (add-one c, tab-suc f c, er) (front-quad (tabulate f c) c (f c) I.front (sym (length-tab f c)) (omega (arith, I.len)));
-}
-
-pub quads-end : {f : ℕ → Quad} {m : ℕ} {d s : List ℕ} {c : ℕ} → QuadLoop f m d s c → m ≤ c → Front (flat_quads (tabulate f m)) s
-quads-end {f} {m} {d} {s} {c} I h = let e : c ≡ m = omega (arith, I.c≤) in rw e at I.front
+pub quads-more : (f : ℕ → Quad) (s : List ℕ) (c : ℕ) (r : List ℕ) → Front (flat_quads (tabulate f c)) s → 4 * c + 4 ≤ length s → r ≡ with_quad s c (f c) → Front (flat_quads (tabulate f (c + 1))) r
+quads-more f s c r F h er = rw (add-one c, tab-suc f c, er) (front-quad (tabulate f c) c (f c) F (sym (length-tab f c)) h)
 
 -- the child quad that is read from the numbers
 pub child-read : (nq num c : ℕ) (Q w s r : List ℕ) → num + 5 * nq ≤ length w → c < 4 * nq
@@ -300,11 +262,13 @@ child-read nq num c Q w s r h b e =
 
 -- ---- corners in range
 
-pub low-yes : (np : ℕ) (Q : List ℕ) (c r : ℕ) → r ≡ get_or Q c 0 → r < np → low_at np Q c ≡ true
-low-yes np Q c r e h = rw (← e) (lt-ltb r np h)
-
-pub low-no : (np : ℕ) (Q : List ℕ) (c r : ℕ) → r ≡ get_or Q c 0 → np ≤ r → low_at np Q c ≡ false
-low-no np Q c r e h = rw (← e) (le-ltb r np h)
+-- a test that the first n corners pass, each one
+pub low-all : (np n : ℕ) (Q : List ℕ) (b : Bool) → n ≤ length Q → (IsTrue b ↔ EachIndex (take n Q) (λ k. get_or (take n Q) k 0 < np)) → b ≡ every (low_at np Q) n
+low-all np n Q b h s =
+    let l : length (take n Q) ≡ n = length-take-le n Q h in
+    bool_iff b (every (low_at np Q) n)
+    (λ e. every-each (low_at np Q) n (λ k m. lt-ltb (get_or Q k 0) np (rw (get_or-take n Q k 0 m) at (s.0 e k (omega arith)))))
+    (λ e. s.1 (λ k m. let o : k < n = omega arith in rw (get_or-take n Q k 0 o) (ltb-true _ _ (every-at (low_at np Q) n k e o))))
 
 pub held-corner : {np nq : ℕ} {P : List Float} {Q : List ℕ} (q j : ℕ) → Positioned np nq P Q → q < nq → j < 4 → get_or Q (4 * q + j) 0 * 3 + 3 ≤ length P
 held-corner q j H hq hj = omega (arith, H.points, H.cornered.points (4 * q + j) (omega arith))

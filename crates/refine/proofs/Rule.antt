@@ -17,7 +17,6 @@ use Rattle.lists.proofs.Laws.{get_or-tab, tab-ext}
 use Rattle.lists.proofs.Every.{every-at, every-each, bool_iff, and_left, and_right, count-zero, count_yes, count-mono}
 use Rattle.lists.proofs.Regions.{part-as, part-kept, kept_then, lent-tab}
 use Rattle.rule_sheet.specs.declared.Counts.{Counts}
-use Rattle.rule_sheet.specs.declared.Verdict.TheVariants.{Accepted, Refused}
 use Rattle.rule_sheet.specs.Quads.{all}
 use Rattle.rule_sheet.specs.Flat.{quad_at, quads_of, flat_quads}
 use Rattle.rule_sheet.specs.Tests.{in_range}
@@ -26,7 +25,6 @@ use Rattle.rule_sheet.specs.Lent.{lent_of, limit, room_with, room_of, work_with,
 use Rattle.sheet.specs.Sheet.{LentSheet}
 use Rattle.sheet.proofs.Flat.{length-quads}
 use Rattle.sheet.proofs.Tests.{or_left, or_right, all-tab, lent_is, length-points}
-use Rattle.rule_sheet.specs.declared.Answer.{Answer}
 use Rattle.rule_sheet.specs.Outcomes.{Outcome, gives}
 use Rattle.rule_sheet.specs.Sheet.{counts_of}
 use Rattle.sheet.specs.Results.{Front, Fills}
@@ -38,7 +36,10 @@ use Rattle.refine.specs.Loops.{low_at, Linking, Numbering, Numbered, Writing, ma
 use Rattle.lists.specs.Steps.{nth}
 use Rattle.refine.proofs.Edges.{linked-start}
 use Rattle.refine.proofs.Sheet.{firsts-known, finer-points, finer-quads, finer-labels, finer-counts}
-use Rattle.rule_sheet.specs.declared.Answer.TheVariants as answers
+use Rattle.std.specs.Prelude.{Ok, Err}
+use Rattle.rule_sheet.specs.Verdicts.{Answer, Accepted}
+use Rattle.rule_sheet.specs.declared.Refusal.{Refusal}
+use Rattle.rule_sheet.specs.declared.Refusal.TheVariants.{Bare, Corner, Short}
 
 -- ---- the work slice
 
@@ -150,12 +151,12 @@ module _ (c : Counts) (P : List Float) (Q labels : List ℕ) (w : ℕ) (R : Refi
   counts-are : counts_of (finer_sheet (sheet_of c P Q labels)) ≡ counts_after c n
   counts-are = finer-counts c P Q labels R.cornered R.same R.lent.labels n en
 
-  pub tested-large : (A : List Float) (B D : List ℕ) → is_large (counts_after c n) ≡ true → Fills (made_or_short (finer_sheet (sheet_of c P Q labels)) (room_with p q l)) (answers.Refused 13) A B D
-  tested-large A B D h = rw (counts-are, h) (refused-fills 13 A B D)
+  pub tested-large : (A : List Float) (B D : List ℕ) → is_large (counts_after c n) ≡ true → Fills (made_or_short (finer_sheet (sheet_of c P Q labels)) (room_with p q l)) (Err Short) A B D
+  tested-large A B D h = rw (counts-are, h) (refused-fills Short A B D)
 
   pub tested-short : (A : List Float) (B D : List ℕ) → is_large (counts_after c n) ≡ false → is_short (counts_after c n) (room_with p q l) ≡ true
-      → Fills (made_or_short (finer_sheet (sheet_of c P Q labels)) (room_with p q l)) (answers.Refused 13) A B D
-  tested-short A B D h s = rw (counts-are, h, s) (refused-fills 13 A B D)
+      → Fills (made_or_short (finer_sheet (sheet_of c P Q labels)) (room_with p q l)) (Err Short) A B D
+  tested-short A B D h s = rw (counts-are, h, s) (refused-fills Short A B D)
 
   pub tested-finished : (v : List ℕ) → Worked c.points c.quads Q v → is_short (counts_after c n) (room_with p q l) ≡ false → Finished c.points c.quads P Q labels v p q l
   tested-finished v W s =
@@ -172,13 +173,13 @@ module _ (c : Counts) (P : List Float) (Q labels : List ℕ) (w : ℕ) (R : Refi
   pub tested-done : (A : List Float) (B D : List ℕ) → is_large (counts_after c n) ≡ false → is_short (counts_after c n) (room_with p q l) ≡ false
       → Front (flat_points (points_of c.points P ++ made_to (firsts_of c.points c.quads Q) (position_at (point_at P) Q) (5 * c.quads))) A
       × (Front (flat_quads (tabulate (child_at (number_of c.points (firsts_of c.points c.quads Q)) Q) (4 * c.quads))) B × Front (tabulate (label_at labels) (4 * c.quads)) D)
-      → Fills (made_or_short (finer_sheet (sheet_of c P Q labels)) (room_with p q l)) (answers.Done (record { count = 0; sheet = counts_after c n })) A B D
+      → Fills (made_or_short (finer_sheet (sheet_of c P Q labels)) (room_with p q l)) (Ok (record { count = 0; sheet = counts_after c n })) A B D
   tested-done A B D h s E =
       let x = finer-points c P Q labels R.cornered R.same R.lent.labels in
       let y = finer-quads c P Q labels R.cornered R.same R.lent.labels in
       let z = finer-labels c P Q labels R.cornered R.same R.lent.labels in
       let o : made_or_short (finer_sheet (sheet_of c P Q labels)) (room_with p q l) ≡ gives (finer_sheet (sheet_of c P Q labels)) = rw (counts-are, h, s) in
-      rw o (record { answer = ap (λ (k : Counts). answers.Done (record { count = 0; sheet = k })) (sym counts-are); points = rw x E.0; quads = rw y E.1.0; labelled = rw z E.1.1 })
+      rw o (record { answer = ap (λ (k : Counts). Ok (record { count = 0; sheet = k })) (sym counts-are); points = rw x E.0; quads = rw y E.1.0; labelled = rw z E.1.1 })
 
 -- ---- the tests before
 
@@ -208,7 +209,7 @@ module _ (c : Counts) (P : List Float) (Q labels : List ℕ) (w f p q l : ℕ) w
   abbrev Rule : Outcome Sheet
   Rule = refine_rule (lent_of c P Q labels) (work_with w f) (room_with p q l)
 
-  pub rule-lent : (n : ℕ) (A : List Float) (B D : List ℕ) → lent_verdict c (room_of P Q labels) (work_with w f) ≡ Refused n → Fills Rule (answers.Refused n) A B D
+  pub rule-lent : (n : Refusal) (A : List Float) (B D : List ℕ) → lent_verdict c (room_of P Q labels) (work_with w f) ≡ Err n → Fills Rule (Err n) A B D
   unfolding refine_rule
   rule-lent n A B D e = rw e (refused-fills n A B D)
 
@@ -222,13 +223,13 @@ module _ (c : Counts) (P : List Float) (Q labels : List ℕ) (w f p q l : ℕ) w
     length-labels : length (take c.labels labels) ≡ c.labels
     length-labels = length-take-le c.labels labels lent-sheet.labels
 
-    pub rule-bare : (A : List Float) (B D : List ℕ) → (c.labels ≡ c.quads → ⊥) → Fills Rule (answers.Refused 5) A B D
+    pub rule-bare : (A : List Float) (B D : List ℕ) → (c.labels ≡ c.quads → ⊥) → Fills Rule (Err Bare) A B D
     unfolding refine_rule refined
-    rule-bare A B D ne = rw (e, length-labels, length-quads c.quads Q, ne_eqb c.labels c.quads ne) (refused-fills 5 A B D)
+    rule-bare A B D ne = rw (e, length-labels, length-quads c.quads Q, ne_eqb c.labels c.quads ne) (refused-fills Bare A B D)
 
-    pub rule-corner : (A : List Float) (B D : List ℕ) → c.labels ≡ c.quads → every (low_at c.points Q) (4 * c.quads) ≡ false → Fills Rule (answers.Refused 6) A B D
+    pub rule-corner : (A : List Float) (B D : List ℕ) → c.labels ≡ c.quads → every (low_at c.points Q) (4 * c.quads) ≡ false → Fills Rule (Err Corner) A B D
     unfolding refine_rule refined
-    rule-corner A B D s r = rw (e, length-labels, length-quads c.quads Q, eq-eqb c.labels c.quads s, length-points c.points P, ← range-is c.points c.quads Q, r) (refused-fills 6 A B D)
+    rule-corner A B D s r = rw (e, length-labels, length-quads c.quads Q, eq-eqb c.labels c.quads s, length-points c.points P, ← range-is c.points c.quads Q, r) (refused-fills Corner A B D)
 
     pub rule-refinable : c.labels ≡ c.quads → every (low_at c.points Q) (4 * c.quads) ≡ true → Refinable c (length P) Q (length labels) w
     rule-refinable s r = record {

@@ -1,13 +1,15 @@
 -- What the loops of `refine` ask of the regions of the work slice, and what they leave.
-use Rattle.std.specs.Prelude.{ℕ, zero, suc, ◌+◌, ◌*◌, ◌^◌, ◌≤◌, ◌<◌, ◌≡◌, Bool, cond, List, [], ◌∷◌, ◌++◌, ltb, length}
+use Rattle.std.specs.Prelude.{ℕ, zero, suc, ◌+◌, ◌*◌, ◌^◌, ◌≤◌, ◌<◌, ◌≡◌, Bool, true, cond, List, [], ◌∷◌, ◌++◌, ltb}
+use Rattle.std.specs.Prelude.{length}
 use Rattle.std.specs.Prelude.{get_or, Float}
 use Rattle.points.specs.declared.Point.{Point}
-use Rattle.points.specs.Steps.{with_point}
 use Rattle.lists.specs.Sort.{tabulate}
 use Rattle.lists.specs.Every.{count_to}
 use Rattle.lists.specs.Regions.{Part, Apart}
 use Rattle.rule_sheet.specs.declared.Counts.{Counts}
 use Rattle.sheet.specs.Sheet.{LentSheet}
+use Rattle.sheet.specs.Results.{Front}
+use Rattle.rule_sheet.specs.Sheet.{flat_points}
 use Rattle.incidence.specs.Corners.{Cornered, Positioned, edge_order}
 use Rattle.refine.specs.Requests.{firsts_of, linked_to, own, number_of}
 
@@ -44,10 +46,6 @@ unfoldable pub made_to : {A : Type 0} → List ℕ → (ℕ → A) → ℕ → L
 made_to F pos zero = []
 made_to F pos (suc t) = made_to F pos t ++ cond (own F t) (pos t ∷ []) []
 
--- the coordinates s with the point of request t at its number, if the request is the first of its key
-abbrev pub put_request : List ℕ → List ℕ → (ℕ → Point) → ℕ → List Float → List Float
-put_request F N pos t s = cond (own F t) (with_point s (get_or N t 0) (pos t)) s
-
 -- what the writing of the new points asks: first requests F at `first`, numbers N at `num`, and room for each
 -- number in a slice of `room` elements
 pub record Writing (np nq : ℕ) (P : List Float) (Q : List ℕ) (first num : ℕ) (F N w : List ℕ) (room : ℕ) : Type 0 where
@@ -60,6 +58,22 @@ pub record Writing (np nq : ℕ) (P : List Float) (Q : List ℕ) (first num : �
 pub record Numbered (n m : ℕ) (F N : List ℕ) : Type 0 where
   pub firsts : Firsts m F
   pub is : N ≡ tabulate (number_of n F) m
+
+-- what the writing of the points of m requests behind n points asks: first requests F at `first`, numbers N at `num`,
+-- and room for each number in a slice of `room` elements
+pub record Making (n m first num : ℕ) (F N w : List ℕ) (room : ℕ) : Type 0 where
+  pub firsts : Part first m F w
+  pub numbers : Part num m N w
+  pub numbered : Numbered n m F N
+  pub rooms : (t : ℕ) → t < m → get_or N t 0 * 3 + 3 ≤ room
+
+-- behind any n points with which d begins, s has the points that the first t of m requests make: pos, where that is
+-- what Gives allows
+abbrev pub Adds : (ℕ → Point → Type 0) → ℕ → ℕ → List ℕ → List Float → List Float → ℕ → Type 0
+Adds Gives n m F d s t =
+    (ps : List Point) (pos : ℕ → Point) → length ps ≡ n → Front (flat_points ps) d
+    → ((k : ℕ) (p : Point) → k < m → own F k ≡ true → Gives k p → p ≡ pos k)
+    → Front (flat_points (ps ++ made_to F pos t)) s
 
 -- where the corners in the order of their edges stand in the work slice
 abbrev pub order_at : ℕ → ℕ → ℕ

@@ -4,7 +4,7 @@
 
 #![tactic(auto)]
 
-ghost use Rattle.std.specs.Prelude.{◌≡◌, cond, ◌++◌, ◌+◌, ◌*◌, ◌/◌, ◌%◌, ◌<◌, ◌≤◌, ◌^◌, length};
+ghost use Rattle.std.specs.Prelude.{ℕ, ◌≡◌, true, cond, ◌++◌, ◌+◌, ◌*◌, ◌/◌, ◌%◌, ◌<◌, ◌≤◌, ◌^◌, length};
 ghost use Rattle.points.specs.Points.{point_at};
 ghost use Rattle.lists.specs.Sort.{tabulate};
 ghost use Rattle.lists.specs.Every.{every, count_to};
@@ -19,12 +19,12 @@ ghost use Rattle.incidence.specs.Corners.{Cornered, Positioned};
 ghost use Rattle.rule_finer.specs.Finer.{finer_sheet, made_or_short, refine_rule};
 ghost use Rattle.refine.specs.Requests.{request_of, position_in, position_at, first_of, linked_to, own, number_of};
 ghost use Rattle.refine.specs.Requests.{child_at, label_at, firsts_of};
-ghost use Rattle.refine.specs.Loops.{low_at, Linking, Numbering, put_request, made_to, Writing, Numbered, Behind};
+ghost use Rattle.refine.specs.Loops.{low_at, Linking, Numbering, Making, Adds, made_to, Writing, Numbered, Behind};
 ghost use Rattle.refine.specs.Loops.{Worked, Finished, Refinable, points_after};
 ghost use Rattle.lists.specs.Steps.{nth};
 
 use points::Point;
-use rule_sheet::{Answer, Counts, Tally, Verdict};
+use rule_sheet::{Counts, Refusal, Tally};
 
 // Regions of the work slice, in units of points and quads together: behind the counters of the sort and its first
 // order stand the corners in the order of their edges, the first request of each request's key, and the numbers of
@@ -40,15 +40,7 @@ fn in_range(np: usize, n: usize, quads: &[u32]) -> bool
     requires { n ≤ length quads.now }
     ensures { result ≡ every (low_at np quads.now) n }
 {
-    let mut c = 0;
-    while c < n {
-        if lists::at(quads, c) < np {
-            c += 1;
-        } else {
-            return false;
-        }
-    }
-    true
+    quads[..n].iter().all(|c| (*c as usize) < np)
 }
 
 // The request for the edge of corner c.
@@ -84,10 +76,8 @@ fn link_edges(np: usize, nq: usize, quads: &[u32], order: usize, first: usize, w
     ensures part { Part first (5 * nq) (tabulate (first_of np nq quads.now) (5 * nq)) w.new }
     ensures kept { Kept (Out first (5 * nq)) w.old w.new }
 {
-    let mut i = 0;
-    while i < 4 * nq {
+    for i in 0..4 * nq {
         link(np, nq, quads, order, first, i, w);
-        i += 1;
     }
 }
 
@@ -97,10 +87,7 @@ fn own_at(m: usize, first: usize, t: usize, w: &[u32]) -> usize
     requires m_in_bounds { first + m ≤ length w.now }
     ensures { result ≡ cond (own (part first m w.now) t) 1 0 }
 {
-    if w[first + t] as usize == t {
-        return 1;
-    }
-    0
+    usize::from(w[first + t] as usize == t)
 }
 
 // The number of the point of request t: the next one if it is the first of its key, else that of the first.
@@ -124,12 +111,10 @@ fn number_points(n: usize, m: usize, first: usize, num: usize, w: &mut [u32]) ->
     ensures kept { Kept (Out num m) w.old w.new }
 {
     let mut next = n;
-    let mut t = 0;
-    while t < m {
+    for t in 0..m {
         let k = number_at(n, m, first, num, t, next, w);
         next += own_at(m, first, t, w);
         w[num + t] = k;
-        t += 1;
     }
     next
 }
@@ -176,36 +161,28 @@ pub fn copy_points(n: usize, points: &[f64], out: &mut [f64])
     requires n_in_bounds_2 { 3 * n ≤ length out.old }
     ensures { Front (flat_points (points_of n points.now)) out.new }
 {
-    let mut v = 0;
-    while v < n {
-        points::put_point(out, v, points::point_at(points, v));
-        v += 1;
-    }
+    out[..3 * n].copy_from_slice(&points[..3 * n]);
 }
 
-// Puts the point of request t at its number, if the request is the first of its key.
-fn put_request(
-    np: usize,
-    nq: usize,
-    points: &[f64],
-    quads: &[u32],
+// Puts the new points behind n points: for each of m requests that is the first of its key, the point that place
+// gives, at the request's number.
+pub fn put_new<F: Fn(usize) -> Point>(
+    n: usize,
+    m: usize,
     first: usize,
     num: usize,
-    t: usize,
     w: &[u32],
     out: &mut [f64],
+    place: F,
 )
-    requires writing { Writing np nq points.now quads.now first num (part first (5 * nq) w.now)
-        (part num (5 * nq) w.now) w.now (length out.old) }
-    requires t_bound { t < 5 * nq }
-    ensures { out.new ≡ put_request (part first (5 * nq) w.now)
-        (part num (5 * nq) w.now) (position_at (point_at points.now) quads.now) t
-        out.old }
+    requires making { Making n m first num (part first m w.now) (part num m w.now) w.now (length out.old) }
+    requires placed { (t : ℕ) → t < m → own (part first m w.now) t ≡ true → F.pre place t }
+    ensures { Adds (F.post place) n m (part first m w.now) out.old out.new m }
 {
-    if w[first + t] as usize == t {
-        let p = position(points, quads, np, nq, t / 5, t % 5);
-        points::put_point(out, lists::at(w, num + t), p);
-        return;
+    for t in 0..m {
+        if lists::at(w, first + t) == t {
+            points::put_point(out, lists::at(w, num + t), place(t));
+        }
     }
 }
 
@@ -228,11 +205,9 @@ fn put_points(
         ++ made_to (part first (5 * nq) w.now) (position_at (point_at points.now)
         quads.now) (5 * nq))) out.new }
 {
-    let mut t = 0;
-    while t < 5 * nq {
-        put_request(np, nq, points, quads, first, num, t, w, out);
-        t += 1;
-    }
+    put_new(np, 5 * nq, first, num, w, out, |t| {
+        position(points, quads, np, nq, t / 5, t % 5)
+    });
 }
 
 // Puts the child quad at corner c.
@@ -261,10 +236,8 @@ pub fn put_quads(nq: usize, quads: &[u32], num: usize, w: &[u32], out: &mut [u32
     ensures { Front (flat_quads (tabulate (child_at (nth (part num (5 * nq) w.now))
         quads.now) (4 * nq))) out.new }
 {
-    let mut c = 0;
-    while c < 4 * nq {
+    for c in 0..4 * nq {
         put_child(nq, quads, num, c, w, out);
-        c += 1;
     }
 }
 
@@ -274,10 +247,8 @@ pub fn put_labels(nq: usize, labels: &[u8], out: &mut [u8])
     requires nq_in_bounds_2 { 4 * nq ≤ length out.old }
     ensures { Front (tabulate (label_at labels.now) (4 * nq)) out.new }
 {
-    let mut i = 0;
-    while i < 4 * nq {
+    for i in 0..4 * nq {
         out[i] = labels[i / 4];
-        i += 1;
     }
 }
 
@@ -339,7 +310,7 @@ fn refine_tested(
     new_quads: &mut [u32],
     new_labels: &mut [u8],
     w: &mut [u32],
-) -> Answer
+) -> Result<Tally, Refusal>
     requires { Refinable c (length points.now) quads.now (length labels.now) (length w.old) }
     ensures { Fills (made_or_short (finer_sheet (sheet_of c points.now quads.now
         labels.now)) (room_of new_points.old new_quads.old
@@ -354,15 +325,15 @@ fn refine_tested(
         labels: 4 * nq,
     };
     if sheet::is_large(made) {
-        return Answer::Refused(sheet::SHORT);
+        return Err(Refusal::Short);
     }
     if sheet::is_short(made, new_points.len(), new_quads.len(), new_labels.len()) {
-        return Answer::Refused(sheet::SHORT);
+        return Err(Refusal::Short);
     }
     put_sheet(
         np, nq, points, quads, labels, w, new_points, new_quads, new_labels,
     );
-    Answer::Done(Tally {
+    Ok(Tally {
         count: 0,
         sheet: made,
     })
@@ -379,25 +350,22 @@ fn refine_or_refusal(
     new_labels: &mut [u8],
     w: &mut [u32],
     floats: usize,
-) -> Answer
+) -> Result<Tally, Refusal>
     ensures { Fills (refine_rule (lent_of c points.now quads.now labels.now)
         (work_with (length w.old) floats) (room_of new_points.old new_quads.old
         new_labels.old)) result new_points.new new_quads.new
         new_labels.new }
 {
-    let v = sheet::lent(c, points.len(), quads.len(), labels.len(), w.len(), floats);
-    if let Verdict::Refused(n) = v {
-        return Answer::Refused(n);
-    }
+    sheet::lent(c, points.len(), quads.len(), labels.len(), w.len(), floats)?;
     if c.labels != c.quads {
-        return Answer::Refused(sheet::BARE);
+        return Err(Refusal::Bare);
     }
     if in_range(c.points, 4 * c.quads, quads) {
         return refine_tested(
             c, points, quads, labels, new_points, new_quads, new_labels, w,
         );
     }
-    Answer::Refused(sheet::CORNER)
+    Err(Refusal::Corner)
 }
 
 // Refines a sheet: a halfway point on each edge, a centre in each quad, four quads for each. The sheet goes to the
@@ -412,7 +380,7 @@ pub fn refine(
     new_labels: &mut [u8],
     work: &mut [u32],
     floats: &mut [f64],
-) -> Answer
+) -> Result<Tally, Refusal>
     ensures sheet { let x = lent_of c points.now quads.now labels.now in
         let room = room_of new_points.old new_quads.old new_labels.old in
         Makes (refine_rule x (work_of work.old floats.old) room) room result

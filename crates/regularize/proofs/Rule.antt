@@ -11,9 +11,6 @@ use Rattle.band.specs.declared.Band.{Band}
 use Rattle.band.specs.Bands.{length_of}
 use Rattle.setting.specs.Settings.{Setting, setting_of}
 use Rattle.rule_sheet.specs.declared.Counts.{Counts}
-use Rattle.rule_sheet.specs.declared.Answer.{Answer}
-use Rattle.rule_sheet.specs.declared.Answer.TheVariants.{Done, Refused}
-use Rattle.rule_sheet.specs.declared.Verdict.TheVariants as verdicts
 use Rattle.rule_sheet.specs.Quads.{Quad}
 use Rattle.rule_sheet.specs.Flat.{quads_of, flat_quads}
 use Rattle.rule_sheet.specs.Tests.{good_corners}
@@ -36,6 +33,9 @@ use Rattle.admission.proofs.Admitted.{admitted}
 use Rattle.incidence.proofs.Corners.{cornered}
 use Rattle.regularize_pass.specs.Conditions.{SwapPassAsks}
 use Rattle.regularize.specs.Clauses.{RunPassesLeaves, CleanAcceptedAsks}
+use Rattle.std.specs.Prelude.{Ok, Err}
+use Rattle.rule_sheet.specs.Verdicts.{Answer, Accepted}
+use Rattle.rule_sheet.specs.declared.Refusal.{Refusal}
 
 -- ---- the quads of a slice, flat
 
@@ -85,13 +85,13 @@ module _ {least : ℕ} {c : Counts} {P : List Float} {Q labels w : List ℕ} (A 
   -- the passes, and the zeros behind the quads
   pub cleans-of : {R Z : List ℕ} {k r : ℕ} (b : Band) (x : Float) → x ≡ length_of b → RunPassesLeaves c.points c.quads (record { least = least; field = b.field; length = x }) P labels k Q R r
       → length R ≡ length Q → Z ≡ cleared 0 (4 * c.quads) R
-      → AltersQuads (gives (swap_sheet least (setting_of b) k (sheet_of c P Q labels))) (lent_of c P Q labels) (Done (record { count = r; sheet = c })) Z
+      → AltersQuads (gives (swap_sheet least (setting_of b) k (sheet_of c P Q labels))) (lent_of c P Q labels) (Ok (record { count = r; sheet = c })) Z
   cleans-of {R} {Z} {k} {r} b x e G l z =
       let f = ap (λ (y : Float). swap_run c.points (take c.quads labels) least (fits_with b.field y (points_of c.points P) (take c.quads labels)) k (quads_of c.quads Q)) e ∙ run_is b k in
       let q = G.quads ∙ ap (λ (a : RunEnd (List Quad)). a.left) f in
       record {
         answer =
-            ap₂ (λ (n : ℕ) (d : Counts). Done (record { count = n; sheet = d })) (G.count ∙ ap (λ (a : RunEnd (List Quad)). capped a.count) f)
+            ap₂ (λ (n : ℕ) (d : Counts). Ok (record { count = n; sheet = d })) (G.count ∙ ap (λ (a : RunEnd (List Quad)). capped a.count) f)
             (counts-are c (length-points c.points P) (ap length (sym q) ∙ length-quads c.quads R) (length-take-le c.labels labels A.sheet.labels));
         quads = z ∙ cleared-quads c.quads R (quads-fit R l) ∙ rw (l, q);
       }
@@ -99,15 +99,15 @@ module _ {least : ℕ} {c : Counts} {P : List Float} {Q labels w : List ℕ} (A 
 -- ---- the rule
 
 module _ (m : ℕ) (s : Setting) (x : Lent) (w : Work) where
-  pub rule-refuses : {n : ℕ} (k : ℕ) → admits s x w ≡ verdicts.Refused n → AltersQuads (swap_rule m s k x w) x (Refused n) x.quads
+  pub rule-refuses : {n : Refusal} (k : ℕ) → admits s x w ≡ Err n → AltersQuads (swap_rule m s k x w) x (Err n) x.quads
   unfolding swap_rule
   rule-refuses k e = rw e (record { answer = refl; quads = refl })
 
-  pub rule-cleans : {r : Answer} {R : List ℕ} (k : ℕ) → admits s x w ≡ verdicts.Accepted → AltersQuads (gives (swap_sheet m s k (held x))) x r R → AltersQuads (swap_rule m s k x w) x r R
+  pub rule-cleans : {r : Answer} {R : List ℕ} (k : ℕ) → admits s x w ≡ Accepted → AltersQuads (gives (swap_sheet m s k (held x))) x r R → AltersQuads (swap_rule m s k x w) x r R
   unfolding swap_rule
   rule-cleans k e C = rw e C
 
-  pub cleanable : {u : List ℕ} → admits s x w ≡ verdicts.Accepted → m ≤ 1 → length u ≡ w.numbers → CleanAcceptedAsks m x u
+  pub cleanable : {u : List ℕ} → admits s x w ≡ Accepted → m ≤ 1 → length u ≡ w.numbers → CleanAcceptedAsks m x u
   cleanable e h l =
       let A = admitted (setting_verdict s) x w e in
       record { least≤ = h; sheet = A.sheet; work = omega (arith, A.work.work); accepted = A.accepted }

@@ -1,5 +1,5 @@
 -- Passes one after the other are the rule's run; the count is capped after each. Assumes nothing.
-use Prim.Native.Nat.{ℕ, suc, ◌+◌, ◌-◌, ◌≤◌, ◌<◌}
+use Prim.Native.Nat.{ℕ, suc, ◌+◌, ◌≤◌}
 use mathlib.Core.Path.{◌≡◌, refl, sym, ap, ap₂, ◌∙◌}
 use mathlib.Core.Bool.{false}
 use mathlib.Core.List.{List}
@@ -73,9 +73,9 @@ module _ {np nq : ℕ} {t : Trial} {P : List Float} {labels : List ℕ} {k : ℕ
             → run_from np nq t P labels (suc l) S G.swaps ≡ run_from np nq t P labels l (next_of np nq t P labels S) (G.swaps + count_of np nq t P labels S)
         step z = rw (z, run) refl
 
-    pub running_more : {w' : List ℕ} {more : ℕ} → 0 < left → (count ≡ 0 → ⊥) → length R' ≡ length R → length w' ≡ length w → more ≡ capped (total + count)
-        → Running np nq t P labels k Q v R' w' more (left - 1)
-    running_more {w'} {more} h n er ew e = record {
+    pub running_more : {w' : List ℕ} {more l : ℕ} → left ≡ suc l → (count ≡ 0 → ⊥) → length R' ≡ length R → length w' ≡ length w → more ≡ capped (total + count)
+        → Running np nq t P labels k Q v R' w' more l
+    running_more {w'} {more} {l} h n er ew e = record {
       passable = record {
         sheet = D.sheet;
         differ = D.differ;
@@ -88,5 +88,5 @@ module _ {np nq : ℕ} {t : Trial} {P : List Float} {labels : List ℕ} {k : ℕ
       room = ew ∙ G.room;
       swaps = G.swaps + count;
       total_is = e ∙ ap (λ (x : ℕ). capped (x + count)) G.total_is ∙ capped-add G.swaps count;
-      same = sym (one_more (left - 1) (omega arith) n) ∙ G.same;
+      same = sym (one_more l h n) ∙ G.same;
     }

@@ -1,6 +1,5 @@
 -- What the clean-up of an accepted sheet asks, and what a run of passes leaves.
 use Rattle.std.specs.Prelude.{ℕ, ◌+◌, ◌*◌, ◌≤◌, ◌≡◌, List, length, take, Float}
-use Rattle.rule_sheet.specs.declared.Verdict.TheVariants.{Accepted}
 use Rattle.rule_sheet.specs.Flat.{quads_of}
 use Rattle.rule_sheet.specs.Sheet.{sheet_verdict}
 use Rattle.rule_sheet.specs.Lent.{Lent, held}
@@ -9,6 +8,7 @@ use Rattle.rule_regularize.specs.Swaps.{swap_run}
 use Rattle.sheet.specs.Sheet.{LentSheet}
 use Rattle.regularize_pass.specs.declared.Trial.{Trial}
 use Rattle.regularize_pass.specs.Steps.{fits_in}
+use Rattle.rule_sheet.specs.Verdicts.{Accepted}
 
 -- at most k passes over the quads of Q leave R, and count r swaps
 pub record RunPassesLeaves (np nq : ℕ) (t : Trial) (P : List Float) (labels : List ℕ) (k : ℕ) (Q R : List ℕ) (r : ℕ)

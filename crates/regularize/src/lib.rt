@@ -14,25 +14,12 @@ ghost use Rattle.regularize.specs.Clauses.{RunPassesLeaves, CleanAcceptedAsks};
 
 use band::Band;
 use regularize_pass::Trial;
-use rule_sheet::{Answer, Counts, Tally, Verdict};
+use rule_sheet::{Counts, Refusal, Tally};
 
 // The least gain of a swap: more than 0, or 0.
 const GAIN: usize = 1;
 
 const NEUTRAL: usize = 0;
-
-// The largest count.
-const MOST: usize = 18446744073709551615;
-
-// The sum of two counts, at most the largest.
-fn add_capped(a: usize, b: usize) -> usize
-    ensures { result ≡ capped (a + b) }
-{
-    if b > MOST - a {
-        return MOST;
-    }
-    a + b
-}
 
 // At most so many passes, until one swaps nothing; the swaps made in all of them.
 fn run_passes(
@@ -50,14 +37,12 @@ fn run_passes(
         quads.new result }
 {
     let mut total: usize = 0;
-    let mut left = passes;
-    while left > 0 {
+    for _ in 0..passes {
         let count = regularize_pass::swap_pass(np, nq, t, points, labels, quads, w);
         if count == 0 {
             return total;
         }
-        total = add_capped(total, count);
-        left -= 1;
+        total = total.saturating_add(count);
     }
     total
 }
@@ -72,7 +57,7 @@ fn clean_accepted(
     quads: &mut [u32],
     labels: &[u8],
     w: &mut [u32],
-) -> Answer
+) -> Result<Tally, Refusal>
     requires { CleanAcceptedAsks least (lent_of c points.now quads.old labels.now) w.old }
     ensures sheet { let x = lent_of c points.now quads.old labels.now in
         AltersQuads (gives (swap_sheet least (setting_of b) passes (held x))) x result quads.new }
@@ -86,7 +71,7 @@ fn clean_accepted(
     let nq = c.quads;
     let count = run_passes(passes, c.points, nq, t, points, labels, quads, w);
     sheet::clear_behind(4 * nq, quads);
-    Answer::Done(Tally { count, sheet: c })
+    Ok(Tally { count, sheet: c })
 }
 
 // The clean-up, or the first refusal; the work slice may hold anything.
@@ -100,17 +85,48 @@ fn clean_or_refusal(
     labels: &[u8],
     w: &mut [u32],
     floats: usize,
-) -> Answer
+) -> Result<Tally, Refusal>
     requires { least ≤ 1 }
     ensures sheet { let x = lent_of c points.now quads.old labels.now in
         AltersQuads (swap_rule least (setting_of b) passes x (work_with (length w.old) floats)) x result
         quads.new }
 {
-    let v = admission::admit(b, c, points, quads, labels, 0, w, floats);
-    if let Verdict::Refused(n) = v {
-        return Answer::Refused(n);
-    }
+    admission::admit(b, c, points, quads, labels, 0, w, floats)?;
     clean_accepted(b, passes, least, c, points, quads, labels, w)
+}
+
+// The clean-up with swaps of this least gain, or the first refusal; the work slices are left zero.
+fn clean(
+    b: Band,
+    passes: usize,
+    least: usize,
+    c: Counts,
+    points: &[f64],
+    quads: &mut [u32],
+    labels: &[u8],
+    work: &mut [u32],
+    floats: &mut [f64],
+) -> Result<Tally, Refusal>
+    requires { least ≤ 1 }
+    ensures sheet { let x = lent_of c points.now quads.old labels.now in
+        AltersQuads (swap_rule least (setting_of b) passes x (work_of work.old floats.old)) x result
+        quads.new }
+    ensures cleared { Cleared work.old floats.old work.new
+        floats.new }
+{
+    let r = clean_or_refusal(
+        b,
+        passes,
+        least,
+        c,
+        points,
+        quads,
+        labels,
+        work,
+        floats.len(),
+    );
+    sheet::clear_work(work, floats);
+    r
 }
 
 // Swaps diagonals where the valences gain, at most so many passes. The quads are altered in place; the answer has
@@ -124,26 +140,14 @@ pub fn regularize(
     labels: &[u8],
     work: &mut [u32],
     floats: &mut [f64],
-) -> Answer
+) -> Result<Tally, Refusal>
     ensures sheet { let x = lent_of c points.now quads.old labels.now in
         AltersQuads (regularize_rule (setting_of b) passes x (work_of work.old floats.old)) x result
         quads.new }
     ensures cleared { Cleared work.old floats.old work.new
         floats.new }
 {
-    let r = clean_or_refusal(
-        b,
-        passes,
-        GAIN,
-        c,
-        points,
-        quads,
-        labels,
-        work,
-        floats.len(),
-    );
-    sheet::clear_work(work, floats);
-    r
+    clean(b, passes, GAIN, c, points, quads, labels, work, floats)
 }
 
 // The same, also where the valences gain nothing and the least shape rises.
@@ -156,24 +160,12 @@ pub fn improve_layout(
     labels: &[u8],
     work: &mut [u32],
     floats: &mut [f64],
-) -> Answer
+) -> Result<Tally, Refusal>
     ensures sheet { let x = lent_of c points.now quads.old labels.now in
         AltersQuads (improve_rule (setting_of b) passes x (work_of work.old floats.old)) x result
         quads.new }
     ensures cleared { Cleared work.old floats.old work.new
         floats.new }
 {
-    let r = clean_or_refusal(
-        b,
-        passes,
-        NEUTRAL,
-        c,
-        points,
-        quads,
-        labels,
-        work,
-        floats.len(),
-    );
-    sheet::clear_work(work, floats);
-    r
+    clean(b, passes, NEUTRAL, c, points, quads, labels, work, floats)
 }

@@ -1,15 +1,16 @@
 -- The choice of a diagonal from what the slices hold is the rule's. Assumes nothing.
 use Prim.Native.Nat.{ℕ, ◌+◌, ◌*◌, ◌/◌, ◌%◌, ◌<◌}
 use mathlib.Core.Path.{◌≡◌, refl, sym, ap, ap₂, ◌∙◌}
-use mathlib.Core.Bool.{Bool, true, false, ◌&&◌, ◌||◌, true≢false, false≢true}
+use mathlib.Core.Bool.{Bool, true, false, ◌||◌, true≢false}
 use mathlib.Core.List.{List}
 use native.Mathlib.Omega.{arith}
 use lib.Dec.{leb}
 use lib.IntN.{pos}
-use lib.ListN.{length, get_or, take}
+use lib.ListN.{get_or, take}
 use lib.Seq.{get_or-take}
 use lib.Signed.{le_z}
 use lib.Ieee.{Float}
+use Rattle.std.specs.Prelude.{Option, None}
 use Rattle.lists.proofs.Laws.{get_or-tab}
 use Rattle.lists.proofs.Regions.{part-get}
 use Rattle.points.specs.Points.{point_at}
@@ -17,6 +18,8 @@ use Rattle.rule_sheet.specs.Quads.{Quad, valence}
 use Rattle.rule_sheet.specs.Flat.{quad_at, quads_of}
 use Rattle.rule_regularize.specs.Swaps.{swap_gain, may}
 use Rattle.rule_regularize.proofs.Gains.{gain-least, gain-more, gain-higher, half-small}
+use Rattle.regularize_shapes.specs.declared.Diagonal.{Diagonal}
+use Rattle.regularize_shapes.specs.declared.Diagonal.TheVariants.{First, Second}
 use Rattle.regularize_shapes.specs.declared.Six.{Six}
 use Rattle.rule_regularize.specs.declared.Held.{Held}
 use Rattle.rule_regularize.specs.SwapFits.{held_of, next_fits}
@@ -24,48 +27,10 @@ use Rattle.regularize_shapes.specs.SwapFits.{hex_of, SixBelow}
 use Rattle.regularize_shapes.proofs.SwapFits.{swap-fits}
 use Rattle.pass_map.specs.Regions.{start_in}
 use Rattle.regularize_swap.specs.Regions.{sum_in, free_in}
-use Rattle.regularize_swap.specs.Steps.{open_in, gains_in, better_in, six_at, is_hexagon}
+use Rattle.regularize_swap.specs.Steps.{open_in, six_at, is_hexagon}
 use Rattle.regularize_pass.specs.declared.Trial.{Trial}
-use Rattle.regularize_pass.specs.Steps.{fits_in, diagonal, pick_of, may_take, best_of, choice_in}
+use Rattle.regularize_pass.specs.Steps.{fits_in, pick_of, may_take, best_of, choice_in}
 use Rattle.regularize_pass.specs.Conditions.{TryAsks}
-
--- ---- the higher gain
-
-module _ (first second better : Bool) where
-  pub take_second : first ≡ true → (second && better) ≡ true → 2 ≡ diagonal first second better
-  take_second e f = rw e (go second better f)
-    where
-      go : (b c : Bool) → (b && c) ≡ true → 2 ≡ diagonal true b c
-      go true true h = refl
-      go true false h = absurd (false≢true h)
-      go false c h = absurd (false≢true h)
-
-  pub take-first : first ≡ true → (second && better) ≡ false → 1 ≡ diagonal first second better
-  take-first e f = rw e (go second better f)
-    where
-      go : (b c : Bool) → (b && c) ≡ false → 1 ≡ diagonal true b c
-      go true true h = absurd (true≢false h)
-      go true false h = refl
-      go false c h = refl
-
-  pub only-second : first ≡ false → second ≡ true → 2 ≡ diagonal first second better
-  only-second e f = rw (e, f) refl
-
-  pub take_none : first ≡ false → second ≡ false → 0 ≡ diagonal first second better
-  take_none e f = rw (e, f) refl
-
--- ---- one diagonal
-
-module _ (np nq : ℕ) (P : List Float) (h : Six) (k : ℕ) (held : Held) (free : Bool) (w : List ℕ) where
-  pub not_free : free ≡ false → false ≡ may_take np nq P h k held free w
-  not_free e = rw e refl
-
-  pub free-fits : (g r : Bool) → free ≡ true → g ≡ gains_in np nq h k w → r ≡ next_fits (point_at P) (hex_of h) k held g → r ≡ may_take np nq P h k held free w
-  free-fits g r e eg er = rw e (er ∙ ap (next_fits (point_at P) (hex_of h) k held) eg)
-
-pub best-told : (np nq : ℕ) (P : List Float) (h : Six) (held : Held) (first second : Bool) (w : List ℕ) (x y z : Bool) (r : ℕ)
-    → x ≡ may_take np nq P h 1 held first w → y ≡ may_take np nq P h 2 held second w → z ≡ better_in np nq h w → r ≡ diagonal x y z → r ≡ best_of np nq P h held first second w
-best-told np nq P h held first second w x y z r ex ey ez e = rw (← ex, ← ey, ← ez) e
 
 -- ---- the valences in the work slice
 
@@ -95,27 +60,27 @@ module _ {np nq : ℕ} {t : Trial} {P : List Float} {Q labels w : List ℕ} (T :
     gain-is : (a b : ℕ) → le_z (pos t.least) (swap_gain (v h.h0) (v h.h3) (v a) (v b)) ≡ leb (v a + v b + 2 + t.least) (v h.h0 + v h.h3)
     gain-is a b = gain-least (v h.h0) (v h.h3) (v a) (v b) t.least ∙ ap (λ (m : ℕ). leb (v a + v b + 2 + m) (v h.h0 + v h.h3)) (half-small t.least T.least≤)
 
-    may-one : may S0 (take nq labels) t.least (fits_in t np nq P labels) (quads_of nq Q) i j (hex_of h) 1 h.h0 h.h3 h.h1 h.h4 ≡ may_take np nq P h 1 held_in (open_in np nq t.least h 1 w) w
+    may-one : may S0 (take nq labels) t.least (fits_in t np nq P labels) (quads_of nq Q) i j (hex_of h) 1 h.h0 h.h3 h.h1 h.h4 ≡ may_take np nq P h First held_in (open_in np nq t.least h First w) w
     may-one = rw (gain-is h.h1 h.h4, gain-more (v h.h0) (v h.h3) (v h.h1) (v h.h4), sum_is h.h1 h.h4 B.h1< B.h4<, sum_is h.h0 h.h3 B.h0< B.h3<, fits-is 1)
 
-    may-two : may S0 (take nq labels) t.least (fits_in t np nq P labels) (quads_of nq Q) i j (hex_of h) 2 h.h0 h.h3 h.h2 h.h5 ≡ may_take np nq P h 2 held_in (open_in np nq t.least h 2 w) w
+    may-two : may S0 (take nq labels) t.least (fits_in t np nq P labels) (quads_of nq Q) i j (hex_of h) 2 h.h0 h.h3 h.h2 h.h5 ≡ may_take np nq P h Second held_in (open_in np nq t.least h Second w) w
     may-two = rw (gain-is h.h2 h.h5, gain-more (v h.h0) (v h.h3) (v h.h2) (v h.h5), sum_is h.h2 h.h5 B.h2< B.h5<, sum_is h.h0 h.h3 B.h0< B.h3<, fits-is 2)
 
-    pick_is : best_of np nq P h held_in (open_in np nq t.least h 1 w) (open_in np nq t.least h 2 w) w
+    pick_is : best_of np nq P h held_in (open_in np nq t.least h First w) (open_in np nq t.least h Second w) w
         ≡ pick_of S0 (take nq labels) t.least (fits_in t np nq P labels) (quads_of nq Q) i j (hex_of h)
     unfolding pick_of
     pick_is = rw (may-one, may-two, gain-higher (v h.h0) (v h.h3) (v h.h1) (v h.h4) (v h.h2) (v h.h5), sum_is h.h2 h.h5 B.h2< B.h5<, sum_is h.h1 h.h4 B.h1< B.h4<)
 
-    pub pick-none : (first second : Bool) → first ≡ open_in np nq t.least h 1 w → second ≡ open_in np nq t.least h 2 w → (first || second) ≡ false
-        → 0 ≡ pick_of S0 (take nq labels) t.least (fits_in t np nq P labels) (quads_of nq Q) i j (hex_of h)
+    pub pick-none : (first second : Bool) → first ≡ open_in np nq t.least h First w → second ≡ open_in np nq t.least h Second w → (first || second) ≡ false
+        → None ≡ pick_of S0 (take nq labels) t.least (fits_in t np nq P labels) (quads_of nq Q) i j (hex_of h)
     pick-none first second ef es e = neither first second e ∙ ap₂ (λ (x y : Bool). best_of np nq P h held_in x y w) ef es ∙ pick_is
       where
-        neither : (x y : Bool) → (x || y) ≡ false → 0 ≡ best_of np nq P h held_in x y w
+        neither : (x y : Bool) → (x || y) ≡ false → None ≡ best_of np nq P h held_in x y w
         neither true y e = absurd (true≢false e)
         neither false true e = absurd (true≢false e)
         neither false false e = refl
 
-    pub pick-best : (first second : Bool) (held : Held) (r : ℕ) → first ≡ open_in np nq t.least h 1 w → second ≡ open_in np nq t.least h 2 w → held ≡ held_in
+    pub pick-best : (first second : Bool) (held : Held) (r : Option Diagonal) → first ≡ open_in np nq t.least h First w → second ≡ open_in np nq t.least h Second w → held ≡ held_in
         → r ≡ best_of np nq P h held first second w → r ≡ pick_of S0 (take nq labels) t.least (fits_in t np nq P labels) (quads_of nq Q) i j (hex_of h)
     pick-best first second held r ef es eh e =
         e ∙ ap (λ (x : Held). best_of np nq P h x first second w) eh ∙ ap₂ (λ (x y : Bool). best_of np nq P h held_in x y w) ef es ∙ pick_is
@@ -123,9 +88,6 @@ module _ {np nq : ℕ} {t : Trial} {P : List Float} {Q labels w : List ℕ} (T :
   -- ---- the corners of an edge
 
   module _ (c d : ℕ) (hc : c < 4 * nq) (hd : d < 4 * nq) where
-    pub known-corner : (e : ℕ) → e < 4 * nq → e / 4 * 4 + 3 < length Q
-    known-corner e l = omega (arith, T.holds.sheet.quads)
-
     pub six-below : SixBelow np (six_at Q c d)
     six-below =
         let p = T.holds.sheet.points in
@@ -139,18 +101,18 @@ module _ {np nq : ℕ} {t : Trial} {P : List Float} {Q labels w : List ℕ} (T :
         }
 
   module _ (c d : ℕ) where
-    pub choice-barred : (f : Bool) → f ≡ free_in np nq labels w (c / 4) (d / 4) → f ≡ false → 0 ≡ choice_in np nq t P Q labels c d w
+    pub choice-barred : (f : Bool) → f ≡ free_in np nq labels w (c / 4) (d / 4) → f ≡ false → None ≡ choice_in np nq t P Q labels c d w
     unfolding choice_in
     choice-barred f e z = rw (← e, z) refl
 
-    pub choice-bent : (f g : Bool) (h : Six) → f ≡ free_in np nq labels w (c / 4) (d / 4) → f ≡ true → h ≡ six_at Q c d → g ≡ is_hexagon Q d h → g ≡ false → 0 ≡ choice_in np nq t P Q labels c d w
+    pub choice-bent : (f g : Bool) (h : Six) → f ≡ free_in np nq labels w (c / 4) (d / 4) → f ≡ true → h ≡ six_at Q c d → g ≡ is_hexagon Q d h → g ≡ false → None ≡ choice_in np nq t P Q labels c d w
     unfolding choice_in
     choice-bent f g h e z eh eg y =
         let a : free_in np nq labels w (c / 4) (d / 4) ≡ true = sym e ∙ z in
         let b : is_hexagon Q d (six_at Q c d) ≡ false = ap (is_hexagon Q d) (sym eh) ∙ sym eg ∙ y in
         rw (a, b) refl
 
-    pub choice-told : (f g : Bool) (h : Six) (r : ℕ) → f ≡ free_in np nq labels w (c / 4) (d / 4) → f ≡ true → h ≡ six_at Q c d → g ≡ is_hexagon Q d h → g ≡ true
+    pub choice-told : (f g : Bool) (h : Six) (r : Option Diagonal) → f ≡ free_in np nq labels w (c / 4) (d / 4) → f ≡ true → h ≡ six_at Q c d → g ≡ is_hexagon Q d h → g ≡ true
         → r ≡ pick_of (start_in np nq w) (take nq labels) t.least (fits_in t np nq P labels) (quads_of nq Q) (c / 4) (d / 4) (hex_of h) → r ≡ choice_in np nq t P Q labels c d w
     unfolding choice_in
     choice-told f g h r e z eh eg y er =

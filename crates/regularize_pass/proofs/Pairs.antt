@@ -1,5 +1,5 @@
 -- The trial of the two corners of an edge leaves the state that the rule gives. Assumes nothing.
-use Prim.Native.Nat.{ℕ, zero, suc, ◌+◌, ◌*◌, ◌/◌, ◌%◌, ◌≤◌, ◌<◌}
+use Prim.Native.Nat.{ℕ, zero, suc, ◌+◌, ◌*◌, ◌/◌, ◌%◌, ◌<◌}
 use mathlib.Core.Path.{◌≡◌, refl, sym, ap, ap₂, ◌∙◌}
 use mathlib.Core.Bool.{Bool, true, false, cond, not, ◌&&◌}
 use mathlib.Core.Option.{none}
@@ -11,16 +11,19 @@ use lib.Signed.{lt_z}
 use lib.ListN.{length, get_or, take}
 use lib.Seq.{get_or-take}
 use lib.Ieee.{Float}
-use borrow.Author.Tests.{eqb-true, ne_eqb}
+use borrow.Author.Tests.{eqb-true}
+use Rattle.std.specs.Prelude.{Option, None, Some}
 use Rattle.lists.proofs.Every.{and_left, and_right}
 use Rattle.lists.proofs.Regions.{kept_refl}
 use Rattle.rule_sheet.specs.Quads.{Quad, quad, corners}
 use Rattle.rule_sheet.specs.Flat.{quad_at, quads_of}
 use Rattle.sheet.specs.Flat.{from, to, before}
-use Rattle.rule_regularize.specs.Swaps.{Fits, State, swap_one, swap_two, six_differ, bar_list, gain_in, may, swap_quads}
+use Rattle.rule_regularize.specs.Swaps.{Fits, State, six_differ, bar_list, gain_in, may, swap_quads}
 use Rattle.rule_sheet.specs.Quads.{turn}
 use Rattle.rule_passes.specs.Choices.{none_quad, choose, take_or}
 use Rattle.rule_sheet.proofs.Weigh.{corners-turn}
+use Rattle.regularize_shapes.specs.declared.Diagonal.{Diagonal}
+use Rattle.regularize_shapes.specs.declared.Diagonal.TheVariants.{First, Second}
 use Rattle.regularize_shapes.specs.declared.Six.{Six}
 use Rattle.regularize_shapes.specs.SwapFits.{hex_of}
 use Rattle.regularize_shapes.proofs.SwapFits.{quad-there}
@@ -58,7 +61,13 @@ module _ (Q : List ℕ) (c : ℕ) where
 
 -- ---- what is taken
 
-takes : {A : Type 0} (x a b e : Bool) (st y z : A) → take_or st (cond x (choose a b e y z) none) ≡ cond (eqb (cond x (diagonal a b e) 0) 0) st (cond (eqb (cond x (diagonal a b e) 0) 1) y z)
+-- what a choice makes of a state: y where it is the first diagonal, z where it is the second
+abbrev by_choice : {A : Type 0} → A → A → A → Option Diagonal → A
+by_choice st y z None = st
+by_choice st y z (Some First) = y
+by_choice st y z (Some Second) = z
+
+takes : {A : Type 0} (x a b e : Bool) (st y z : A) → take_or st (cond x (choose a b e y z) none) ≡ by_choice st y z (cond x (diagonal a b e) None)
 takes true true true true st y z = refl
 takes true true true false st y z = refl
 takes true true false e st y z = refl
@@ -66,7 +75,7 @@ takes true false true e st y z = refl
 takes true false false e st y z = refl
 takes false a b e st y z = refl
 
-and-cond : (a o p s : Bool) (k : ℕ) → cond (((a && o) && p) && s) k 0 ≡ cond a (cond ((o && p) && s) k 0) 0
+and-cond : (a o p s : Bool) (k : Option Diagonal) → cond (((a && o) && p) && s) k None ≡ cond a (cond ((o && p) && s) k None) None
 and-cond true o p s k = refl
 and-cond false o p s k = refl
 
@@ -85,29 +94,22 @@ module _ {np nq : ℕ} {t : Trial} {P : List Float} {Q labels w : List ℕ} (T :
   abbrev h : Six
   h = six_at Q c d
 
-  abbrev K : ℕ
+  abbrev K : Option Diagonal
   K = choice_in np nq t P Q labels c d w
 
-  -- the state after the swap with the diagonal k
-  abbrev after : ℕ → State
-  after k = record { quads = swap_by k S (c / 4) (d / 4) h; barred = bar_list S0 (bars_of np nq w) (meets_six h); count = suc count }
+  -- the state after the swap with a diagonal
+  abbrev swapped : Diagonal → State
+  swapped k = record { quads = swap_by k S (c / 4) (d / 4) h; barred = bar_list S0 (bars_of np nq w) (meets_six h); count = suc count }
 
-  abbrev one : State
-  one = record { quads = swap_one S (c / 4) (d / 4) h.h0 h.h1 h.h2 h.h3 h.h4 h.h5; barred = bar_list S0 (bars_of np nq w) (meets_six h); count = suc count }
+  -- the state after a choice
+  abbrev after : Option Diagonal → State
+  after None = state_of np nq Q w count
+  after (Some k) = swapped k
 
-  abbrev two : State
-  two = record { quads = swap_two S (c / 4) (d / 4) h.h0 h.h1 h.h2 h.h3 h.h4 h.h5; barred = bar_list S0 (bars_of np nq w) (meets_six h); count = suc count }
-
-  after_is : (k : ℕ) → cond (eqb k 1) one two ≡ after k
-  after_is k = go (eqb k 1)
-    where
-      go : (b : Bool) → cond b one two ≡ record {
-        quads = cond b (swap_one S (c / 4) (d / 4) h.h0 h.h1 h.h2 h.h3 h.h4 h.h5) (swap_two S (c / 4) (d / 4) h.h0 h.h1 h.h2 h.h3 h.h4 h.h5);
-        barred = bar_list S0 (bars_of np nq w) (meets_six h);
-        count = suc count;
-      }
-      go true = refl
-      go false = refl
+  after_is : (k : Option Diagonal) → by_choice (state_of np nq Q w count) (swapped First) (swapped Second) k ≡ after k
+  after_is None = refl
+  after_is (Some First) = refl
+  after_is (Some Second) = refl
 
   read : (e : ℕ) → e < 4 * nq → turn (e % 4) (get_or S (e / 4) none_quad) ≡ quad_from Q e
   read e l = ap (turn (e % 4)) (quad-there nq Q (e / 4) (omega arith)) ∙ turn-from Q e
@@ -123,50 +125,52 @@ module _ {np nq : ℕ} {t : Trial} {P : List Float} {Q labels w : List ℕ} (T :
   abbrev fits : Fits
   fits = fits_in t np nq P labels
 
-  abbrev picked : ℕ
+  abbrev picked : Option Diagonal
   picked = pick_of S0 (take nq labels) t.least fits S (c / 4) (d / 4) (hex_of h)
 
-  tests-are : cond tests picked 0 ≡ K
+  tests-are : cond tests picked None ≡ K
   unfolding choice_in
   tests-are =
       rw (get_or-bars np nq w (c / 4) (omega arith), get_or-bars np nq w (d / 4) (omega arith), label_is (c / 4) (omega arith), label_is (d / 4) (omega arith))
       (and-cond (free_in np nq labels w (c / 4) (d / 4)) (eqb (to Q d) (from Q c)) (eqb (from Q d) (to Q c)) (six_apart h) picked)
 
-  pair-chosen : try_in np nq t P labels w c d (state_of np nq Q w count) ≡ cond (eqb K 0) (state_of np nq Q w count) (after K)
+  pair-chosen : try_in np nq t P labels w c d (state_of np nq Q w count) ≡ after K
   unfolding pick_of
   pair-chosen =
       ap₂ (λ (q r : Quad). take_or (state_of np nq Q w count) (swap_quads S0 (take nq labels) t.least fits (state_of np nq Q w count) (c / 4) (d / 4) q r)) (read c hc) (read d hd)
       ∙ takes tests
       (may S0 (take nq labels) t.least fits S (c / 4) (d / 4) (hex_of h) 1 h.h0 h.h3 h.h1 h.h4)
       (may S0 (take nq labels) t.least fits S (c / 4) (d / 4) (hex_of h) 2 h.h0 h.h3 h.h2 h.h5)
-      (lt_z (gain_in S h.h0 h.h3 h.h1 h.h4) (gain_in S h.h0 h.h3 h.h2 h.h5)) (state_of np nq Q w count) one two
-      ∙ ap (λ (k : ℕ). cond (eqb k 0) (state_of np nq Q w count) (cond (eqb k 1) one two)) tests-are
-      ∙ ap (λ (s : State). cond (eqb K 0) (state_of np nq Q w count) s) (after_is K)
+      (lt_z (gain_in S h.h0 h.h3 h.h1 h.h4) (gain_in S h.h0 h.h3 h.h2 h.h5)) (state_of np nq Q w count) (swapped First) (swapped Second)
+      ∙ ap (by_choice (state_of np nq Q w count) (swapped First) (swapped Second)) tests-are
+      ∙ after_is K
 
   -- ---- nothing is taken
 
-  pub step-none : (k : ℕ) → k ≡ K → k ≡ 0 → StepLeaves np nq (try_in np nq t P labels w c d) count count Q w Q w
-  step-none k e z = record {
+  pub step-none : None ≡ K → StepLeaves np nq (try_in np nq t P labels w c d) count count Q w Q w
+  step-none e = record {
     holds = T.holds;
-    is = sym (pair-chosen ∙ ap (λ (x : ℕ). cond (eqb x 0) (state_of np nq Q w count) (after K)) (sym e ∙ z));
+    is = sym (pair-chosen ∙ ap after (sym e));
     kept = kept_refl _ w;
     most = omega arith;
   }
 
   -- ---- a diagonal is taken
 
-  module _ (k : ℕ) (e : k ≡ K) (z : k ≡ 0 → ⊥) where
+  module _ (k : Diagonal) (e : Some k ≡ K) where
     hexagon : is_hexagon Q d h ≡ true
     unfolding choice_in
     hexagon = go (is_hexagon Q d h) refl
       where
-        zeros : (b : Bool) → ◌≡◌ {A = ℕ} (cond b 0 0) 0
-        zeros true = refl
-        zeros false = refl
+        no_choice : (b : Bool) → ◌≡◌ {A = Option Diagonal} (cond b None None) None
+        no_choice true = refl
+        no_choice false = refl
 
         go : (b : Bool) → is_hexagon Q d h ≡ b → b ≡ true
         go true f = refl
-        go false f = absurd (z (e ∙ ap (λ (x : Bool). cond (free_in np nq labels w (c / 4) (d / 4)) (cond x picked 0) 0) f ∙ zeros (free_in np nq labels w (c / 4) (d / 4))))
+        go false f =
+            let n : Some k ≡ None = e ∙ ap (λ (x : Bool). cond (free_in np nq labels w (c / 4) (d / 4)) (cond x picked None) None) f ∙ no_choice (free_in np nq labels w (c / 4) (d / 4)) in
+            cc
 
     pub swappable : MakeSwapAsks np nq Q h (c / 4) (d / 4)
     swappable =
@@ -185,12 +189,12 @@ module _ {np nq : ℕ} {t : Trial} {P : List Float} {Q labels w : List ℕ} (T :
     pub step-made : {R w' : List ℕ} (g : Six) → g ≡ h → MakeSwapLeaves np nq k g (c / 4) (d / 4) Q w R w' → StepLeaves np nq (try_in np nq t P labels w c d) count (count + 1) Q w R w'
     step-made {R} {w'} g eg N = record {
       holds = N.holds;
-      is = made (N.quads ∙ ap (swap_by k S (c / 4) (d / 4)) eg ∙ ap (λ (x : ℕ). swap_by x S (c / 4) (d / 4) h) e)
+      is = made (N.quads ∙ ap (swap_by k S (c / 4) (d / 4)) eg)
           (N.bars ∙ ap (λ (x : Six). bar_list S0 (bars_of np nq w) (meets_six x)) eg)
-          ∙ sym (pair-chosen ∙ ap (λ (b : Bool). cond b (state_of np nq Q w count) (after K)) (ne_eqb K 0 (λ x. z (e ∙ x))));
+          ∙ sym (pair-chosen ∙ ap after (sym e));
       kept = N.kept;
       most = omega arith;
     }
       where
-        made : quads_of nq R ≡ swap_by K S (c / 4) (d / 4) h → bars_of np nq w' ≡ bar_list S0 (bars_of np nq w) (meets_six h) → state_of np nq R w' (count + 1) ≡ after K
+        made : quads_of nq R ≡ swap_by k S (c / 4) (d / 4) h → bars_of np nq w' ≡ bar_list S0 (bars_of np nq w) (meets_six h) → state_of np nq R w' (count + 1) ≡ swapped k
         made a b = rw (a, b, add-one count)

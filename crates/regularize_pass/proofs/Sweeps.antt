@@ -1,5 +1,5 @@
 -- The loop over the corners in the order of their edges is a pass of the rule. Assumes nothing.
-use Prim.Native.Nat.{ℕ, ◌+◌, ◌*◌, ◌≤◌, ◌<◌, zero-le}
+use Prim.Native.Nat.{ℕ, ◌+◌, ◌*◌, ◌≤◌, ◌<◌}
 use native.Mathlib.Nat.{zero-add}
 use mathlib.Core.Path.{◌≡◌, refl, sym, ap, ap₂, ◌∙◌}
 use mathlib.Core.Bool.{Bool, true, false}
@@ -53,7 +53,6 @@ module _ (np nq : ℕ) (t : Trial) (P : List Float) (labels v : List ℕ) where
   step = step_at (start_in np nq v) (take nq labels) t.least (fits_in t np nq P labels) (was_in np nq v) (4 * nq) (edges_in np nq v)
 
 pub record Sweeping (np nq : ℕ) (t : Trial) (P : List Float) (labels Q v R w : List ℕ) (count i : ℕ) : Type 0 where
-  pub i≤ : i ≤ 4 * nq
   pub few : nq ≤ 1048576
   pub count≤ : count ≤ i
   pub len : length R ≡ length Q
@@ -64,7 +63,6 @@ pub record Sweeping (np nq : ℕ) (t : Trial) (P : List Float) (labels Q v R w :
 
 pub sweeping-start : {np nq : ℕ} {t : Trial} {P : List Float} {labels Q v : List ℕ} → BeginPassLeaves np nq Q v → TryAsks np nq t P Q labels v → Sweeping np nq t P labels Q v Q v 0 0
 sweeping-start {np} {nq} {t} {P} {labels} {Q} {v} B T = let s : state_of np nq Q v 0 ≡ fresh (quads_of nq Q) = rw (B.bars, length-quads nq Q) in record {
-  i≤ = zero-le;
   few = T.holds.sheet.few;
   count≤ = omega arith;
   len = refl;
@@ -83,7 +81,6 @@ module _ {np nq : ℕ} {t : Trial} {P : List Float} {labels Q v R w : List ℕ} 
 
   pub sweeping-turn : {R' w' : List ℕ} {r : ℕ} → i < 4 * nq → length R' ≡ length R → StepLeaves np nq (step_in np nq t P labels w i) count r R w R' w' → Sweeping np nq t P labels Q v R' w' r (i + 1)
   sweeping-turn {R'} {w'} {r} h e S = record {
-    i≤ = omega arith;
     few = L.few;
     count≤ = omega (arith, S.most, L.count≤);
     len = e ∙ L.len;
@@ -108,8 +105,7 @@ module _ {np nq : ℕ} {t : Trial} {P : List Float} {labels Q v R w : List ℕ} 
       ∙ steps-sweep np nq A (take nq labels) t.least (fits_in t np nq P labels) (fresh (quads_of nq Q))
       ∙ ap (λ (S : List Quad). sweep S (take nq labels) t.least (fits_in t np nq P labels) (fresh (quads_of nq Q)) (edges_of np S)) L.begun.start
 
-  pub sweeping-end : 4 * nq ≤ i → SwapPassLeaves np nq t P labels Q R count
-  sweeping-end h =
-      let e : i ≡ 4 * nq = omega (arith, L.i≤) in
+  pub sweeping-end : i ≡ 4 * nq → SwapPassLeaves np nq t P labels Q R count
+  sweeping-end e =
       let z : state_of np nq R w count ≡ pass_in np nq t P labels (quads_of nq Q) = L.is ∙ ap (λ (k : ℕ). steps_from (step np nq t P labels v) 0 k (fresh (quads_of nq Q))) e ∙ all-steps in
       record { sheet = L.trying.holds.sheet; differ = L.trying.holds.differ; quads = ap (λ (s : State). s.quads) z; count = ap (λ (s : State). s.count) z }

@@ -14,7 +14,7 @@ ghost use Rattle.regularize_pass.specs.Steps.{step_in};
 ghost use Rattle.regularize_pass.specs.Conditions.{TryAsks, StepLeaves, SwapPassAsks, SwapPassLeaves};
 
 use field::Field;
-use regularize_shapes::Six;
+use regularize_shapes::{Diagonal, Six};
 use rule_regularize::Held;
 
 // What swaps are tried with: the least gain, the field, the length of the band.
@@ -25,13 +25,13 @@ pub struct Trial {
     pub length: f64,
 }
 
-// A diagonal k that is free may be taken: it fits.
+// A diagonal that is free may be taken: it fits.
 fn may_take(
     np: usize,
     nq: usize,
     points: &[f64],
     h: Six,
-    k: usize,
+    k: Diagonal,
     held: Held,
     free: bool,
     w: &[u32],
@@ -55,22 +55,16 @@ fn may_take(
 }
 
 // The higher gain wins, the first on a tie.
-fn chosen(first: bool, second: bool, better: bool) -> usize
+fn chosen(first: bool, second: bool, better: bool) -> Option<Diagonal>
     ensures { result ≡ diagonal first second better }
 {
-    if first {
-        if second & better {
-            return 2;
-        }
-        return 1;
+    if second & (better | !first) {
+        return Some(Diagonal::Second);
     }
-    if second {
-        return 2;
-    }
-    0
+    first.then_some(Diagonal::First)
 }
 
-// The diagonal that is taken of those that are open, 1 or 2, or 0 for none.
+// The diagonal that is taken of those that are open.
 fn best(
     np: usize,
     nq: usize,
@@ -80,14 +74,14 @@ fn best(
     first: bool,
     second: bool,
     w: &[u32],
-) -> usize
+) -> Option<Diagonal>
     requires work_fits { WorkFits np nq w.now }
     requires six_below { SixBelow np h }
     requires np_in_bounds { 3 * np ≤ length points.now }
     ensures { result ≡ best_of np nq points.now h held first second w.now }
 {
-    let one = may_take(np, nq, points, h, 1, held, first, w);
-    let two = may_take(np, nq, points, h, 2, held, second, w);
+    let one = may_take(np, nq, points, h, Diagonal::First, held, first, w);
+    let two = may_take(np, nq, points, h, Diagonal::Second, held, second, w);
     chosen(one, two, regularize_swap::is_second_better(np, nq, h, w))
 }
 
@@ -103,7 +97,7 @@ fn choice(
     j: usize,
     h: Six,
     w: &[u32],
-) -> usize
+) -> Option<Diagonal>
     requires try_asks { TryAsks np nq t points.now quads.now labels.now w.now }
     requires i_lt_nq { i < nq }
     requires j_lt_nq { j < nq }
@@ -111,10 +105,10 @@ fn choice(
     ensures { result ≡ pick_of (start_in np nq w.now) (take nq labels.now) t.least
         (fits_in t np nq points.now labels.now) (quads_of nq quads.now) i j (hex_of h) }
 {
-    let first = regularize_swap::is_open(np, nq, t.least, h, 1, w);
-    let second = regularize_swap::is_open(np, nq, t.least, h, 2, w);
+    let first = regularize_swap::is_open(np, nq, t.least, h, Diagonal::First, w);
+    let second = regularize_swap::is_open(np, nq, t.least, h, Diagonal::Second, w);
     if !(first | second) {
-        return 0;
+        return None;
     }
     let f = t.field;
     let held = regularize_shapes::hold(np, nq, f, t.length, points, quads, i, j, h, labels[i]);
@@ -132,7 +126,7 @@ fn choice_at(
     c: usize,
     d: usize,
     w: &[u32],
-) -> usize
+) -> Option<Diagonal>
     requires try_asks { TryAsks np nq t points.now quads.now labels.now w.now }
     requires c_bound { c < 4 * nq }
     requires d_bound { d < 4 * nq }
@@ -140,11 +134,11 @@ fn choice_at(
         labels.now c d w.now }
 {
     if !regularize_swap::is_free(np, nq, labels, c / 4, d / 4, w) {
-        return 0;
+        return None;
     }
     let h = regularize_swap::six_at(quads, c, d);
     if !regularize_swap::is_hexagon(quads, d, h) {
-        return 0;
+        return None;
     }
     choice(np, nq, t, points, quads, labels, c / 4, d / 4, h, w)
 }
@@ -169,10 +163,9 @@ fn try_pair(
     ensures { StepLeaves np nq (try_in np nq t points.now labels.now w.old c d)
         count result quads.old w.old quads.new w.new }
 {
-    let k = choice_at(np, nq, t, points, quads, labels, c, d, w);
-    if k == 0 {
+    let Some(k) = choice_at(np, nq, t, points, quads, labels, c, d, w) else {
         return count;
-    }
+    };
     let h = regularize_swap::six_at(quads, c, d);
     regularize_swap::make_swap(np, nq, k, h, c / 4, d / 4, quads, w);
     count + 1
@@ -222,10 +215,8 @@ fn sweep(
     ensures bounded { Bounded (valences_at np nq) np w.new }
 {
     let mut count = 0;
-    let mut i = 0;
-    while i < 4 * nq {
+    for i in 0..4 * nq {
         count = try_edge(np, nq, t, points, labels, i, count, quads, w);
-        i += 1;
     }
     count
 }

@@ -1,7 +1,7 @@
 -- The test of a diagonal, from what is held for both, is the swaps' rule. Assumes nothing.
 use Prim.Native.Nat.{ℕ, ◌<◌}
 use mathlib.Core.Bool.{Bool}
-use mathlib.Core.Path.{◌≡◌}
+use mathlib.Core.Path.{◌≡◌, refl}
 use mathlib.Core.List.{List}
 use lib.ListN.{get_or}
 use lib.Ieee.{Float}
@@ -10,6 +10,7 @@ use Rattle.points.specs.Points.{point_at, point_in}
 use Rattle.field.specs.declared.Field.{Field}
 use Rattle.band.specs.Bands.{normal_with}
 use Rattle.lists.proofs.Laws.{get_or-tab}
+use Rattle.rule_sheet.specs.Quads.{quad}
 use Rattle.rule_sheet.specs.Flat.{quad_at, quads_of}
 use Rattle.rule_sheet.specs.Sheet.{points_of}
 use Rattle.incidence.specs.Corners.{Cornered}
@@ -20,7 +21,9 @@ use Rattle.regularize_shapes.specs.declared.Six.{Six}
 use Rattle.rule_regularize.specs.declared.Held.{Held}
 use Rattle.pass_shapes.specs.Shaped.{quad_is, four_at, FourBelow}
 use Rattle.rule_regularize.specs.SwapFits.{hex_centre, lesser_shape, held_of, next_shape, next_fits, fits_with}
-use Rattle.regularize_shapes.specs.SwapFits.{hex_of, SixBelow}
+use Rattle.regularize_shapes.specs.declared.Diagonal.{Diagonal}
+use Rattle.regularize_shapes.specs.declared.Diagonal.TheVariants.{First, Second}
+use Rattle.regularize_shapes.specs.SwapFits.{hex_of, number_of, turned, SixBelow}
 use Rattle.pass_shapes.proofs.Shaped.{point-there, four_below, Agree, shape_same}
 
 -- what is held, from the calls that make it
@@ -29,6 +32,19 @@ pub held-is : (f : Field) (len : Float) (at : ℕ → Point) (l : ℕ) (Q : List
     → record { normal = n; old = x } ≡ held_of f len at l (quad_at Q i) (quad_at Q j) h
 unfolding held_of
 held-is f len at l Q i j h p n q r x ep en eq er ex = rw (ex, eq, er, en, ep)
+
+-- ---- the corners turned to a diagonal
+
+pub turned-below : {np : ℕ} {h : Six} (k : Diagonal) → SixBelow np h → SixBelow np (turned h k)
+turned-below First B = record { h0< = B.h1<; h1< = B.h2<; h2< = B.h3<; h3< = B.h4<; h4< = B.h5<; h5< = B.h0< }
+turned-below Second B = record { h0< = B.h2<; h1< = B.h3<; h2< = B.h4<; h3< = B.h5<; h4< = B.h0<; h5< = B.h1< }
+
+-- the shape is that of the quads on both sides of the diagonal
+pub shape-turned : (at : ℕ → Point) (h : Six) (k : Diagonal) (n : Point) (g : Six) → g ≡ turned h k
+    → lesser_shape at n (quad g.h0 g.h1 g.h2 g.h3) (quad g.h0 g.h3 g.h4 g.h5) ≡ next_shape at (hex_of h) (number_of k) n
+unfolding next_shape
+shape-turned at h First n g e = rw e refl
+shape-turned at h Second n g e = rw e refl
 
 -- ---- two ways to place the points, which agree on those below np
 

@@ -8,7 +8,7 @@ ghost use Rattle.rule_sheet.specs.Flat.{quad_at};
 ghost use Rattle.incidence.specs.Corners.{Positioned};
 ghost use Rattle.pass_shapes.specs.Shaped.{quad_is, FourBelow};
 ghost use Rattle.rule_regularize.specs.SwapFits.{hex_centre, lesser_shape, held_of, next_shape, shape_fits, next_fits};
-ghost use Rattle.regularize_shapes.specs.SwapFits.{hex_of, SixBelow};
+ghost use Rattle.regularize_shapes.specs.SwapFits.{hex_of, number_of, turned, SixBelow};
 
 use field::Field;
 use pass_shapes::Four;
@@ -27,6 +27,13 @@ pub struct Six {
     pub h3: usize,
     pub h4: usize,
     pub h5: usize,
+}
+
+// The new diagonal of a swap: from h1 to h4, or from h2 to h5.
+#[derive(Clone, Copy, PartialEq, Eq)]
+pub enum Diagonal {
+    First,
+    Second,
 }
 
 // The sum and point v.
@@ -92,38 +99,48 @@ pub fn hold(
     Held { normal, old }
 }
 
-// The lesser shape of the two quads that diagonal k makes.
-fn next_shape(np: usize, points: &[f64], h: Six, k: usize, n: Point) -> f64
+// The six corners from the beginning of a diagonal on: h1 or h2.
+pub fn turned_by(h: Six, k: Diagonal) -> Six
+    ensures { result ≡ turned h k }
+{
+    match k {
+        Diagonal::First => Six {
+            h0: h.h1,
+            h1: h.h2,
+            h2: h.h3,
+            h3: h.h4,
+            h4: h.h5,
+            h5: h.h0,
+        },
+        Diagonal::Second => Six {
+            h0: h.h2,
+            h1: h.h3,
+            h2: h.h4,
+            h3: h.h5,
+            h4: h.h0,
+            h5: h.h1,
+        },
+    }
+}
+
+// The lesser shape of the two quads that a diagonal makes.
+fn next_shape(np: usize, points: &[f64], h: Six, k: Diagonal, n: Point) -> f64
     requires np_in_bounds { 3 * np ≤ length points.now }
     requires six_below { SixBelow np h }
-    ensures { result ≡ next_shape (point_at points.now) (hex_of h) k n }
+    ensures { result ≡ next_shape (point_at points.now) (hex_of h) (number_of k) n }
 {
-    if k == 1 {
-        let q = Four {
-            a: h.h1,
-            b: h.h2,
-            c: h.h3,
-            d: h.h4,
-        };
-        let r = Four {
-            a: h.h1,
-            b: h.h4,
-            c: h.h5,
-            d: h.h0,
-        };
-        return lesser_shape(np, points, q, r, n);
-    }
+    let g = turned_by(h, k);
     let q = Four {
-        a: h.h2,
-        b: h.h3,
-        c: h.h4,
-        d: h.h5,
+        a: g.h0,
+        b: g.h1,
+        c: g.h2,
+        d: g.h3,
     };
     let r = Four {
-        a: h.h2,
-        b: h.h5,
-        c: h.h0,
-        d: h.h1,
+        a: g.h0,
+        b: g.h3,
+        c: g.h4,
+        d: g.h5,
     };
     lesser_shape(np, points, q, r, n)
 }
@@ -135,11 +152,11 @@ fn shape_fits(next: f64, old: f64, positive: bool) -> bool
     (positive | !(next < old + LEAST_RISE)) & pass_shapes::no_worse(next, old)
 }
 
-// Whether diagonal k fits.
-pub fn next_fits(np: usize, points: &[f64], h: Six, k: usize, held: Held, positive: bool) -> bool
+// Whether a diagonal fits.
+pub fn next_fits(np: usize, points: &[f64], h: Six, k: Diagonal, held: Held, positive: bool) -> bool
     requires np_in_bounds { 3 * np ≤ length points.now }
     requires six_below { SixBelow np h }
-    ensures { result ≡ next_fits (point_at points.now) (hex_of h) k held positive }
+    ensures { result ≡ next_fits (point_at points.now) (hex_of h) (number_of k) held positive }
 {
     shape_fits(
         next_shape(np, points, h, k, held.normal),

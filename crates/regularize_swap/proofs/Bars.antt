@@ -14,13 +14,12 @@ use Rattle.lists.proofs.Laws.{lt-or-le, get_or-tab, length-tab, is-table, tab-ex
 use Rattle.lists.proofs.Regions.{part_of, part-get, part-as, kept_then}
 use Rattle.rule_sheet.specs.Quads.{Quad}
 use Rattle.rule_sheet.specs.Flat.{quad_at}
-use Rattle.incidence.specs.Marks.{Incident}
 use Rattle.sheet.proofs.Flat.{length-quads}
 use Rattle.rule_regularize.specs.Swaps.{bar_list}
 use Rattle.rule_passes.specs.Choices.{none_quad}
 use Rattle.regularize_shapes.proofs.SwapFits.{quad-there}
 use Rattle.rule_regularize.proofs.Sweep.{bar-length}
-use Rattle.pass_map.specs.Regions.{point_starts_at, points_at, was_in, start_in}
+use Rattle.pass_map.specs.Regions.{was_in, start_in}
 use Rattle.regularize_swap.specs.Regions.{marks_in, marks_at, is_barred, bars_of}
 use Rattle.pass_map.specs.Conditions.{WorkFits, MapHolds}
 use Rattle.pass_map.proofs.Maps.{map-kept, was-kept}
@@ -33,16 +32,6 @@ OnlyMarks np nq v w = Kept (Out (marks_at np nq) nq) v w
 -- the map of the start stands where only marks were written
 pub marks-kept : {np nq : ℕ} {v w : List ℕ} → MapHolds np nq v → OnlyMarks np nq v w → MapHolds np nq w
 marks-kept M K = map-kept M K (λ i p q r s. omega arith)
-
-pub incident-of : {np nq : ℕ} {w : List ℕ} → MapHolds np nq w → Incident np nq (was_in np nq w) (point_starts_at np nq) (points_at np nq) (marks_at np nq) w
-incident-of M = record {
-  sheet = M.points.sheet;
-  begin = M.points.begin;
-  at = M.points.at;
-  in_barred = omega (arith, M.work.long);
-  starts_barred = λ i p q r s. omega (arith, M.work.some);
-  order_barred = λ i p q r s. omega arith;
-}
 
 -- the start stays
 pub start-kept : {np nq : ℕ} {v w : List ℕ} → MapHolds np nq v → OnlyMarks np nq v w → was_in np nq w ≡ was_in np nq v

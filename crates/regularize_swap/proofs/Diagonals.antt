@@ -4,44 +4,30 @@ use mathlib.Core.Path.{◌≡◌, refl, ◌∙◌}
 use mathlib.Core.Bool.{Bool, true, false, not, ◌&&◌}
 use mathlib.Core.List.{List}
 use native.Mathlib.Omega.{arith}
-use lib.Dec.{ltb}
 use lib.ListN.{length, get_or}
-use borrow.Author.Tests.{le-leb, lt-leb}
+use borrow.Author.Tests.{le-leb}
 use Rattle.lists.proofs.Regions.{part-get, part_of, part-len}
 use Rattle.rule_sheet.specs.Quads.{is_edge}
 use Rattle.edges.proofs.Walk.{walked-of}
+use Rattle.regularize_shapes.specs.declared.Diagonal.{Diagonal}
 use Rattle.regularize_shapes.specs.declared.Six.{Six}
-use Rattle.regularize_shapes.specs.SwapFits.{SixBelow}
+use Rattle.regularize_shapes.specs.SwapFits.{SixBelow, turned}
+use Rattle.regularize_shapes.proofs.SwapFits.{turned-below}
 use Rattle.pass_map.specs.Regions.{was_at, edges_at, was_in, start_in}
 use Rattle.pass_map.specs.Conditions.{MapHolds}
 use Rattle.regularize_swap.specs.Regions.{sum_in, edge_corner}
-use Rattle.regularize_swap.specs.Steps.{turned, open_in, gains_in, better_in}
-use Rattle.regularize_swap.proofs.Made.{turned-below}
+use Rattle.regularize_swap.specs.Steps.{open_in}
 
-pub ends-below : {np : ℕ} {h : Six} (k : ℕ) (g : Six) → SixBelow np h → g ≡ turned h k → (g.h0 < np) × (g.h3 < np)
+pub ends-below : {np : ℕ} {h : Six} (k : Diagonal) (g : Six) → SixBelow np h → g ≡ turned h k → (g.h0 < np) × (g.h3 < np)
 ends-below k g B e = let G = turned-below k B in rw e (G.h0<, G.h3<)
 
-module _ (np nq : ℕ) (w : List ℕ) (h : Six) (k : ℕ) (g : Six) (e : g ≡ turned h k) (x y : ℕ) (ex : x ≡ sum_in np nq w g.h0 g.h3) (ey : y ≡ sum_in np nq w h.h0 h.h3) where
-  pub gains-told : ltb (x + 2) y ≡ gains_in np nq h k w
-  gains-told = rw (ex, ey, e)
-
-  module _ (m : ℕ) where
-    pub open_no : y < x + 2 + m → false ≡ open_in np nq m h k w
-    open_no l = rw (← e, ← ex, ← ey, lt-leb (x + 2 + m) y l) (no (not (is_edge (start_in np nq w) g.h0 g.h3)))
-      where
-        no : (b : Bool) → false ≡ (b && false)
-        no true = refl
-        no false = refl
-
-    pub open-yes : (r : Bool) → r ≡ is_edge (start_in np nq w) g.h0 g.h3 → x + 2 + m ≤ y → not r ≡ open_in np nq m h k w
-    open-yes r er l = rw (← e, ← ex, ← ey, le-leb (x + 2 + m) y l, ← er) (yes r)
-      where
-        yes : (b : Bool) → not b ≡ (not b && true)
-        yes true = refl
-        yes false = refl
-
-pub better-told : (np nq : ℕ) (w : List ℕ) (h : Six) (x y : ℕ) → x ≡ sum_in np nq w h.h2 h.h5 → y ≡ sum_in np nq w h.h1 h.h4 → ltb x y ≡ better_in np nq h w
-better-told np nq w h x y ex ey = rw (ex, ey)
+pub open-yes : (np nq : ℕ) (w : List ℕ) (h : Six) (k : Diagonal) (g : Six) → g ≡ turned h k → (x y : ℕ) → x ≡ sum_in np nq w g.h0 g.h3 → y ≡ sum_in np nq w h.h0 h.h3
+    → (m : ℕ) (r : Bool) → r ≡ is_edge (start_in np nq w) g.h0 g.h3 → x + 2 + m ≤ y → not r ≡ open_in np nq m h k w
+open-yes np nq w h k g e x y ex ey m r er l = rw (← e, ← ex, ← ey, le-leb (x + 2 + m) y l, ← er) (yes r)
+  where
+    yes : (b : Bool) → not b ≡ (not b && true)
+    yes true = refl
+    yes false = refl
 
 pub corner-told : {np nq : ℕ} {w : List ℕ} (i r : ℕ) → MapHolds np nq w → i < 4 * nq → r ≡ get_or w (edges_at np nq + i) 0
     → (r ≡ edge_corner np nq w i) × (r < 4 * nq)

@@ -1,7 +1,7 @@
 -- The steps over the corners in the order of their edges are the sweep over the edges. Assumes nothing.
 use Prim.Native.Nat.{ℕ, zero, suc, ◌+◌, ◌≤◌, ◌<◌, min, max}
 use mathlib.Core.Path.{◌≡◌, refl, sym, ap, ap₂, ◌∙◌}
-use mathlib.Core.Bool.{Bool, true, false, cond, ◌||◌}
+use mathlib.Core.Bool.{Bool, true, false, cond}
 use mathlib.Core.Logic.{◌⊎◌, inl, inr, ⊎_elim}
 use mathlib.Core.List.{List, [], ◌∷◌, ◌++◌, map}
 use native.Mathlib.Omega.{arith}
@@ -19,7 +19,9 @@ use Rattle.rule_sheet.specs.Flat.{quads_of}
 use Rattle.rule_sheet.specs.Edges.{Pair, pair, join_to, edge_if, edges_from, edges_of}
 use Rattle.sheet.specs.Edges.{smaller, larger, all_corners}
 use Rattle.incidence.specs.Corners.{edge_order}
-use Rattle.edges.specs.Steps.{kind_at, pair_at}
+use Rattle.edges.specs.declared.EdgeKind.{EdgeKind}
+use Rattle.edges.specs.declared.EdgeKind.TheVariants.{Nonmanifold}
+use Rattle.edges.specs.Steps.{is_two, kind_at, pair_at}
 use Rattle.edges.proofs.Blocks.{block, off, off-suc, by_larger, row-length, at_off}
 use Rattle.edges.proofs.EdgeKinds.{kind, kind-first, kind-later}
 use Rattle.edges.proofs.Sides.{length-block, length-loop, length_none}
@@ -61,17 +63,17 @@ module _ (S0 : List Quad) (labels : List ℕ) (m : ℕ) (fits : Fits) where
   sweep-append (p ∷ l) r st = sweep-append l r (take_or st (try_edge S0 labels m fits st p))
 
   -- the step at the first of the corners B of an edge
-  first_step : (B : List ℕ) (k c d : ℕ) (s : Bool) (st : State) → 0 < length B → k ≡ kind (length B) s → c ≡ get_or B 0 0 → (1 < length B → d ≡ get_or B 1 0)
-      → cond (eqb k 2 || eqb k 3) (try_pair S0 labels m fits c d st) st ≡ take_or st (try_places S0 labels m fits st (map place_of B))
+  first_step : (B : List ℕ) (k : EdgeKind) (c d : ℕ) (s : Bool) (st : State) → 0 < length B → k ≡ kind (length B) s → c ≡ get_or B 0 0 → (1 < length B → d ≡ get_or B 1 0)
+      → cond (is_two k) (try_pair S0 labels m fits c d st) st ≡ take_or st (try_places S0 labels m fits st (map place_of B))
   first_step [] k c d s st h e ec ed = absurd (omega arith)
   first_step (x ∷ []) k c d s st h e ec ed = rw e
   first_step (x ∷ y ∷ []) k c d s st h e ec ed = rw (e, ec, ed (omega arith)) (go s)
     where
-      go : (s : Bool) → cond (eqb (kind 2 s) 2 || eqb (kind 2 s) 3) (try_pair S0 labels m fits x y st) st ≡ try_pair S0 labels m fits x y st
+      go : (s : Bool) → cond (is_two (kind 2 s)) (try_pair S0 labels m fits x y st) st ≡ try_pair S0 labels m fits x y st
       go true = refl
       go false = refl
   first_step (x ∷ y ∷ z ∷ l) k c d s st h e ec ed =
-      let more : k ≡ 4 = e ∙ rw (ne_eqb (length (x ∷ y ∷ z ∷ l)) 0 (λ z. omega arith), lt-ltb 1 (length (x ∷ y ∷ z ∷ l)) (omega arith), lt-ltb 2 (length (x ∷ y ∷ z ∷ l)) (omega arith)) in
+      let more : k ≡ Nonmanifold = e ∙ rw (ne_eqb (length (x ∷ y ∷ z ∷ l)) 0 (λ z. omega arith), lt-ltb 1 (length (x ∷ y ∷ z ∷ l)) (omega arith), lt-ltb 2 (length (x ∷ y ∷ z ∷ l)) (omega arith)) in
       rw more
 
 module _ (np nq : ℕ) (Q : List ℕ) (labels : List ℕ) (m : ℕ) (fits : Fits) where

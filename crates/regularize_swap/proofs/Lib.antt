@@ -3,7 +3,6 @@ pub mod Places
 pub mod Fold
 pub mod Bars
 pub mod Moves
-pub mod Hexagons
 pub mod Made
 pub mod Begun
 pub mod Diagonals

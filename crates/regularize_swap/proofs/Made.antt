@@ -1,18 +1,17 @@
 -- What a swap leaves in the slices: the rule's quads, their valences, and the rule's barred quads. Assumes nothing.
-use Prim.Native.Nat.{ℕ, ◌+◌, ◌-◌, ◌*◌, ◌≤◌, ◌<◌}
+use Prim.Native.Nat.{ℕ, ◌+◌, ◌*◌, ◌≤◌, ◌<◌}
 use mathlib.Core.Path.{◌≡◌, refl, sym, ap, ap₂, ◌∙◌}
-use mathlib.Core.Bool.{Bool, true, false, cond}
-use mathlib.Core.Logic.{◌⊎◌, ⊎_elim, ◌≢◌}
+use mathlib.Core.Bool.{Bool}
+use mathlib.Core.Logic.{⊎_elim, ◌≢◌}
 use mathlib.Core.List.{List}
 use native.Mathlib.Omega.{arith}
-use lib.Dec.{eqb}
 use lib.ListN.{length, get_or, set, length-set}
 use lib.Seq.{get_or-set_same, get_or-set_other}
 use Rattle.lists.specs.Sort.{tabulate}
 use Rattle.lists.specs.Regions.{part, Part, Out, Kept}
 use Rattle.lists.proofs.Laws.{eq-or-ne, get_or-tab, length-tab, tab-set, tab-ext, is-tab}
 use Rattle.lists.proofs.Regions.{part-as, part-kept, kept_then}
-use Rattle.rule_sheet.specs.Quads.{Quad, quad, corners, total, at, valence}
+use Rattle.rule_sheet.specs.Quads.{Quad, quad, corners, total, valence}
 use Rattle.rule_sheet.specs.Flat.{quad_at, quads_of}
 use Rattle.rule_sheet.specs.Claims.{All, Differ}
 use Rattle.rule_sheet.specs.Lent.{limit}
@@ -23,20 +22,22 @@ use Rattle.incidence.specs.Corners.{Cornered}
 use Rattle.incidence.specs.Bounds.{Bounded}
 use Rattle.incidence.proofs.Bounds.{bounded-kept}
 use Rattle.rule_passes.specs.Choices.{none_quad}
-use Rattle.rule_regularize.specs.Swaps.{swap_one, swap_two, bar_list}
+use Rattle.rule_regularize.specs.Swaps.{bar_list}
 use Rattle.rule_regularize.proofs.Passes.{Six}
 use Rattle.rule_regularize.proofs.Surgery.{Exchange, at_a, at_b, at_c, at_d, at_other}
 use Rattle.rule_regularize.proofs.Swap.{exchange-one, exchange-two}
 use Rattle.rule_regularize.proofs.SwapPass.{two-quads, one-differ, two-differ}
 use Rattle.rule_regularize.proofs.Sweep.{six-of}
 use Rattle.regularize_shapes.specs.declared.Six as six
-use Rattle.regularize_shapes.specs.SwapFits.{SixBelow}
-use Rattle.regularize_shapes.proofs.SwapFits.{quad-there}
+use Rattle.regularize_shapes.specs.declared.Diagonal.{Diagonal}
+use Rattle.regularize_shapes.specs.declared.Diagonal.TheVariants.{First, Second}
+use Rattle.regularize_shapes.specs.SwapFits.{SixBelow, turned}
+use Rattle.regularize_shapes.proofs.SwapFits.{quad-there, turned-below}
 use Rattle.pass_map.specs.Regions.{valences_at, was_in}
 use Rattle.regularize_swap.specs.Regions.{marks_in, marks_at, is_barred, bars_of}
 use Rattle.pass_map.specs.Conditions.{MapHolds}
 use Rattle.regularize_swap.specs.Conditions.{SwapPassHolds, MoveValencesAsks, MakeSwapAsks, MakeSwapLeaves}
-use Rattle.regularize_swap.specs.Steps.{turned, with_pair, less, more, moved, mark_if, uses_six, swap_by, meets_six}
+use Rattle.regularize_swap.specs.Steps.{with_pair, less, more, moved, mark_if, uses_six, swap_by, meets_six}
 use Rattle.regularize_swap.proofs.Moves.{second_is, third-is, last_is}
 use Rattle.pass_map.proofs.Maps.{map-kept, was-kept}
 use Rattle.regularize_swap.proofs.Bars.{OnlyMarks, Marked, marks-kept, bars-are}
@@ -101,20 +102,10 @@ pair-quads nq Q i j g hi hj l =
     quads-put nq (with_quad Q i (quad g.h0 g.h1 g.h2 g.h3)) j g.h0 g.h3 g.h4 g.h5 hj (omega (arith, length-put Q i g.h0 g.h1 g.h2 g.h3))
     ∙ ap (λ (S : List Quad). set S j (quad g.h0 g.h3 g.h4 g.h5)) (quads-put nq Q i g.h0 g.h1 g.h2 g.h3 hi l)
 
--- the six corners turned once and twice
-abbrev once : six.Six → six.Six
-once h = record { h0 = h.h1; h1 = h.h2; h2 = h.h3; h3 = h.h4; h4 = h.h5; h5 = h.h0 }
-
-abbrev twice : six.Six → six.Six
-twice h = record { h0 = h.h2; h1 = h.h3; h2 = h.h4; h3 = h.h5; h4 = h.h0; h5 = h.h1 }
-
-swap-quads : (nq : ℕ) (Q : List ℕ) (i j k : ℕ) (h : six.Six) → i < nq → j < nq → 4 * nq ≤ length Q → quads_of nq (with_pair Q i j (turned h k)) ≡ swap_by k (quads_of nq Q) i j h
-swap-quads nq Q i j k h hi hj l = go (eqb k 1)
-  where
-    go : (b : Bool) → quads_of nq (with_pair Q i j (cond b (once h) (twice h)))
-        ≡ cond b (swap_one (quads_of nq Q) i j h.h0 h.h1 h.h2 h.h3 h.h4 h.h5) (swap_two (quads_of nq Q) i j h.h0 h.h1 h.h2 h.h3 h.h4 h.h5)
-    go true = pair-quads nq Q i j (once h) hi hj l
-    go false = pair-quads nq Q i j (twice h) hi hj l
+swap-quads : (nq : ℕ) (Q : List ℕ) (i j : ℕ) (k : Diagonal) (h : six.Six) → i < nq → j < nq → 4 * nq ≤ length Q
+    → quads_of nq (with_pair Q i j (turned h k)) ≡ swap_by k (quads_of nq Q) i j h
+swap-quads nq Q i j First h hi hj l = pair-quads nq Q i j (turned h First) hi hj l
+swap-quads nq Q i j Second h hi hj l = pair-quads nq Q i j (turned h Second) hi hj l
 
 -- ---- the corners stay points
 
@@ -137,13 +128,6 @@ cornered-put {np} {nq} {Q} q a b c d C ha hb hc hd = record {
 cornered-pair : {np nq : ℕ} {Q : List ℕ} (i j : ℕ) (g : six.Six) → Cornered np nq Q → SixBelow np g → Cornered np nq (with_pair Q i j g)
 cornered-pair i j g C B =
     cornered-put j g.h0 g.h3 g.h4 g.h5 (cornered-put i g.h0 g.h1 g.h2 g.h3 C B.h0< B.h1< B.h2< B.h3<) B.h0< B.h3< B.h4< B.h5<
-
-pub turned-below : {np : ℕ} {h : six.Six} (k : ℕ) → SixBelow np h → SixBelow np (turned h k)
-turned-below {np} {h} k B = go (eqb k 1)
-  where
-    go : (b : Bool) → SixBelow np (cond b (once h) (twice h))
-    go true = record { h0< = B.h1<; h1< = B.h2<; h2< = B.h3<; h3< = B.h4<; h4< = B.h5<; h5< = B.h0< }
-    go false = record { h0< = B.h2<; h1< = B.h3<; h2< = B.h4<; h3< = B.h5<; h4< = B.h0<; h5< = B.h1< }
 
 -- ---- the valences
 
@@ -191,10 +175,10 @@ module _ {np nq : ℕ} {Q w : List ℕ} {h : six.Six} {i j : ℕ} (P : SwapPassH
   S = quads_of nq Q
 
   -- the ends of the new diagonal
-  abbrev end_c : ℕ → ℕ
+  abbrev end_c : Diagonal → ℕ
   end_c k = (turned h k).h0
 
-  abbrev end_d : ℕ → ℕ
+  abbrev end_d : Diagonal → ℕ
   end_d k = (turned h k).h3
 
   differ : Six h.h0 h.h1 h.h2 h.h3 h.h4 h.h5
@@ -206,8 +190,8 @@ module _ {np nq : ℕ} {Q w : List ℕ} {h : six.Six} {i j : ℕ} (P : SwapPassH
   here_j : (f : ℕ → ℕ → ℕ → ℕ) → corners f (get_or S j none_quad) ≡ corners f (quad h.h3 h.h0 h.h1 h.h2)
   here_j f = ap (corners f) (quad-there nq Q j X.j<) ∙ X.second f
 
-  exchange : (k : ℕ) → Exchange (λ f. total f S) (λ f. total f (swap_by k S i j h)) h.h0 h.h3 (end_c k) (end_d k)
-  exchange k = go (eqb k 1)
+  exchange : (k : Diagonal) → Exchange (λ f. total f S) (λ f. total f (swap_by k S i j h)) h.h0 h.h3 (end_c k) (end_d k)
+  exchange k = go k
     where
       li : i < length S
       li = omega (arith, length-quads nq Q, X.i<)
@@ -218,35 +202,27 @@ module _ {np nq : ℕ} {Q w : List ℕ} {h : six.Six} {i j : ℕ} (P : SwapPassH
       ij : i ≢ j
       ij = two-quads S i j h.h0 h.h1 h.h2 h.h3 h.h4 h.h5 differ here_i here_j
 
-      go : (b : Bool) → Exchange (λ f. total f S)
-          (λ f. total f (cond b (swap_one S i j h.h0 h.h1 h.h2 h.h3 h.h4 h.h5) (swap_two S i j h.h0 h.h1 h.h2 h.h3 h.h4 h.h5)))
-          h.h0 h.h3 (cond b (once h) (twice h)).h0 (cond b (once h) (twice h)).h3
-      go true = exchange-one S i j h.h0 h.h1 h.h2 h.h3 h.h4 h.h5 li lj ij differ here_i here_j
-      go false = exchange-two S i j h.h0 h.h1 h.h2 h.h3 h.h4 h.h5 li lj ij differ here_i here_j
+      go : (k : Diagonal) → Exchange (λ f. total f S) (λ f. total f (swap_by k S i j h)) h.h0 h.h3 (end_c k) (end_d k)
+      go First = exchange-one S i j h.h0 h.h1 h.h2 h.h3 h.h4 h.h5 li lj ij differ here_i here_j
+      go Second = exchange-two S i j h.h0 h.h1 h.h2 h.h3 h.h4 h.h5 li lj ij differ here_i here_j
 
   -- the corners of each quad still differ
-  differ-after : (k : ℕ) → All Differ (swap_by k S i j h)
-  differ-after k = go (eqb k 1)
-    where
-      go : (b : Bool) → All Differ (cond b (swap_one S i j h.h0 h.h1 h.h2 h.h3 h.h4 h.h5) (swap_two S i j h.h0 h.h1 h.h2 h.h3 h.h4 h.h5))
-      go true = one-differ S i j differ P.differ
-      go false = two-differ S i j differ P.differ
+  differ-after : (k : Diagonal) → All Differ (swap_by k S i j h)
+  differ-after First = one-differ S i j differ P.differ
+  differ-after Second = two-differ S i j differ P.differ
 
-  length-after : (k : ℕ) → length (swap_by k S i j h) ≡ nq
-  length-after k = go (eqb k 1)
-    where
-      go : (b : Bool) → length (cond b (swap_one S i j h.h0 h.h1 h.h2 h.h3 h.h4 h.h5) (swap_two S i j h.h0 h.h1 h.h2 h.h3 h.h4 h.h5)) ≡ nq
-      go true = simp length-set (length-quads nq Q)
-      go false = simp length-set (length-quads nq Q)
+  length-after : (k : Diagonal) → length (swap_by k S i j h) ≡ nq
+  length-after First = simp length-set (length-quads nq Q)
+  length-after Second = simp length-set (length-quads nq Q)
 
   -- so no valence passes the limit then, and the two that rise are below it now
-  most-after : (k v : ℕ) → valence (swap_by k S i j h) v ≤ limit
+  most-after : (k : Diagonal) (v : ℕ) → valence (swap_by k S i j h) v ≤ limit
   most-after k v = omega (arith, valence-le (swap_by k S i j h) v (differ-after k), length-after k, P.sheet.few)
 
   read-valence : (v : ℕ) → v < np → get_or (part (valences_at np nq) np w) v 0 ≡ valence S v
   read-valence v l = ap (λ (x : List ℕ). get_or x v 0) P.valences.is ∙ get_or-tab (valence S) np v 0 l
 
-  pub movable : (k : ℕ) → MoveValencesAsks np (part (valences_at np nq) np w) h.h0 h.h3 (end_c k) (end_d k)
+  pub movable : (k : Diagonal) → MoveValencesAsks np (part (valences_at np nq) np w) h.h0 h.h3 (end_c k) (end_d k)
   movable k =
       let E = exchange k in
       let T = swap_by k S i j h in
@@ -281,7 +257,7 @@ module _ {np nq : ℕ} {Q w : List ℕ} {h : six.Six} {i j : ℕ} (P : SwapPassH
     unfolding bars_of
     bars-moved = tab-ext (is_barred np nq u) (is_barred np nq w) nq (λ q l. rw (K.same 0 (marks_at np nq + q) (λ r s. omega arith)))
 
-    pub swap-made : (k : ℕ) (R w' : List ℕ) → R ≡ with_pair Q i j (turned h k) → Part (valences_at np nq) np (moved (part (valences_at np nq) np w) h.h0 h.h3 (end_c k) (end_d k)) u
+    pub swap-made : (k : Diagonal) (R w' : List ℕ) → R ≡ with_pair Q i j (turned h k) → Part (valences_at np nq) np (moved (part (valences_at np nq) np w) h.h0 h.h3 (end_c k) (end_d k)) u
         → Bounded (valences_at np nq) np u → Marked np nq (uses_six h) u w' → MakeSwapLeaves np nq k h i j Q w R w'
     swap-made k R w' e N B M =
         let q : quads_of nq R ≡ swap_by k S i j h = ap (quads_of nq) e ∙ swap-quads nq Q i j k h X.i< X.j< P.sheet.quads in
@@ -303,21 +279,9 @@ module _ {np nq : ℕ} {Q w : List ℕ} {h : six.Six} {i j : ℕ} (P : SwapPassH
 
   -- ---- the calls of a swap, g being the six corners turned
 
-  module _ (k : ℕ) (g : six.Six) (e : g ≡ turned h k) where
-    pub put-ready : (4 * i + 3 < length Q) × ((4 * j + 3 < length Q) × SixBelow 1048576 g)
-    put-ready =
-        let l = P.sheet.quads in
-        let m = P.map.work.few in
-        let G = turned-below k X.below in (
-          omega (arith, X.i<),
-          (
-            omega (arith, X.j<),
-            rw e (record { h0< = omega (arith, G.h0<); h1< = omega (arith, G.h1<); h2< = omega (arith, G.h2<); h3< = omega (arith, G.h3<); h4< = omega (arith, G.h4<); h5< = omega (arith, G.h5<) }),
-          ),
-        )
-
-    pub move-ready : (valences_at np nq + np ≤ length w) × (MoveValencesAsks np (part (valences_at np nq) np w) h.h0 h.h3 g.h0 g.h3 × Bounded (valences_at np nq) np w)
-    move-ready = (P.valences.fits, (rw e (movable k), P.bounded))
+  module _ (k : Diagonal) (g : six.Six) (e : g ≡ turned h k) where
+    pub move-ready : MoveValencesAsks np (part (valences_at np nq) np w) h.h0 h.h3 g.h0 g.h3
+    move-ready = rw e (movable k)
 
     pub swap-done : {R u w' : List ℕ} → R ≡ with_pair Q i j g
         → Part (valences_at np nq) np (moved (part (valences_at np nq) np w) h.h0 h.h3 g.h0 g.h3) u × (Kept (Out (valences_at np nq) np) w u × Bounded (valences_at np nq) np u)

@@ -1,23 +1,17 @@
 -- Valences move from two points to two others. Assumes nothing.
 use Prim.Native.Nat.{ℕ, ◌+◌, ◌-◌, ◌≤◌, ◌<◌}
-use mathlib.Core.Path.{◌≡◌, refl, sym, ap, ◌∙◌}
+use mathlib.Core.Path.{◌≡◌, sym, ap, ◌∙◌}
 use mathlib.Core.List.{List}
 use native.Mathlib.Omega.{arith}
 use lib.ListN.{length, get_or, set}
 use lib.Seq.{get_or-set_other}
 use Rattle.lists.specs.Regions.{part, Part, Out, Kept}
 use Rattle.lists.proofs.Regions.{part_of, part-get, part-as, part-set, kept_set, kept_refl}
-use Rattle.rule_sheet.specs.Lent.{limit}
 use Rattle.incidence.specs.Bounds.{Bounded}
-use Rattle.incidence.proofs.Bounds.{bounded-set}
 use Rattle.regularize_swap.specs.Steps.{less, more}
-use Rattle.regularize_swap.specs.Conditions.{ChangeAsks, ChangeLeaves, MoveValencesAsks}
+use Rattle.regularize_swap.specs.Conditions.{ChangeLeaves, MoveValencesAsks}
 
 -- ---- one valence
-
--- another number in the place of the valence of v
-pub changed : {val np : ℕ} {w : List ℕ} (v x : ℕ) → ChangeAsks val np v w → x ≤ limit → ChangeLeaves val np v x w (set w (val + v) x)
-changed v x A h = record { is = refl; bounded = bounded-set v x A.bounded (omega (arith, A.fits, A.below)) h }
 
 -- the valences vs in w, none of them above the limit, all else as in u
 pub record Moving (val np : ℕ) (vs u w : List ℕ) : Type 0 where
@@ -31,15 +25,6 @@ moving-start {val} {np} {u} h B = record { at = part_of val np u h; kept = kept_
 module _ {val np : ℕ} {vs u w : List ℕ} (a : ℕ) (M : Moving val np vs u w) (h : a < np) where
   read_at : get_or w (val + a) 0 ≡ get_or vs a 0
   read_at = part-get 0 a M.at h
-
-  asks : ChangeAsks val np a w
-  asks = record { fits = M.at.fits; below = h; bounded = M.bounded }
-
-  pub less-ready : 1 ≤ get_or vs a 0 → ChangeAsks val np a w × (1 ≤ get_or w (val + a) 0)
-  less-ready l = (asks, omega (arith, read_at))
-
-  pub more-ready : get_or vs a 0 < limit → ChangeAsks val np a w × (get_or w (val + a) 0 < limit)
-  more-ready l = (asks, omega (arith, read_at))
 
   changed-at : {x : ℕ} {w' : List ℕ} (y : ℕ) → x ≡ y → ChangeLeaves val np a x w w' → Moving val np (set vs a y) u w'
   changed-at {x} {w'} y e C = record {

@@ -9,6 +9,7 @@ use Rattle.rule_sheet.specs.Lent.{limit}
 use Rattle.incidence.specs.Corners.{Cornered}
 use Rattle.incidence.specs.Bounds.{Bounded}
 use Rattle.rule_regularize.specs.Swaps.{bar_list}
+use Rattle.regularize_shapes.specs.declared.Diagonal.{Diagonal}
 use Rattle.regularize_shapes.specs.declared.Six.{Six}
 use Rattle.regularize_shapes.specs.SwapFits.{SixBelow}
 use Rattle.pass_map.specs.Regions.{valences_at, start_in}
@@ -69,7 +70,7 @@ pub record MakeSwapAsks (np nq : ℕ) (Q : List ℕ) (h : Six) (i j : ℕ) : Typ
   pub second : (f : ℕ → ℕ → ℕ → ℕ) → corners f (quad_at Q j) ≡ corners f (quad h.h3 h.h0 h.h1 h.h2)
 
 -- what the swap of the quads i and j leaves: the slices go from Q and v to R and w
-pub record MakeSwapLeaves (np nq k : ℕ) (h : Six) (i j : ℕ) (Q v R w : List ℕ) : Type 0 where
+pub record MakeSwapLeaves (np nq : ℕ) (k : Diagonal) (h : Six) (i j : ℕ) (Q v R w : List ℕ) : Type 0 where
   pub holds : SwapPassHolds np nq R w
   pub quads : quads_of nq R ≡ swap_by k (quads_of nq Q) i j h
   pub bars : bars_of np nq w ≡ bar_list (start_in np nq v) (bars_of np nq v) (meets_six h)

@@ -8,7 +8,10 @@ use Rattle.sheet.specs.Flat.{from, to, before, with_quad}
 use Rattle.edges.specs.Steps.{pair_at}
 use Rattle.rule_regularize.specs.Swaps.{Place, State, Fits, try_places, six_differ, swap_one, swap_two, meets}
 use Rattle.rule_passes.specs.Choices.{take_or}
+use Rattle.regularize_shapes.specs.declared.Diagonal.{Diagonal}
+use Rattle.regularize_shapes.specs.declared.Diagonal.TheVariants.{First, Second}
 use Rattle.regularize_shapes.specs.declared.Six.{Six}
+use Rattle.regularize_shapes.specs.SwapFits.{turned}
 use Rattle.pass_map.specs.Regions.{start_in}
 use Rattle.regularize_swap.specs.Regions.{sum_in}
 
@@ -54,21 +57,15 @@ six_apart h = six_differ h.h0 h.h1 h.h2 h.h3 h.h4 h.h5
 abbrev pub is_hexagon : List ℕ → ℕ → Six → Bool
 is_hexagon Q d h = eqb (to Q d) h.h0 && eqb (from Q d) h.h3 && six_apart h
 
--- the six corners from h1 on where k is 1, else from h2 on
-abbrev pub turned : Six → ℕ → Six
-turned h k = cond (eqb k 1)
-    (record { h0 = h.h1; h1 = h.h2; h2 = h.h3; h3 = h.h4; h4 = h.h5; h5 = h.h0 })
-    (record { h0 = h.h2; h1 = h.h3; h2 = h.h4; h3 = h.h5; h4 = h.h0; h5 = h.h1 })
-
 -- The diagonal k may be put in: it is no edge of the start's quads, and half the gain is at least m. The valences stand
 -- in w.
-abbrev pub open_in : ℕ → ℕ → ℕ → Six → ℕ → List ℕ → Bool
+abbrev pub open_in : ℕ → ℕ → ℕ → Six → Diagonal → List ℕ → Bool
 open_in np nq m h k w =
     not (is_edge (start_in np nq w) (turned h k).h0 (turned h k).h3)
     && leb (sum_in np nq w (turned h k).h0 (turned h k).h3 + 2 + m) (sum_in np nq w h.h0 h.h3)
 
 -- the diagonal k gains more than 0
-abbrev pub gains_in : ℕ → ℕ → Six → ℕ → List ℕ → Bool
+abbrev pub gains_in : ℕ → ℕ → Six → Diagonal → List ℕ → Bool
 gains_in np nq h k w = ltb (sum_in np nq w (turned h k).h0 (turned h k).h3 + 2) (sum_in np nq w h.h0 h.h3)
 
 -- the second diagonal gains more than the first
@@ -102,12 +99,10 @@ uses_six h q = uses h.h0 q + uses h.h1 q + uses h.h2 q + uses h.h3 q + uses h.h4
 
 -- ---- in the words of the rule
 
--- the quads with the diagonal from h1 to h4 where k is 1, else with that from h2 to h5
-abbrev pub swap_by : ℕ → List Quad → ℕ → ℕ → Six → List Quad
-swap_by k S i j h =
-    cond (eqb k 1)
-    (swap_one S i j h.h0 h.h1 h.h2 h.h3 h.h4 h.h5)
-    (swap_two S i j h.h0 h.h1 h.h2 h.h3 h.h4 h.h5)
+-- the quads with a diagonal put in
+abbrev pub swap_by : Diagonal → List Quad → ℕ → ℕ → Six → List Quad
+swap_by First S i j h = swap_one S i j h.h0 h.h1 h.h2 h.h3 h.h4 h.h5
+swap_by Second S i j h = swap_two S i j h.h0 h.h1 h.h2 h.h3 h.h4 h.h5
 
 -- the quad has one of the six corners
 abbrev pub meets_six : Six → Quad → Bool

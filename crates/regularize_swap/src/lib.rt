@@ -17,12 +17,12 @@ ghost use Rattle.regularize_shapes.specs.SwapFits.{SixBelow};
 ghost use Rattle.pass_map.specs.Regions.{was_in, edges_in};
 ghost use Rattle.pass_map.specs.Conditions.{WorkFits, MapAsks, MapHolds};
 ghost use Rattle.regularize_swap.specs.Regions.{marks_at, marks_in, free_in, sum_in, edge_corner};
-ghost use Rattle.regularize_swap.specs.Steps.{six_at, six_apart, is_hexagon, turned, open_in, gains_in, better_in};
+ghost use Rattle.regularize_swap.specs.Steps.{six_at, six_apart, is_hexagon, open_in, gains_in, better_in};
 ghost use Rattle.regularize_swap.specs.Steps.{with_pair, moved, mark_if, uses_three, uses_six};
 ghost use Rattle.regularize_swap.specs.Conditions.{SwapPassHolds, BeginPassLeaves, ChangeAsks, ChangeLeaves};
 ghost use Rattle.regularize_swap.specs.Conditions.{MoveValencesAsks, MakeSwapAsks, MakeSwapLeaves};
 
-use regularize_shapes::Six;
+use regularize_shapes::{Diagonal, Six};
 
 // Where the marks of barred quads begin in the work slice, in units of all points and quads together.
 const MARKS: usize = 22;
@@ -97,30 +97,6 @@ pub fn is_hexagon(quads: &[u32], d: usize, h: Six) -> bool
     (back == h.h0) & (lists::at(quads, d) == h.h3) & six_differ(h)
 }
 
-// The six corners from h1 on where k is 1, else from h2 on.
-fn turned_by(h: Six, k: usize) -> Six
-    ensures { result ≡ turned h k }
-{
-    if k == 1 {
-        return Six {
-            h0: h.h1,
-            h1: h.h2,
-            h2: h.h3,
-            h3: h.h4,
-            h4: h.h5,
-            h5: h.h0,
-        };
-    }
-    Six {
-        h0: h.h2,
-        h1: h.h3,
-        h2: h.h4,
-        h3: h.h5,
-        h4: h.h0,
-        h5: h.h1,
-    }
-}
-
 // The sum of the valences of u and v.
 fn valence_sum(np: usize, nq: usize, u: usize, v: usize, w: &[u32]) -> usize
     requires work_fits { WorkFits np nq w.now }
@@ -134,13 +110,13 @@ fn valence_sum(np: usize, nq: usize, u: usize, v: usize, w: &[u32]) -> usize
 }
 
 // The diagonal k is no edge of the pass's start, and half its gain is at least `least`.
-pub fn is_open(np: usize, nq: usize, least: usize, h: Six, k: usize, w: &[u32]) -> bool
+pub fn is_open(np: usize, nq: usize, least: usize, h: Six, k: Diagonal, w: &[u32]) -> bool
     requires map_holds { MapHolds np nq w.now }
     requires six_below { SixBelow np h }
     requires least_bound { least ≤ 1 }
     ensures { result ≡ open_in np nq least h k w.now }
 {
-    let g = turned_by(h, k);
+    let g = regularize_shapes::turned_by(h, k);
     let after = valence_sum(np, nq, g.h0, g.h3, w) + 2 + least;
     if valence_sum(np, nq, h.h0, h.h3, w) < after {
         return false;
@@ -149,12 +125,12 @@ pub fn is_open(np: usize, nq: usize, least: usize, h: Six, k: usize, w: &[u32]) 
 }
 
 // The diagonal k gains more than 0.
-pub fn gains(np: usize, nq: usize, h: Six, k: usize, w: &[u32]) -> bool
+pub fn gains(np: usize, nq: usize, h: Six, k: Diagonal, w: &[u32]) -> bool
     requires work_fits { WorkFits np nq w.now }
     requires six_below { SixBelow np h }
     ensures { result ≡ gains_in np nq h k w.now }
 {
-    let g = turned_by(h, k);
+    let g = regularize_shapes::turned_by(h, k);
     let after = valence_sum(np, nq, g.h0, g.h3, w) + 2;
     after < valence_sum(np, nq, h.h0, h.h3, w)
 }
@@ -286,7 +262,7 @@ pub fn begin_pass(np: usize, nq: usize, quads: &[u32], w: &mut [u32])
 pub fn make_swap(
     np: usize,
     nq: usize,
-    k: usize,
+    k: Diagonal,
     h: Six,
     i: usize,
     j: usize,
@@ -298,7 +274,7 @@ pub fn make_swap(
     ensures { MakeSwapLeaves np nq k h i j quads.old w.old
         quads.new w.new }
 {
-    let g = turned_by(h, k);
+    let g = regularize_shapes::turned_by(h, k);
     put_pair(quads, i, j, g);
     move_valences(
         np,

@@ -9,42 +9,47 @@ mod table;
 use replay_records::numbers;
 use std::io;
 use std::io::Read;
+use table::Tally;
 
 // The first words of a file of records, and the version of its layout.
-const MAGIC: u64 = 0x3156_5351;
+const MAGIC: u32 = 0x3156_5351;
 
-const VERSION: u64 = 1;
+const VERSION: u32 = 1;
+
+// How many bytes the head of a file has.
+const HEAD: usize = 16;
+
+// The most bytes of a record.
+const MOST: usize = 8192;
 
 // How many records a file says that it has; 0 if it is no such file.
-fn records_in(head: &[u8]) -> u64 {
-    if numbers::half_at(head, 0) != MAGIC || numbers::half_at(head, 4) != VERSION {
-        return 0;
+fn records_in(head: &[u8; HEAD]) -> u32 {
+    let mut words = [0; 4];
+    numbers::load(head, 0, &mut words);
+    match words {
+        [MAGIC, VERSION, records, _] => records,
+        _ => 0,
     }
-    numbers::half_at(head, 8)
 }
 
 // Goes through the records, until one is missing or too long.
-fn replay_all<R: Read>(
-    input: &mut R,
-    records: u64,
-    seen: &mut [u64; 1024],
-    agreed: &mut [u64; 1024],
-) -> io::Result<()> {
+fn replay_all<R: Read>(input: &mut R, records: u32) -> io::Result<Tally> {
+    let mut tally = Tally::new();
     for _ in 0..records {
-        if !record::replay(input, seen, agreed)? {
+        let mut bytes = [0; MOST];
+        let Some(record) = record::read(input, &mut bytes)? else {
             break;
-        }
+        };
+        tally.add(record, record::agrees(record));
     }
-    Ok(())
+    Ok(tally)
 }
 
 fn main(rt: HostRuntime) -> io::Result<()> {
     let mut input = rt.reader();
-    let mut head = [0u8; 16];
+    let mut head = [0; HEAD];
     input::read_full(&mut input, &mut head)?;
     let records = records_in(&head);
-    let mut seen = [0u64; 1024];
-    let mut agreed = [0u64; 1024];
-    replay_all(&mut input, records, &mut seen, &mut agreed)?;
-    table::print(&rt, records, &seen, &agreed)
+    let tally = replay_all(&mut input, records)?;
+    tally.print(&rt, records)
 }

@@ -1,11 +1,9 @@
 // One record: reading it, asking the proved function, comparing.
 use crate::input;
-use replay_records::{numbers, sheets};
+use replay_records::operation::{Operation, UnknownOperation};
+use replay_records::record::{Record, SHEET};
 use std::io;
 use std::io::Read;
-
-// Where the floats of a record begin: the band, then a point.
-const FLOATS: usize = 64;
 
 // Reads the bytes from start to end of a record; false if they do not fit or the input ends.
 fn read_part<R: Read>(
@@ -21,60 +19,38 @@ fn read_part<R: Read>(
     Ok(got == end - start)
 }
 
-// Reads a record whole: its head, then as many bytes as that says.
-fn read<R: Read>(input: &mut R, bytes: &mut [u8]) -> io::Result<bool> {
-    if !read_part(input, bytes, 0, 208)? {
-        return Ok(false);
+// Reads a record whole, its head, then as many bytes as that says; None if it is missing or too long.
+pub fn read<'a, R: Read>(input: &mut R, bytes: &'a mut [u8]) -> io::Result<Option<Record<'a>>> {
+    if !read_part(input, bytes, 0, SHEET)? {
+        return Ok(None);
     }
-    let size = numbers::half_at(bytes, 0) as usize;
-    read_part(input, bytes, 208, size)
-}
-
-// Whether an operation takes a sheet and shows what it makes, measures or saves of it.
-fn takes_sheet(operation: u64) -> bool {
-    operation <= 8 || (16 <= operation && operation <= 18)
+    let size = Record { bytes }.at::<u32>(0) as usize;
+    if !read_part(input, bytes, SHEET, size)? {
+        return Ok(None);
+    }
+    Ok(Some(Record { bytes }))
 }
 
 // Whether the proved function of an operation answers as the record says; a larger sheet is not taken.
-fn agrees(bytes: &[u8], operation: u64, number: u64) -> bool {
-    if takes_sheet(operation) && !sheets::is_taken(bytes) {
+fn agrees_to(record: Record, operation: Operation) -> bool {
+    if operation.takes_sheet() && !record.is_taken() {
         return false;
     }
-    let mut k = [0.0; 21];
-    numbers::load_floats(bytes, FLOATS, &mut k);
     match operation {
-        0 => false,
-        1 | 2 | 7 => replay_made::agrees(bytes, operation, &k, number),
-        3 => replay_made::agrees_drawn(bytes, &k, number),
-        4 | 5 | 6 => replay_altered::agrees(bytes, operation, &k, number),
-        18 | 19 | 20 => replay_job::agrees(bytes, operation, number),
-        _ => replay_measured::agrees(bytes, operation, &k, number),
+        Operation::Make(making) => replay_made::agrees(record, making),
+        Operation::Extract => replay_made::agrees_drawn(record),
+        Operation::Alter(altering) => replay_altered::agrees(record, altering),
+        Operation::Measure(measuring) => replay_measured::agrees(record, measuring),
+        Operation::At(function) => replay_measured::agrees_at(record, function),
+        Operation::File(filing) => replay_job::agrees(record, filing),
     }
 }
 
-// One more at a place.
-fn count(tally: &mut [u64; 1024], at: usize) {
-    if at < 1024 {
-        tally[at] = tally[at].wrapping_add(1);
+// The same of the operation that the record names; nothing agrees to operation 0.
+pub fn agrees(record: Record) -> bool {
+    match record.operation() {
+        Ok(operation) => agrees_to(record, operation),
+        Err(UnknownOperation(0)) => false,
+        Err(_) => replay_measured::agrees_unknown(record),
     }
-}
-
-// Reads and replays one record; false if there is none.
-pub fn replay<R: Read>(
-    input: &mut R,
-    seen: &mut [u64; 1024],
-    agreed: &mut [u64; 1024],
-) -> io::Result<bool> {
-    let mut bytes = [0u8; 8192];
-    if !read(input, &mut bytes)? {
-        return Ok(false);
-    }
-    let operation = numbers::byte_at(&bytes, 4);
-    let number = numbers::byte_at(&bytes, 5);
-    let at = (operation % 32 * 32 + number % 32) as usize;
-    count(seen, at);
-    if agrees(&bytes, operation, number) {
-        count(agreed, at);
-    }
-    Ok(true)
 }

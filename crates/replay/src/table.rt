@@ -1,75 +1,72 @@
-// The table of what was seen and what agreed, at operation × 32 + number.
+// The table of what was seen and what agreed.
+ghost use Rattle.std.specs.Prelude.{◌<◌};
+
+use replay_records::operation::Operation;
+use replay_records::record::Record;
 use std::io;
 
-// Writes the name of a function at a point, or of a test.
-fn print_function(rt: &impl Print, operation: usize) -> io::Result<()> {
-    match operation {
-        9 => print!(rt; "project "),
-        10 => print!(rt; "value "),
-        11 => print!(rt; "gradient "),
-        12 => print!(rt; "normal "),
-        13 => print!(rt; "sqrt "),
-        14 => print!(rt; "constraints "),
-        15 => print!(rt; "validate "),
-        _ => print!(rt; "unknown "),
-    }
+// How many operations and numbers the table has.
+const OPERATIONS: u8 = 32;
+
+const NUMBERS: u8 = 32;
+
+// How often an operation and a number were seen, and how often they agreed, at operation × 32 + number.
+#[derive(Drop)]
+pub struct Tally {
+    seen: [u64; 1024],
+    agreed: [u64; 1024],
 }
 
-// Writes the name of an operation.
-fn print_name(rt: &impl Print, operation: usize) -> io::Result<()> {
-    match operation {
-        1 => print!(rt; "refine "),
-        2 => print!(rt; "subdivide "),
-        3 => print!(rt; "extract_candidate "),
-        4 => print!(rt; "regularize "),
-        5 => print!(rt; "improve_layout "),
-        6 => print!(rt; "coarsen "),
-        7 => print!(rt; "boundary_rows "),
-        8 => print!(rt; "quality "),
-        16 => print!(rt; "corners_per_point "),
-        17 => print!(rt; "page "),
-        18 => print!(rt; "save "),
-        19 => print!(rt; "open "),
-        20 => print!(rt; "sum "),
-        _ => print_function(rt, operation),
-    }
+// The place of an operation and a number.
+fn place(operation: u8, number: u8) -> usize
+    ensures { result < 1024 }
+{
+    usize::from(operation % OPERATIONS) * 32 + usize::from(number % NUMBERS)
 }
 
-// Writes a line for what has been seen at a place.
-fn print_line(rt: &impl Print, at: usize, seen: u64, agreed: u64) -> io::Result<()> {
-    if seen == 0 {
-        return Ok(());
-    }
-    print_name(rt, at / 32)?;
-    let number = at % 32;
-    println!(rt; "{number}: {agreed} of {seen}")
+// The sum of counts.
+fn total(counts: &[u64; 1024]) -> u64 {
+    counts.iter().fold(0, |sum, n| sum.wrapping_add(*n))
 }
 
-// The sum of a tally.
-fn total(tally: &[u64; 1024]) -> u64 {
-    let mut sum = 0u64;
-    for n in tally {
-        sum = sum.wrapping_add(*n);
+impl Tally {
+    // Nothing seen.
+    pub fn new() -> Tally {
+        Tally {
+            seen: [0; 1024],
+            agreed: [0; 1024],
+        }
     }
-    sum
-}
 
-// Writes the lines of the table.
-fn print_lines(rt: &impl Print, seen: &[u64; 1024], agreed: &[u64; 1024]) -> io::Result<()> {
-    for at in 0..1024 {
-        print_line(rt, at, seen[at], agreed[at])?;
+    // One more record.
+    pub fn add(&mut self, record: Record, agrees: bool) {
+        let at = place(record.code(), record.at(5));
+        self.seen[at] = self.seen[at].wrapping_add(1);
+        self.agreed[at] = self.agreed[at].wrapping_add(u64::from(agrees));
     }
-    Ok(())
-}
 
-// Writes the table, how many records there are and how many agree.
-pub fn print(
-    rt: &impl Print,
-    records: u64,
-    seen: &[u64; 1024],
-    agreed: &[u64; 1024],
-) -> io::Result<()> {
-    print_lines(rt, seen, agreed)?;
-    let agree = total(agreed);
-    println!(rt; "{records} records, {agree} agree")
+    // Writes a line for an operation and a number, if they have been seen.
+    fn print_line(&self, rt: &impl Print, operation: u8, number: u8) -> io::Result<()> {
+        let at = place(operation, number);
+        let seen = self.seen[at];
+        let agreed = self.agreed[at];
+        if seen == 0 {
+            return Ok(());
+        }
+        match Operation::try_from(operation) {
+            Ok(name) => println!(rt; "{name} {number}: {agreed} of {seen}"),
+            Err(unknown) => println!(rt; "{unknown} {number}: {agreed} of {seen}"),
+        }
+    }
+
+    // Writes the table, how many records there are and how many agree.
+    pub fn print(&self, rt: &impl Print, records: u32) -> io::Result<()> {
+        for operation in 0..OPERATIONS {
+            for number in 0..NUMBERS {
+                self.print_line(rt, operation, number)?;
+            }
+        }
+        let agree = total(&self.agreed);
+        println!(rt; "{records} records, {agree} agree")
+    }
 }

@@ -1,131 +1,86 @@
 // `quality`, `corners_per_point` and `page`, asked as a record says.
-ghost use Rattle.std.specs.Prelude.{◌≤◌, length};
 
-use replay_records::sheets::Sizes;
-use replay_records::{numbers, sheets, stored};
+use replay_records::lent::{Sheet, Work};
+use replay_records::operation::Measuring;
+use replay_records::record::{Band, Record};
+use replay_records::{lent, stored};
 
-// The numbers of `corners_per_point` and of `page`.
-const CORNERS: u64 = 16;
-
-const PAGE: u64 = 17;
-
-// Whether `quality` of the sheet that was read answers as the record says; k holds the band.
-fn quality_agrees(
-    bytes: &[u8],
-    n: Sizes,
-    points: &[f64],
-    corners: &[u32],
-    labels: &[u8],
-    k: &[f64],
-    number: u64,
-) -> bool
-    requires { 18 ≤ length k.now }
-{
-    let mut work = [0u32; 8192];
-    let mut floats = [0.0; 2048];
-    let mut answer = [0u64; 10];
+// Whether `quality` of a sheet answers as the record says.
+fn quality_agrees(record: Record, sheet: &Sheet, band: &Band, work: &mut Work) -> bool {
+    let mut answer = [0; 10];
     let mut measures = [0.0; 4];
     let got = quads::quads_quality(
-        points,
-        corners,
-        labels,
-        n.points,
-        n.quads,
-        n.labels,
-        numbers::byte_at(bytes, 7) as u32,
-        &k[0..10],
-        &k[10..16],
-        k[16],
-        k[17],
-        &mut work,
-        &mut floats,
+        &sheet.points,
+        &sheet.corners,
+        &sheet.labels,
+        sheet.sizes.points,
+        sheet.sizes.quads,
+        sheet.sizes.labels,
+        band.kind,
+        &band.numbers,
+        &band.bounds,
+        band.lower,
+        band.upper,
+        &mut work.words,
+        &mut work.floats,
         &mut answer,
         &mut measures,
     );
-    stored::same_quality(bytes, got, number, &answer, &measures)
+    stored::same_quality(record, got, &answer, &measures)
 }
 
 // The same of `corners_per_point`.
-fn corners_agree(
-    bytes: &[u8],
-    n: Sizes,
-    points: &[f64],
-    corners: &[u32],
-    labels: &[u8],
-    k: &[f64],
-    number: u64,
-) -> bool
-    requires { 18 ≤ length k.now }
-{
-    let mut work = [0u32; 8192];
-    let mut floats = [0.0; 2048];
-    let mut answer = [0u64; 2];
+fn corners_agree(record: Record, sheet: &Sheet, band: &Band, work: &mut Work) -> bool {
+    let mut answer = [0; 2];
     let got = quads::quads_corners_per_point(
-        points,
-        corners,
-        labels,
-        n.points,
-        n.quads,
-        n.labels,
-        numbers::byte_at(bytes, 7) as u32,
-        &k[0..10],
-        &k[10..16],
-        k[16],
-        k[17],
-        &mut work,
-        &mut floats,
+        &sheet.points,
+        &sheet.corners,
+        &sheet.labels,
+        sheet.sizes.points,
+        sheet.sizes.quads,
+        sheet.sizes.labels,
+        band.kind,
+        &band.numbers,
+        &band.bounds,
+        band.lower,
+        band.upper,
+        &mut work.words,
+        &mut work.floats,
         &mut answer,
     );
-    stored::same_ratio(bytes, got, number, &answer)
+    stored::same_ratio(record, got, &answer)
 }
 
 // The same of `page`, in a slice that is longer than it.
-fn page_agrees(
-    bytes: &[u8],
-    n: Sizes,
-    points: &[f64],
-    corners: &[u32],
-    labels: &[u8],
-    k: &[f64],
-    number: u64,
-) -> bool
-    requires { 18 ≤ length k.now }
-{
-    let mut work = [0u32; 8192];
-    let mut floats = [0.0; 2048];
-    let mut page = [255u8; 336];
+fn page_agrees(record: Record, sheet: &Sheet, band: &Band, work: &mut Work) -> bool {
+    let mut page = [255; 336];
     let got = quads::quads_page(
-        points,
-        corners,
-        labels,
-        n.points,
-        n.quads,
-        n.labels,
-        numbers::byte_at(bytes, 7) as u32,
-        &k[0..10],
-        &k[10..16],
-        k[16],
-        k[17],
-        &mut work,
-        &mut floats,
+        &sheet.points,
+        &sheet.corners,
+        &sheet.labels,
+        sheet.sizes.points,
+        sheet.sizes.quads,
+        sheet.sizes.labels,
+        band.kind,
+        &band.numbers,
+        &band.bounds,
+        band.lower,
+        band.upper,
+        &mut work.words,
+        &mut work.floats,
         &mut page,
     );
-    stored::same_page(bytes, got, number, &page)
+    stored::same_page(record, got, &page)
 }
 
-// Whether the operation of a record, one of these three, answers as the record says.
-pub fn agrees(bytes: &[u8], operation: u64, k: &[f64], number: u64) -> bool
-    requires { 18 ≤ length k.now }
-{
-    let mut points = [0.0; 192];
-    let mut corners = [0u32; 256];
-    let mut labels = [0u8; 64];
-    let n = sheets::load(bytes, &mut points, &mut corners, &mut labels);
-    if operation == CORNERS {
-        return corners_agree(bytes, n, &points, &corners, &labels, k, number);
+// Whether the operation answers as the record says.
+pub fn agrees(record: Record, measuring: Measuring) -> bool {
+    let sheet = lent::sheet_of(record);
+    let band = record.band();
+    let mut work = Work::new();
+    match measuring {
+        Measuring::Quality => quality_agrees(record, &sheet, &band, &mut work),
+        Measuring::CornersPerPoint => corners_agree(record, &sheet, &band, &mut work),
+        Measuring::Page => page_agrees(record, &sheet, &band, &mut work),
     }
-    if operation == PAGE {
-        return page_agrees(bytes, n, &points, &corners, &labels, k, number);
-    }
-    quality_agrees(bytes, n, &points, &corners, &labels, k, number)
 }

@@ -3,7 +3,10 @@
 
 #![tactic(auto)]
 
+pub mod lent;
 pub mod numbers;
+pub mod operation;
+pub mod record;
 pub mod sheets;
 pub mod stored;
 mod words;

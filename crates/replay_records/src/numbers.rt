@@ -1,44 +1,41 @@
 // Numbers out of bytes, the lowest byte first.
-ghost use Rattle.std.specs.Prelude.{◌^◌, ◌<◌, ◌≤◌};
 
-// The most numbers that are taken at once.
-const MOST: usize = 400;
+// A number that is stored.
+pub trait Number: Copy + Default + PartialEq {
+    // The number that the bytes begin with and the bytes behind it, if they are enough.
+    fn split(bytes: &[u8]) -> Option<(Self, &[u8])>;
+}
 
-// The byte at a place, 0 beyond the end.
-pub fn byte_at(bytes: &[u8], at: usize) -> u64
-    ensures { result < 2 ^ 8 }
-{
-    if at < bytes.len() {
-        return bytes[at] as u64;
+impl Number for u8 {
+    fn split(bytes: &[u8]) -> Option<(u8, &[u8])> {
+        let (first, rest) = bytes.split_first()?;
+        Some((*first, rest))
     }
-    0
 }
 
-// The number of two bytes.
-fn quarter_at(bytes: &[u8], at: usize) -> u64
-    requires { at ≤ 30006 }
-    ensures { result < 2 ^ 16 }
-{
-    byte_at(bytes, at) + 0x100 * byte_at(bytes, at + 1)
+impl Number for u32 {
+    fn split(bytes: &[u8]) -> Option<(u32, &[u8])> {
+        let (first, rest) = bytes.split_first_chunk()?;
+        Some((u32::from_le_bytes(*first), rest))
+    }
 }
 
-// The number of four bytes.
-pub fn half_at(bytes: &[u8], at: usize) -> u64
-    requires { at ≤ 30004 }
-    ensures { result < 2 ^ 32 }
-{
-    quarter_at(bytes, at) + 0x1_0000 * quarter_at(bytes, at + 2)
+impl Number for u64 {
+    fn split(bytes: &[u8]) -> Option<(u64, &[u8])> {
+        let (first, rest) = bytes.split_first_chunk()?;
+        Some((u64::from_le_bytes(*first), rest))
+    }
 }
 
-// The number of eight bytes.
-pub fn word_at(bytes: &[u8], at: usize) -> u64
-    requires { at ≤ 30000 }
-{
-    half_at(bytes, at) + 0x1_0000_0000 * half_at(bytes, at + 4)
+impl Number for f64 {
+    fn split(bytes: &[u8]) -> Option<(f64, &[u8])> {
+        let (bits, rest) = u64::split(bytes)?;
+        Some((float_of(bits), rest))
+    }
 }
 
 // The float of 64 bits; every NaN is the same.
-pub fn float_of(bits: u64) -> f64 {
+fn float_of(bits: u64) -> f64 {
     if 0x7ff0_0000_0000_0000 < bits % 0x8000_0000_0000_0000 {
         return 0.0 / 0.0;
     }
@@ -47,41 +44,56 @@ pub fn float_of(bits: u64) -> f64 {
 
 // The bits of a float in a stored result; every NaN is the same.
 pub fn bits_of(x: f64) -> u64 {
-    if x != x {
+    if x.is_nan() {
         return 0x7ff8_0000_0000_0000;
     }
     f64::to_bits(x)
 }
 
-// The floats from a place on, as many as the slice takes.
-pub fn load_floats(bytes: &[u8], at: usize, floats: &mut [f64])
-    requires { at ≤ 1000 }
-{
-    let mut i = 0;
-    while i < MOST && i < floats.len() {
-        floats[i] = float_of(word_at(bytes, at + i * 8));
-        i += 1;
+// The bytes from a place on, none beyond the end.
+pub fn from(bytes: &[u8], at: usize) -> &[u8] {
+    bytes.get(at..).unwrap_or(&[])
+}
+
+// The number that the bytes begin with and the bytes behind it, 0 where they are too few.
+pub fn next<T: Number>(bytes: &[u8]) -> (T, &[u8]) {
+    T::split(bytes).unwrap_or((T::default(), &[]))
+}
+
+// The number at a place, 0 beyond the end.
+pub fn number_at<T: Number>(bytes: &[u8], at: usize) -> T {
+    let (number, _) = next(from(bytes, at));
+    number
+}
+
+// The numbers from a place on, as many as the slice takes.
+pub fn load<T: Number>(bytes: &[u8], at: usize, numbers: &mut [T]) {
+    let mut rest = from(bytes, at);
+    for n in numbers.iter_mut() {
+        (*n, rest) = next(rest);
     }
 }
 
-// The numbers of four bytes from a place on, as many as the slice takes.
-pub fn load_halves(bytes: &[u8], at: usize, halves: &mut [u32])
-    requires { at ≤ 2000 }
-{
-    let mut i = 0;
-    while i < MOST && i < halves.len() {
-        halves[i] = half_at(bytes, at + i * 4) as u32;
-        i += 1;
+// Whether the numbers from a place on are these.
+fn begins<T: Number>(bytes: &[u8], at: usize, numbers: &[T]) -> bool {
+    let mut rest = from(bytes, at);
+    for n in numbers {
+        let (stored, behind) = next(rest);
+        if *n != stored {
+            return false;
+        }
+        rest = behind;
     }
+    true
 }
 
-// The bytes from a place on, as many as the slice takes.
-pub fn load_bytes(bytes: &[u8], at: usize, out: &mut [u8])
-    requires { at ≤ 4000 }
-{
-    let mut i = 0;
-    while i < MOST && i < out.len() {
-        out[i] = byte_at(bytes, at + i) as u8;
-        i += 1;
-    }
+// Whether a slice has the numbers from a place on, so many, and zeros behind them.
+pub fn holds<T: Number>(bytes: &[u8], at: usize, count: usize, numbers: &[T]) -> bool {
+    let (front, behind) = numbers.split_at(count.min(numbers.len()));
+    begins(bytes, at, front) && is_clear(behind)
+}
+
+// Whether all of a slice is zero.
+pub fn is_clear<T: Number>(numbers: &[T]) -> bool {
+    numbers.iter().all(|n| *n == T::default())
 }

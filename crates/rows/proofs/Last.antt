@@ -17,14 +17,9 @@ use Rattle.lists.proofs.Order.{Each, each-bucket, bucket-key}
 use Rattle.points.specs.declared.Point.{Point}
 use Rattle.points.specs.Points.{◌⊗◌, add_p, mul_p, finite_p}
 use Rattle.setting.specs.Settings.{Setting}
-use Rattle.projection.specs.declared.Projected.{Projected}
-use Rattle.projection.specs.declared.Projected.TheVariants.{Onto, Refused as RefusedPoint}
 use Rattle.projection.specs.Project.{project_of, is_onto, onto_of}
 use Rattle.projection.proofs.Finite.{onto-finite}
 use Rattle.rule_sheet.specs.declared.Counts.{Counts}
-use Rattle.rule_sheet.specs.declared.Verdict.{Verdict}
-use Rattle.rule_sheet.specs.declared.Verdict.TheVariants.{Accepted, Refused}
-use Rattle.rule_sheet.specs.Numbers.{clash, edge_number, short}
 use Rattle.rule_sheet.specs.Quads.{Quad, quad, all, uses, touches, has_label}
 use Rattle.rule_sheet.specs.Edges.{Pair, join_to, join_of, edges_of}
 use Rattle.rule_sheet.specs.Tests.{proper, low_label, good_corners, good_masks}
@@ -36,9 +31,13 @@ use Rattle.sheet.proofs.Tests.{Tested, tested, Whole, whole_of, bare-finite, low
 use Rattle.rule_sheet.specs.Outcomes.{refuses, gives, after_test}
 use Rattle.rule_finer.specs.Smoothed.{paired, label_count}
 use Rattle.subdivide_points.proofs.Moved.{each_append}
-use Rattle.rule_rows.specs.Rows.{row, key_of, is_copied, copies, number_of, or_else, try_from, copy_of, corner_for, copied_quad, copied_at, copied_quads, Side, side, label_of, low_of, high_of, four_sides, sides_of, edge_sides, two_labels, row_sides, strip_at, rows_sheet, rows_made, rowed}
+use Rattle.rule_rows.specs.Rows.{key_of, is_copied, copies, number_of, or_else, try_from, copy_of, corner_for, copied_quad, copied_at, copied_quads, Side, side, label_of, low_of, high_of, four_sides, sides_of, edge_sides, two_labels, row_sides, strip_at, rows_sheet, rows_made, rowed}
 use Rattle.numeric.specs.Num.{half}
 use Rattle.rows_copies.proofs.Put.{length-rows}
+use Rattle.std.specs.Prelude.{Ok, Err, Some, None, Option}
+use Rattle.rule_sheet.specs.Verdicts.{Verdict, Accepted}
+use Rattle.rule_sheet.specs.declared.Refusal.TheVariants.{Clash, Edge, Row, Short}
+use Rattle.rule_sheet.specs.declared.Refusal.{Refusal}
 
 -- ---- a copy that is found is finite
 
@@ -47,13 +46,13 @@ unfolding try_from
 try-finite zero b p d mask step = λ e. absurd (false≢true e)
 try-finite (suc n) b p d mask step = go (project_of b (add_p p (mul_p d step)) mask) (onto-finite b (add_p p (mul_p d step)) mask) (try-finite n b p d mask (step ⊗ half))
   where
-    later : Projected
+    later : Option Point
     later = try_from n b p d mask (step ⊗ half)
 
-    go : (x : Projected) → (is_onto x ≡ true → finite_p (onto_of x) ≡ true) → (is_onto later ≡ true → finite_p (onto_of later) ≡ true)
+    go : (x : Option Point) → (is_onto x ≡ true → finite_p (onto_of x) ≡ true) → (is_onto later ≡ true → finite_p (onto_of later) ≡ true)
         → is_onto (or_else x later) ≡ true → finite_p (onto_of (or_else x later)) ≡ true
-    go (Onto q) f ih e = f e
-    go RefusedPoint f ih e = ih e
+    go (Some q) f ih e = f e
+    go None f ih e = ih e
 
 -- ---- lists
 
@@ -345,21 +344,21 @@ module _ (b : Setting) (s : Sheet) (T : Tested s) (found : all (λ k. is_onto (c
       ∙ corners-good s whole.labelled (lows-of n s.quads s.labels T.corners) (proper-of n s.quads s.labels T.corners)
 
   -- of the tests only that of the masks is left
-  rows-verdict : sheet_verdict t ≡ cond (good_masks (length t.points) t.quads t.labels) Accepted (Refused clash)
+  rows-verdict : sheet_verdict t ≡ cond (good_masks (length t.points) t.quads t.labels) Accepted (Err Clash)
   unfolding sheet_verdict quads_verdict
   rows-verdict = rw (rows-bare, rows-corners)
 
 -- "boundary_rows 10, 8, 7": where all copies of an accepted sheet are found, the last test finds nothing or 7
 pub last-test : (b : Setting) (s : Sheet) → sheet_verdict s ≡ Accepted → all (λ k. is_onto (copy_of b s k)) (copies s) ≡ true
-    → (sheet_verdict (rows_sheet b s) ≡ Accepted) ⊎ (sheet_verdict (rows_sheet b s) ≡ Refused clash)
+    → (sheet_verdict (rows_sheet b s) ≡ Accepted) ⊎ (sheet_verdict (rows_sheet b s) ≡ Err Clash)
 last-test b s e f = go (good_masks (length (rows_sheet b s).points) (rows_sheet b s).quads (rows_sheet b s).labels) (rows-verdict b s (tested s e) f)
   where
-    go : (g : Bool) → sheet_verdict (rows_sheet b s) ≡ cond g Accepted (Refused clash) → (sheet_verdict (rows_sheet b s) ≡ Accepted) ⊎ (sheet_verdict (rows_sheet b s) ≡ Refused clash)
+    go : (g : Bool) → sheet_verdict (rows_sheet b s) ≡ cond g Accepted (Err Clash) → (sheet_verdict (rows_sheet b s) ≡ Accepted) ⊎ (sheet_verdict (rows_sheet b s) ≡ Err Clash)
     go true h = inl h
     go false h = inr h
 
 -- so after the tests of the lent sheet `boundary_rows` refuses with 13, 10, 8 or 7 only
-pub numbers-left : (b : Setting) (s : Sheet) (room : Room) (n : ℕ) → sheet_verdict s ≡ Accepted → rowed b s room ≡ refuses n → (n ≡ short) ⊎ ((n ≡ row) ⊎ ((n ≡ edge_number) ⊎ (n ≡ clash)))
+pub numbers-left : (b : Setting) (s : Sheet) (room : Room) (n : Refusal) → sheet_verdict s ≡ Accepted → rowed b s room ≡ refuses n → (n ≡ Short) ⊎ ((n ≡ Row) ⊎ ((n ≡ Edge) ⊎ (n ≡ Clash)))
 unfolding rowed rows_made
 numbers-left b s room n e = go (is_large c || is_short c room) (all (λ k. is_onto (copy_of b s k)) (copies s)) refl (paired (length s.points) s.quads) (sheet_verdict t) refl
   where
@@ -370,14 +369,14 @@ numbers-left b s room n e = go (is_large c || is_short c room) (all (λ k. is_on
     c = counts_of (rows_sheet b s)
 
     go : (over found : Bool) → all (λ k. is_onto (copy_of b s k)) (copies s) ≡ found → (pairs : Bool) (v : Verdict) → sheet_verdict t ≡ v
-        → cond over (refuses short) (cond found (cond pairs (after_test v (gives t)) (refuses edge_number)) (refuses row)) ≡ refuses n
-        → (n ≡ short) ⊎ ((n ≡ row) ⊎ ((n ≡ edge_number) ⊎ (n ≡ clash)))
+        → cond over (refuses Short) (cond found (cond pairs (after_test v (gives t)) (refuses Edge)) (refuses Row)) ≡ refuses n
+        → (n ≡ Short) ⊎ ((n ≡ Row) ⊎ ((n ≡ Edge) ⊎ (n ≡ Clash)))
     go true found f pairs v h x = inl (cc)
     go false false f pairs v h x = inr (inl (cc))
     go false true f false v h x = inr (inr (inl (cc)))
-    go false true f true Accepted h x = absurd (let z : ◌≡◌ {A = ℕ} 0 1 = cc in omega arith)
-    go false true f true (Refused k) h x = inr (inr (inr (last (last-test b s e f))))
+    go false true f true (Ok u) h x = absurd (let z : ◌≡◌ {A = ℕ} 0 1 = cc in omega arith)
+    go false true f true (Err k) h x = inr (inr (inr (last (last-test b s e f))))
       where
-        last : (sheet_verdict t ≡ Accepted) ⊎ (sheet_verdict t ≡ Refused clash) → n ≡ clash
+        last : (sheet_verdict t ≡ Accepted) ⊎ (sheet_verdict t ≡ Err Clash) → n ≡ Clash
         last (inl a) = absurd (let z : ◌≡◌ {A = ℕ} 0 1 = cc in omega arith)
-        last (inr a) = let r : Refused k ≡ Refused clash = sym h ∙ a in let i : refuses k ≡ refuses n = x in cc
+        last (inr a) = let r : Err k ≡ Err Clash = sym h ∙ a in let i : refuses k ≡ refuses n = x in cc

@@ -15,8 +15,6 @@ use Rattle.lists.proofs.Every.{and_left, every-at}
 use Rattle.lists.proofs.Regions.{part_of}
 use Rattle.setting.specs.Settings.{Setting}
 use Rattle.rule_sheet.specs.declared.Counts.{Counts}
-use Rattle.rule_sheet.specs.declared.Verdict.{Verdict}
-use Rattle.rule_sheet.specs.declared.Verdict.TheVariants.{Accepted, Refused}
 use Rattle.rule_sheet.specs.Quads.{Quad, quad, all}
 use Rattle.sheet.specs.Tests.{good_quad_at}
 use Rattle.rule_sheet.specs.Tests.{good_corners}
@@ -25,7 +23,6 @@ use Rattle.rule_sheet.specs.Sheet.{Sheet, points_of, flat_points, sheet_of, coun
 use Rattle.rule_sheet.specs.Lent.{Lent, Work, lent_of, Room, room_with, is_large, is_short}
 use Rattle.sheet.specs.Sheet.{masks_of, LentSheet}
 use Rattle.sheet.proofs.Tests.{or_left, or_right, holds_of, length-points, bare-is, labels-match, tested, some-quad, proper-of, corners-tested}
-use Rattle.rule_sheet.specs.declared.Answer.{Answer}
 use Rattle.rule_sheet.specs.Outcomes.{gives, after_test}
 use Rattle.sheet.specs.Results.{Front, Fills}
 use Rattle.rule_admission.specs.Admission.{setting_verdict, admits}
@@ -47,7 +44,10 @@ use Rattle.rows_gather.proofs.Numbers.{number-le}
 use Rattle.rows.proofs.Seams.{side_at, row-sides}
 use Rattle.rows_copies.proofs.Put.{length-rows}
 use Rattle.rows.proofs.Flat.{number_is, found-is, copies-are, copied-quads, length-copied, strips-are, strip-labels}
-use Rattle.rule_sheet.specs.declared.Answer.TheVariants as answers
+use Rattle.std.specs.Prelude.{Ok, Err}
+use Rattle.rule_sheet.specs.Verdicts.{Verdict, Answer, Accepted}
+use Rattle.rule_sheet.specs.declared.Refusal.{Refusal}
+use Rattle.rule_sheet.specs.declared.Refusal.TheVariants.{Edge, Row, Short}
 
 -- ---- the three slices
 
@@ -99,8 +99,8 @@ module _ {np nq : ℕ} {P : List Float} {Q labels M w : List ℕ} (G : Gathered 
     sheet-is = rw (ec, points-front t.points A (length t.points) FA refl, quads-front t.quads B (length t.quads) FB refl, front-take t.labels D (length t.labels) FD refl)
 
     made-fills : (v : Verdict) (r : Answer) → r ≡ made_by c v → Fills (after_test v (gives t)) r A B D
-    made-fills Accepted r er = record { answer = er ∙ ap (λ (k : Counts). answers.Done (record { count = 0; sheet = k })) ec; points = FA; quads = FB; labelled = FD }
-    made-fills (Refused n) r er = rw er (refused-fills n A B D)
+    made-fills (Ok u) r er = record { answer = er ∙ ap (λ (k : Counts). Ok (record { count = 0; sheet = k })) ec; points = FA; quads = FB; labelled = FD }
+    made-fills (Err n) r er = rw er (refused-fills n A B D)
 
     -- all copies are found, and the edges have two quads each
     pub rows-done : (r : Answer) → every (found_at b nq P Q labels M) (8 * np) ≡ true → paired np (quads_of nq Q) ≡ true → r ≡ made_by c (sheet_verdict (sheet_of c A B D)) → Fills (rows_made b s) r A B D
@@ -110,17 +110,17 @@ module _ {np nq : ℕ} {P : List Float} {Q labels M w : List ℕ} (G : Gathered 
         rw (g, length-points np P, pr) (made-fills (sheet_verdict t) r (rw sheet-is at er))
 
   -- 10 and 8
-  pub rows-lost : (A : List Float) (B D : List ℕ) → every (found_at b nq P Q labels M) (8 * np) ≡ false → Fills (rows_made b s) (answers.Refused 10) A B D
+  pub rows-lost : (A : List Float) (B D : List ℕ) → every (found_at b nq P Q labels M) (8 * np) ≡ false → Fills (rows_made b s) (Err Row) A B D
   unfolding rows_made
   rows-lost A B D f =
       let g : all (λ k. is_onto (copy_of b s k)) (copies s) ≡ false = sym (found-is G.sheet b) ∙ rw em at f in
-      rw g (refused-fills 10 A B D)
+      rw g (refused-fills Row A B D)
 
-  pub rows-open : (A : List Float) (B D : List ℕ) → every (found_at b nq P Q labels M) (8 * np) ≡ true → paired np (quads_of nq Q) ≡ false → Fills (rows_made b s) (answers.Refused 8) A B D
+  pub rows-open : (A : List Float) (B D : List ℕ) → every (found_at b nq P Q labels M) (8 * np) ≡ true → paired np (quads_of nq Q) ≡ false → Fills (rows_made b s) (Err Edge) A B D
   unfolding rows_made
   rows-open A B D f pr =
       let g : all (λ k. is_onto (copy_of b s k)) (copies s) ≡ true = sym (found-is G.sheet b) ∙ rw em at f in
-      rw (g, length-points np P, pr) (refused-fills 8 A B D)
+      rw (g, length-points np P, pr) (refused-fills Edge A B D)
 
 -- ---- the sheet with rows once it is gathered
 
@@ -185,11 +185,11 @@ module _ {m : Counts} {np nq : ℕ} {P : List Float} {Q labels w : List ℕ} {p 
       let G = F.gathered in
       rows-done G F.masks b (rw (points-are G F.masks b) at (FA e)) (rw (quads_are G F.masks b) at FB.0) (rw (labels-are G F.masks b) at FB.1) m (F.counts ∙ sym (counts_of_lem G F.masks b)) r (sym ef ∙ e) pr er
 
-  pub finished-lost : (b : Setting) (f : Bool) (A : List Float) (B D : List ℕ) → f ≡ every (found_at b nq P Q labels masks) (8 * np) → not f ≡ true → Fills (rows_made b (flat_sheet np nq P Q labels)) (answers.Refused 10) A B D
+  pub finished-lost : (b : Setting) (f : Bool) (A : List Float) (B D : List ℕ) → f ≡ every (found_at b nq P Q labels masks) (8 * np) → not f ≡ true → Fills (rows_made b (flat_sheet np nq P Q labels)) (Err Row) A B D
   finished-lost b f A B D ef e = rows-lost F.gathered F.masks b A B D (sym ef ∙ not-true f e)
 
   pub finished_open : (b : Setting) (f g : Bool) (A : List Float) (B D : List ℕ) → f ≡ every (found_at b nq P Q labels masks) (8 * np) → not f ≡ false → g ≡ paired np (quads_of nq Q) → not g ≡ true
-      → Fills (rows_made b (flat_sheet np nq P Q labels)) (answers.Refused 8) A B D
+      → Fills (rows_made b (flat_sheet np nq P Q labels)) (Err Edge) A B D
   finished_open b f g A B D ef e eg h = rows-open F.gathered F.masks b A B D (sym ef ∙ not-false f e) (sym eg ∙ not-true g h)
 
 -- ---- an accepted sheet
@@ -228,9 +228,9 @@ module _ (b : Setting) (c : Counts) (P : List Float) (Q labels u : List ℕ) (T 
     counts_same : counts_of (rows_sheet b (sheet_of c P Q labels)) ≡ m
     counts_same = rw (← same-sheet) (counts_of_lem gathered T.masks.is b ∙ sym e)
 
-    pub tested-over : (A : List Float) (B D : List ℕ) → over ≡ true → Fills (rowed b (sheet_of c P Q labels) (room_with p q l)) (answers.Refused 13) A B D
+    pub tested-over : (A : List Float) (B D : List ℕ) → over ≡ true → Fills (rowed b (sheet_of c P Q labels) (room_with p q l)) (Err Short) A B D
     unfolding rowed
-    tested-over A B D o = rw (counts_same, o) (refused-fills 13 A B D)
+    tested-over A B D o = rw (counts_same, o) (refused-fills Short A B D)
 
     pub tested-done : (r : Answer) (A : List Float) (B D : List ℕ) → over ≡ false → Fills (rows_made b (flat_sheet np nq P Q labels)) r A B D → Fills (rowed b (sheet_of c P Q labels) (room_with p q l)) r A B D
     unfolding rowed
@@ -254,7 +254,7 @@ module _ (b : Setting) (c : Counts) (P : List Float) (Q labels : List ℕ) (w : 
   abbrev x : Lent
   x = lent_of c P Q labels
 
-  pub rule-refused : (room : Room) (n : ℕ) (A : List Float) (B D : List ℕ) → admits b x w ≡ Refused n → Fills (rows_rule b x w room) (answers.Refused n) A B D
+  pub rule-refused : (room : Room) (n : Refusal) (A : List Float) (B D : List ℕ) → admits b x w ≡ Err n → Fills (rows_rule b x w room) (Err n) A B D
   unfolding rows_rule
   rule-refused room n A B D e = rw e (refused-fills n A B D)
 

@@ -27,6 +27,7 @@ use Rattle.edges.proofs.EdgeKinds.{kind_of, kind-first, kind-later}
 use Rattle.subdivide_points.specs.Steps.{flat_sheet}
 use Rattle.rule_rows.specs.Rows.{Side, side, low_of, high_of, four_sides, sides_of, edge_sides, two_labels, row_sides}
 use Rattle.rows_gather.specs.Steps.{corner_label, seam_at, seam_corners, seams_to, seams_of}
+use Rattle.edges.specs.declared.EdgeKind.TheVariants.{Opposite, Turned}
 use Rattle.edges.specs.Steps.{is_two, pair_at}
 
 -- ---- joins
@@ -82,7 +83,7 @@ two_corners labels (c ∷ []) = []
 two_corners labels (c ∷ d ∷ []) = cond (eqb (corner_label labels c) (corner_label labels d)) [] (c ∷ d ∷ [])
 two_corners labels (c ∷ d ∷ x ∷ l) = []
 
-two-kinds : (b : Bool) → is_two (cond b 3 2) ≡ true
+two-kinds : (b : Bool) → is_two (cond b Turned Opposite) ≡ true
 two-kinds true = refl
 two-kinds false = refl
 

@@ -1,21 +1,18 @@
 -- What the tests before the rows leave, and what the writing of the sheet with rows asks.
-use Rattle.std.specs.Prelude.{ℕ, ◌+◌, ◌*◌, ◌≤◌, ◌<◌, ◌≡◌, true, List, length, take, Float}
+use Rattle.std.specs.Prelude.{ℕ, ◌+◌, ◌*◌, ◌≤◌, ◌<◌, ◌≡◌, true, List, length, take, Float, Ok, Err}
 use Rattle.lists.specs.Regions.{part, Part}
 use Rattle.rule_sheet.specs.declared.Counts.{Counts}
-use Rattle.rule_sheet.specs.declared.Verdict.{Verdict}
-use Rattle.rule_sheet.specs.declared.Verdict.TheVariants.{Accepted, Refused}
-use Rattle.rule_sheet.specs.declared.Answer.{Answer}
 use Rattle.rule_sheet.specs.Quads.{all}
 use Rattle.rule_sheet.specs.Flat.{quads_of}
 use Rattle.sheet.specs.Sheet.{LentSheet, masks_of}
 use Rattle.rule_sheet.specs.Tests.{proper}
 use Rattle.rows_gather.specs.Steps.{masks_at, Labelled, Gathered, counts_after}
-use Rattle.rule_sheet.specs.declared.Answer.TheVariants as answers
+use Rattle.rule_sheet.specs.Verdicts.{Verdict, Answer}
 
 -- the answer for a made sheet of these counts, by the test of it
 abbrev pub made_by : Counts → Verdict → Answer
-made_by c Accepted = answers.Done (record { count = 0; sheet = c })
-made_by c (Refused n) = answers.Refused n
+made_by c (Ok u) = Ok (record { count = 0; sheet = c })
+made_by c (Err n) = Err n
 
 -- what the writing of the sheet with rows asks: the sheet and all that is gathered of it, its counts m, and room in
 -- result slices of p, q and l elements

@@ -15,24 +15,24 @@ ghost use Rattle.rule_rows.specs.Rows.{rows_made, rowed, rows_rule};
 ghost use Rattle.rows.specs.Steps.{made_by, Finished, Tested};
 
 use band::Band;
-use rule_sheet::{Answer, Counts, Tally, Verdict};
-
-// The number of a refusal: a copy for which all steps fail.
-pub const ROW: u32 = 10;
+use rule_sheet::{Counts, Refusal, Tally};
 
 // The answer for the sheet with rows, which is tested as a lent one.
-fn tested(c: Counts, points: &[f64], quads: &[u32], labels: &[u8], w: &mut [u32]) -> Answer
+fn tested(
+    c: Counts,
+    points: &[f64],
+    quads: &[u32],
+    labels: &[u8],
+    w: &mut [u32],
+) -> Result<Tally, Refusal>
     requires lent_sheet { LentSheet c (length points.now) (length quads.now) (length labels.now) }
     requires points_in_bounds { c.points ≤ length w.old }
     ensures { result ≡ made_by c (sheet_verdict (sheet_of c points.now quads.now
         labels.now)) }
 {
     let n = c.points;
-    let v = sheet::constraints(c, points, quads, labels, &mut w[..n]);
-    if let Verdict::Refused(k) = v {
-        return Answer::Refused(k);
-    }
-    Answer::Done(Tally { count: 0, sheet: c })
+    sheet::constraints(c, points, quads, labels, &mut w[..n])?;
+    Ok(Tally { count: 0, sheet: c })
 }
 
 // Writes the sheet with rows, whose counts are m, and tests it: 10, 8, 7.
@@ -48,7 +48,7 @@ fn put_sheet(
     new_quads: &mut [u32],
     new_labels: &mut [u8],
     w: &mut [u32],
-) -> Answer
+) -> Result<Tally, Refusal>
     requires { Finished m np nq points.now quads.now labels.now w.old (length new_points.old)
         (length new_quads.old) (length new_labels.old) }
     ensures { Fills (rows_made (setting_of b) (flat_sheet np nq points.now quads.now
@@ -56,10 +56,10 @@ fn put_sheet(
 {
     refine::copy_points(np, points, new_points);
     if !rows_copies::put_copies(b, points, quads, labels, np, nq, w, new_points) {
-        return Answer::Refused(ROW);
+        return Err(Refusal::Row);
     }
     if !subdivide_points::is_paired(np, nq, quads, w) {
-        return Answer::Refused(sheet::EDGE);
+        return Err(Refusal::Edge);
     }
     rows_quads::put_quads(
         points,
@@ -86,7 +86,7 @@ fn rows_tested(
     new_quads: &mut [u32],
     new_labels: &mut [u8],
     w: &mut [u32],
-) -> Answer
+) -> Result<Tally, Refusal>
     requires { Tested c points.now quads.now labels.now w.old }
     ensures { Fills (rowed (setting_of b) (sheet_of c points.now quads.now
         labels.now) (room_of new_points.old new_quads.old
@@ -95,7 +95,7 @@ fn rows_tested(
 {
     let m = rows_gather::gather(quads, labels, c.points, c.quads, w);
     if sheet::is_over(m, new_points.len(), new_quads.len(), new_labels.len()) {
-        return Answer::Refused(sheet::SHORT);
+        return Err(Refusal::Short);
     }
     put_sheet(
         b, m, points, quads, labels, c.points, c.quads, new_points, new_quads, new_labels, w,
@@ -114,16 +114,13 @@ fn rows_or_refusal(
     new_labels: &mut [u8],
     w: &mut [u32],
     floats: usize,
-) -> Answer
+) -> Result<Tally, Refusal>
     ensures { Fills (rows_rule (setting_of b) (lent_of c points.now quads.now
         labels.now) (work_with (length w.old) floats) (room_of new_points.old
         new_quads.old new_labels.old)) result new_points.new
         new_quads.new new_labels.new }
 {
-    let v = admission::admit(b, c, points, quads, labels, rows_gather::MASKS, w, floats);
-    if let Verdict::Refused(n) = v {
-        return Answer::Refused(n);
-    }
+    admission::admit(b, c, points, quads, labels, rows_gather::MASKS, w, floats)?;
     rows_tested(
         b, c, points, quads, labels, new_points, new_quads, new_labels, w,
     )
@@ -142,7 +139,7 @@ pub fn boundary_rows(
     new_labels: &mut [u8],
     work: &mut [u32],
     floats: &mut [f64],
-) -> Answer
+) -> Result<Tally, Refusal>
     ensures sheet { let x = lent_of c points.now quads.now labels.now in
         let room = room_of new_points.old new_quads.old new_labels.old in
         Makes (rows_rule (setting_of b) x (work_of work.old floats.old) room) room result

@@ -14,8 +14,6 @@ use Rattle.points.specs.declared.Point.{Point}
 use Rattle.points.specs.Points.{point_at}
 use Rattle.points.specs.Steps.{with_point}
 use Rattle.setting.specs.Settings.{Setting}
-use Rattle.projection.specs.declared.Projected.{Projected}
-use Rattle.projection.specs.declared.Projected.TheVariants.{Onto, Refused}
 use Rattle.rule_sheet.specs.Edges.{join_to}
 use Rattle.rule_sheet.specs.Sheet.{Sheet, points_of, flat_points}
 use Rattle.sheet.proofs.Tests.{length-points}
@@ -26,6 +24,7 @@ use Rattle.rule_rows.specs.Rows.{is_copied, copies, number_of, first_step, try_c
 use Rattle.projection.specs.Project.{onto_of}
 use Rattle.rows_gather.specs.Steps.{copied_in, number_in, points_after}
 use Rattle.rows_copies.specs.Steps.{inward_at, copy_at, found_at, put_copy, copies_to}
+use Rattle.std.specs.Prelude.{Some, None, Option}
 
 -- ---- the numbers that pass a test
 
@@ -74,7 +73,6 @@ module _ (b : Setting) (np nq : ℕ) (P : List Float) (Q labels M : List ℕ) wh
 
   -- the invariant of the loop over the keys
   pub record CopyLoop (d s : List Float) (k : ℕ) : Type 0 where
-    pub k≤ : k ≤ 8 * np
     pub len : length s ≡ length d
     pub room : 3 * points_after np M ≤ length d
     pub front : Front (flat_points (points_of np P ++ copies_to b nq P Q labels M k)) s
@@ -82,7 +80,7 @@ module _ (b : Setting) (np nq : ℕ) (P : List Float) (Q labels M : List ℕ) wh
 
   pub copies-start : (d : List Float) → 3 * points_after np M ≤ length d → Front (flat_points (points_of np P)) d → CopyLoop d d 0
   unfolding copies_to those join_to
-  copies-start d h F = record { k≤ = omega arith; len = refl; room = h; front = rw (append-nil) F; all = every-zero found_by }
+  copies-start d h F = record { len = refl; room = h; front = rw (append-nil) F; all = every-zero found_by }
 
   pub copies-turn : {d s : List Float} {k : ℕ} (r : List Float) (t : Bool) → CopyLoop d s k → k < 8 * np → t ≡ found_by k → t ≡ true → (t ≡ true → r ≡ put_copy b np nq P Q labels M k s) → CopyLoop d r (k + 1)
   unfolding put_copy
@@ -93,7 +91,6 @@ module _ (b : Setting) (np nq : ℕ) (P : List Float) (Q labels M : List ℕ) wh
 
       go : (c : Bool) → copied_in M k ≡ c → CopyLoop d r (k + 1)
       go false c = record {
-        k≤ = omega arith;
         len = rw (er e, c) I.len;
         room = I.room;
         front = rw (er e, copies-suc k, c, append-nil) I.front;
@@ -102,7 +99,6 @@ module _ (b : Setting) (np nq : ℕ) (P : List Float) (Q labels M : List ℕ) wh
       go true c =
           let n = number_at np M k c h in
           record {
-            k≤ = omega arith;
             len = rw (er e, c) (length-with s (number_in np M k) (placed k) ∙ I.len);
             room = I.room;
             front = rw (er e, copies-suc k, c, ← append_assoc (points_of np P) (copies_to b nq P Q labels M k)) (front-point ps (number_in np M k) (placed k) I.front (sym (length-copies k)) (omega (arith, I.len, I.room)));
@@ -112,8 +108,8 @@ module _ (b : Setting) (np nq : ℕ) (P : List Float) (Q labels M : List ℕ) wh
   pub copies-fail : {d s : List Float} {k : ℕ} (t : Bool) (z : List Float) → CopyLoop d s k → k < 8 * np → t ≡ found_by k → t ≡ false → (false ≡ every found_by (8 * np)) × (false ≡ true → Front (flat_points (points_of np P ++ copies_to b nq P Q labels M (8 * np))) z)
   copies-fail {d} {s} {k} t z I h et e = (sym (every-fails found_by (8 * np) k h (sym et ∙ e)), λ q. absurd (true≢false (sym q)))
 
-  pub copies-end : {d s : List Float} {k : ℕ} → CopyLoop d s k → 8 * np ≤ k → (true ≡ every found_by (8 * np)) × (true ≡ true → Front (flat_points (points_of np P ++ copies_to b nq P Q labels M (8 * np))) s)
-  copies-end {d} {s} {k} I h = let e : k ≡ 8 * np = omega (arith, I.k≤) in (sym (rw e at I.all), λ q. rw e at I.front)
+  pub copies-end : {d s : List Float} {k : ℕ} → CopyLoop d s k → k ≡ 8 * np → (true ≡ every found_by (8 * np)) × (true ≡ true → Front (flat_points (points_of np P ++ copies_to b nq P Q labels M (8 * np))) s)
+  copies-end {d} {s} {k} I e = (sym (rw e at I.all), λ q. rw e at I.front)
 
   -- ---- one key
 
@@ -121,11 +117,11 @@ module _ (b : Setting) (np nq : ℕ) (P : List Float) (Q labels M : List ℕ) wh
   unfolding found_at put_copy
   put-none k t s et e = let f = sym et ∙ e in (rw f, λ q. rw f)
 
-  pub put-fails : (k : ℕ) (t : Bool) (r : Projected) (s z : List Float) → t ≡ copied_in M k → t ≡ true → r ≡ copy_at b nq P Q labels k → r ≡ Refused → (false ≡ found_by k) × (false ≡ true → z ≡ put_copy b np nq P Q labels M k s)
+  pub put-fails : (k : ℕ) (t : Bool) (r : Option Point) (s z : List Float) → t ≡ copied_in M k → t ≡ true → r ≡ copy_at b nq P Q labels k → r ≡ None → (false ≡ found_by k) × (false ≡ true → z ≡ put_copy b np nq P Q labels M k s)
   unfolding found_at
   put-fails k t r s z et e er f = let c = sym et ∙ e in (rw (c, ← er, f), λ q. absurd (true≢false (sym q)))
 
-  pub put-found : (k : ℕ) (t : Bool) (r : Projected) (p : Point) (x : ℕ) (s z : List Float) → t ≡ copied_in M k → t ≡ true → r ≡ copy_at b nq P Q labels k → r ≡ Onto p → x ≡ number_in np M k
+  pub put-found : (k : ℕ) (t : Bool) (r : Option Point) (p : Point) (x : ℕ) (s z : List Float) → t ≡ copied_in M k → t ≡ true → r ≡ copy_at b nq P Q labels k → r ≡ Some p → x ≡ number_in np M k
       → z ≡ with_point s x p → (true ≡ found_by k) × (true ≡ true → z ≡ put_copy b np nq P Q labels M k s)
   unfolding found_at put_copy
   put-found k t r p x s z et e er f ex ez = let c = sym et ∙ e in (rw (c, ← er, f), λ q. rw (c, ← er, f, ← ex) ez)
@@ -135,7 +131,7 @@ pub number-room : (np : ℕ) (M : List ℕ) (k x n : ℕ) (t : Bool) → t ≡ c
 number-room np M k x n t et e h ex r = omega (arith, number_at np M k (sym et ∙ e) h)
 
 -- the copy that the code asks for
-pub copy-by : (b : Setting) (nq : ℕ) (P : List Float) (Q labels : List ℕ) (k m : ℕ) (p d : Point) (r : Projected) → r ≡ try_from try_count b p d m first_step → m ≡ 2 ^ (k % 8) → p ≡ point_at P (k / 8)
+pub copy-by : (b : Setting) (nq : ℕ) (P : List Float) (Q labels : List ℕ) (k m : ℕ) (p d : Point) (r : Option Point) → r ≡ try_from try_count b p d m first_step → m ≡ 2 ^ (k % 8) → p ≡ point_at P (k / 8)
     → d ≡ inward_at nq P Q labels (k / 8) (k % 8) → r ≡ copy_at b nq P Q labels k
 unfolding copy_at
 copy-by b nq P Q labels k m p d r er em ep ed = rw (← em, ← ep, ← ed) er

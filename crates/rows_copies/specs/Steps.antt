@@ -1,11 +1,10 @@
 -- Where the copies lie, over flat lists: coordinates P, corners Q, labels and masks M.
-use Rattle.std.specs.Prelude.{ℕ, ◌+◌, ◌/◌, ◌^◌, Bool, cond, not, ◌||◌, List, map, eqb, length, get_or, Float}
+use Rattle.std.specs.Prelude.{ℕ, ◌+◌, ◌/◌, ◌^◌, Bool, cond, not, ◌||◌, List, map, eqb, length, get_or, Float, Option}
 use Rattle.lists.specs.Sort.{keep}
 use Rattle.points.specs.declared.Point.{Point}
 use Rattle.points.specs.Points.{add_p, sub_p, point_at}
 use Rattle.points.specs.Steps.{with_point}
 use Rattle.setting.specs.Settings.{Setting}
-use Rattle.projection.specs.declared.Projected.{Projected}
 use Rattle.sheet.specs.Edges.{point_corners}
 use Rattle.smoothing.specs.Smooth.{mean, sum_of}
 use Rattle.smoothing.specs.Rounded.{pointwise}
@@ -35,7 +34,7 @@ inward_at nq P Q labels v l =
     sub_p (mean pointwise c.sum c.count) (point_at P v)
 
 -- the copy of the key k
-unfoldable pub copy_at : Setting → ℕ → List Float → List ℕ → List ℕ → ℕ → Projected
+unfoldable pub copy_at : Setting → ℕ → List Float → List ℕ → List ℕ → ℕ → Option Point
 copy_at s nq P Q labels k =
     try_from try_count s (point_at P (key_point k)) (inward_at nq P Q labels (key_point k) (key_label k))
     (2 ^ key_label k) first_step

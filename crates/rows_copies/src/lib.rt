@@ -2,7 +2,7 @@
 
 #![tactic(auto)]
 
-ghost use Rattle.std.specs.Prelude.{◌≡◌, true, cond, ◌++◌, ◌*◌, ◌<◌, ◌≤◌, length};
+ghost use Rattle.std.specs.Prelude.{◌≡◌, true, ◌++◌, ◌*◌, ◌<◌, ◌≤◌, length};
 ghost use Rattle.lists.specs.Sort.{keep};
 ghost use Rattle.lists.specs.Every.{every};
 ghost use Rattle.lists.specs.Regions.{part};
@@ -12,7 +12,7 @@ ghost use Rattle.rule_sheet.specs.Sheet.{points_of, flat_points};
 ghost use Rattle.sheet.specs.Results.{Front};
 ghost use Rattle.incidence.specs.Corners.{Positioned};
 ghost use Rattle.incidence.specs.Marks.{Incident};
-ghost use Rattle.subdivide_points.specs.Steps.{Below};
+ghost use Rattle.subdivide_points.specs.Steps.{Low};
 ghost use Rattle.rule_rows.specs.Rows.{first_step, try_count, try_from};
 ghost use Rattle.rows_gather.specs.Steps.{points_after, starts_at, list_at, masks_at, Labelled, Gathered};
 ghost use Rattle.rows_copies.specs.Steps.{of_label, centres_of, with_centre, inward_at, copy_at, found_at, put_copy};
@@ -20,7 +20,7 @@ ghost use Rattle.rows_copies.specs.Steps.{copies_to};
 
 use band::Band;
 use points::Point;
-use projection::{LONGEST_MOVE, LOOKS, Projected};
+use projection::{LONGEST_MOVE, LOOKS};
 
 // The first step of a copy towards the centres, and how many are tried, each half as long as the one before.
 pub const FIRST_STEP: f64 = 0.7;
@@ -34,70 +34,63 @@ pub struct Centres {
     pub count: usize,
 }
 
-// One centre more, if it is one of the label.
-fn with_centre(c: Centres, test: bool, p: Point) -> Centres
+// One centre more.
+fn with_centre(c: Centres, p: Point) -> Centres
     requires { c.count < 4294967296 }
-    ensures { result ≡ cond test (with_centre c p) c }
+    ensures { result ≡ with_centre c p }
 {
-    if !test {
-        return c;
-    }
     Centres {
         sum: points::add(c.sum, p),
         count: c.count + 1,
     }
 }
 
-// The centres of those quads of the m corners at from that have the label l.
+// The centres of those quads of some corners that have the label l.
 fn centres_at(
     points: &[f64],
     quads: &[u32],
     labels: &[u8],
     np: usize,
     nq: usize,
-    from: usize,
-    m: usize,
+    corners: &[u32],
     l: u32,
-    w: &[u32],
 ) -> Centres
     requires positioned { Positioned np nq points.now quads.now }
     requires nq_in_bounds { nq ≤ length labels.now }
-    requires below { Below (4 * nq) from m w.now }
-    requires m_bound { m < 4294967296 }
+    requires low { Low (4 * nq) corners.now }
+    requires few { length corners.now < 4294967296 }
     ensures { result ≡ centres_of points.now quads.now
-        (keep (of_label labels.now l) (part from m w.now)) }
+        (keep (of_label labels.now l) corners.now) }
 {
     let mut c = Centres {
         sum: points::origin(),
         count: 0,
     };
-    let mut j = 0;
-    while j < m {
-        let q = lists::at(w, from + j) / 4;
-        let p = subdivide_points::centre_at(points, quads, np, nq, q);
-        c = with_centre(c, lists::byte_at(labels, q) == l, p);
-        j += 1;
+    for corner in corners {
+        let q = *corner as usize / 4;
+        if lists::byte_at(labels, q) == l {
+            let p = subdivide_points::centre_at(points, quads, np, nq, q);
+            c = with_centre(c, p);
+        }
     }
     c
 }
 
 // The first projection of p + d × step that succeeds, the steps halved from the first on.
-fn first_found(b: Band, len: f64, p: Point, d: Point, mask: u8) -> Projected
+fn first_found(b: Band, len: f64, p: Point, d: Point, mask: u8) -> Option<Point>
     requires { len ≡ length_of b }
     ensures { result ≡ try_from try_count (setting_of b) p d mask first_step }
 {
     let mut step = FIRST_STEP;
-    let mut left = TRIES;
-    while 0 < left {
+    for _tried in 0..TRIES {
         let q = points::add(p, points::mul(d, step));
         let r = projection::project(b, len, LONGEST_MOVE, LOOKS, q, mask);
-        if let Projected::Onto(_) = r {
+        if let Some(_) = r {
             return r;
         }
         step *= 0.5;
-        left -= 1;
     }
-    Projected::Refused
+    None
 }
 
 // From point v to the mean of the centres of the quads of the label l at it.
@@ -126,7 +119,7 @@ fn inward_at(
         v,
         w,
     );
-    let c = centres_at(points, quads, labels, np, nq, s.from, s.size, l, w);
+    let c = centres_at(points, quads, labels, np, nq, s, l);
     let mean = smoothing::mean(c.sum, c.count);
     points::sub(mean, points::point_at(points, v))
 }
@@ -142,7 +135,7 @@ fn copy_at(
     nq: usize,
     k: usize,
     w: &[u32],
-) -> Projected
+) -> Option<Point>
     requires len_value { len ≡ length_of b }
     requires labelled { Labelled np nq points.now quads.now labels.now }
     requires incident { Incident np nq quads.now (starts_at np nq) (list_at np nq) 0 w.now }
@@ -182,7 +175,7 @@ fn put_copy(
     let n = np + nq;
     if rows_gather::is_copied(np, rows_gather::MASKS * n, k, w) {
         let r = copy_at(b, len, points, quads, labels, np, nq, k, w);
-        let Projected::Onto(p) = r else {
+        let Some(p) = r else {
             return false;
         };
         points::put_point(out, lists::at(w, rows_gather::NUMBERS * n + k), p);
@@ -212,11 +205,8 @@ pub fn put_copies(
         (part (masks_at np nq) np w.now) (8 * np))) out.new }
 {
     let len = band::length(b);
-    let mut k = 0;
-    while k < 8 * np {
-        if put_copy(b, len, points, quads, labels, np, nq, k, w, out) {
-            k += 1;
-        } else {
+    for k in 0..8 * np {
+        if !put_copy(b, len, points, quads, labels, np, nq, k, w, out) {
             return false;
         }
     }

@@ -117,21 +117,19 @@ module _ {np nq : ℕ} {Q labels : List ℕ} {i next : ℕ} {w : List ℕ} (S : 
 
 -- the invariant of the loop over the places: v is the slice as it came
 pub record SeamLoop (np nq : ℕ) (Q labels : List ℕ) (v w : List ℕ) (next i : ℕ) : Type 0 where
-  pub i≤ : i ≤ 4 * nq
   pub here : Seaming np nq Q labels i next w
   pub kept : Kept (Out (seams_at np nq) (8 * nq)) v w
 
 pub seams-start : {np nq : ℕ} {Q labels v : List ℕ} → Seaming np nq Q labels 0 0 v → SeamLoop np nq Q labels v v 0 0
-seams-start S = record { i≤ = omega arith; here = S; kept = kept_refl _ _ }
+seams-start S = record { here = S; kept = kept_refl _ _ }
 
-pub seams-turn : {np nq : ℕ} {Q labels v w u : List ℕ} {next i r : ℕ} → SeamLoop np nq Q labels v w next i → i < 4 * nq → Seaming np nq Q labels (i + 1) r u × Kept (Out (seams_at np nq) (8 * nq)) w u → SeamLoop np nq Q labels v u r (i + 1)
-seams-turn I h S = record { i≤ = omega arith; here = S.0; kept = kept_then I.kept S.1 (λ i o. (o, o)) }
+pub seams-turn : {np nq : ℕ} {Q labels v w u : List ℕ} {next i r : ℕ} → SeamLoop np nq Q labels v w next i → Seaming np nq Q labels (i + 1) r u × Kept (Out (seams_at np nq) (8 * nq)) w u → SeamLoop np nq Q labels v u r (i + 1)
+seams-turn I S = record { here = S.0; kept = kept_then I.kept S.1 (λ i o. (o, o)) }
 
-pub seams-end : {np nq : ℕ} {Q labels v w : List ℕ} {next i : ℕ} → SeamLoop np nq Q labels v w next i → 4 * nq ≤ i
+pub seams-end : {np nq : ℕ} {Q labels v w : List ℕ} {next i : ℕ} → SeamLoop np nq Q labels v w next i → i ≡ 4 * nq
     → (next ≡ length (seams_of np nq Q labels)) × (Part (seams_at np nq) (length (seams_of np nq Q labels)) (seams_of np nq Q labels) w × Kept (Out (seams_at np nq) (8 * nq)) v w)
 unfolding seams_of
-seams-end {np} {nq} {Q} {labels} {v} {w} {next} {i} I h =
-    let e : i ≡ 4 * nq = omega (arith, I.i≤) in
+seams-end {np} {nq} {Q} {labels} {v} {w} {next} {i} I e =
     let P : Part (seams_at np nq) next (seams_to Q labels (4 * nq) (edge_order np nq Q) (4 * nq)) w = rw e at I.here.done in
     let n : next ≡ length (seams_to Q labels (4 * nq) (edge_order np nq Q) (4 * nq)) = sym (part-len P) in
     (n, (rw n at P, I.kept))

@@ -13,6 +13,7 @@ use Rattle.lists.proofs.Every.{count-le}
 use Rattle.lists.proofs.Regions.{part_of, part-get, RegionFilled, region-start, region-turn, region-end, region-other}
 use Rattle.rule_sheet.specs.Lent.{limit}
 use Rattle.rule_sheet.specs.Quads.{num}
+use Rattle.std.specs.Int.{from_bool}
 use Rattle.rows_gather.specs.Steps.{copied_by, copied_in, number_in, numbers_at}
 use Rattle.lists.proofs.Laws.{get_or-tab}
 
@@ -25,9 +26,13 @@ num-cond : (b : Bool) → num b ≡ cond b 1 0
 num-cond true = refl
 num-cond false = refl
 
-pub num-le : (b : Bool) → num b ≤ 1
-num-le true = omega arith
-num-le false = omega arith
+pub bit-le : (b : Bool) → from_bool b ≤ 1
+bit-le true = omega arith
+bit-le false = omega arith
+
+bit-num : (b : Bool) → from_bool b ≡ num b
+bit-num true = refl
+bit-num false = refl
 
 number-suc : (np : ℕ) (M : List ℕ) (k : ℕ) → number_in np M (k + 1) ≡ number_in np M k + num (copied_in M k)
 unfolding number_in count_to
@@ -65,13 +70,13 @@ module _ {np masks pos : ℕ} {v w : List ℕ} {next k : ℕ} (I : NumberLoop np
   masks-kept : (x : ℕ) → k < 8 * np → x ≡ next → part masks np (set w (pos + k) x) ≡ part masks np v
   masks-kept x h e = (region-other (number_put x h e) (part_of masks np v I.in_masks) I.apart).is
 
-  pub numbers-turn : (x o : ℕ) (t : Bool) → k < 8 * np → x ≡ next → t ≡ copied_in (part masks np (set w (pos + k) x)) k → o ≡ num t → NumberLoop np masks pos v (set w (pos + k) x) (next + o) (k + 1)
+  pub numbers-turn : (x o : ℕ) (t : Bool) → k < 8 * np → x ≡ next → t ≡ copied_in (part masks np (set w (pos + k) x)) k → o ≡ from_bool t → NumberLoop np masks pos v (set w (pos + k) x) (next + o) (k + 1)
   numbers-turn x o t h e et eo = record {
     few = I.few;
     in_masks = I.in_masks;
     apart = I.apart;
     filled = number_put x h e;
-    next_is = rw (number-suc np (part masks np v) k, ← masks-kept x h e, ← et, ← eo) (ap (λ (i : ℕ). i + o) (I.next_is ∙ rw (masks-kept x h e) refl));
+    next_is = rw (number-suc np (part masks np v) k, ← masks-kept x h e, ← et, ← bit-num t, ← eo) (ap (λ (i : ℕ). i + o) (I.next_is ∙ rw (masks-kept x h e) refl));
   }
 
   pub numbers-end : 8 * np ≤ k

@@ -58,11 +58,9 @@ fn number_copies(np: usize, masks: usize, num: usize, w: &mut [u32]) -> usize
     ensures kept { Kept (Out num (8 * np)) w.old w.new }
 {
     let mut next = np;
-    let mut k = 0;
-    while k < 8 * np {
+    for k in 0..8 * np {
         w[num + k] = next as u32;
-        next += sheet::one_if(is_copied(np, masks, k, w));
-        k += 1;
+        next += usize::from(is_copied(np, masks, k, w));
     }
     next
 }
@@ -121,10 +119,8 @@ fn list_seams(quads: &[u32], labels: &[u8], np: usize, nq: usize, w: &mut [u32])
     ensures kept { Kept (Out (seams_at np nq) (8 * nq)) w.old w.new }
 {
     let mut next = 0;
-    let mut i = 0;
-    while i < 4 * nq {
+    for i in 0..4 * nq {
         next = put_seam(quads, labels, np, nq, i, next, w);
-        i += 1;
     }
     next
 }

@@ -5,6 +5,7 @@ use mathlib.Core.Bool.{Bool, true, false}
 use mathlib.Core.List.{List, [], ◌∷◌, ◌++◌, map}
 use native.Mathlib.Omega.{arith}
 use lib.ListN.{length, get_or, take, length-append}
+use lib.Seq.{length-take-le}
 use lib.Ieee.{Float}
 use Rattle.lists.specs.Sort.{tabulate}
 use Rattle.lists.proofs.Regions.{part-get, element_of, tab-own}
@@ -18,7 +19,6 @@ use Rattle.rows_gather.proofs.Lists.{seams-low}
 use borrow.Rule.Slice.PartMut.{put_mid, mid_of}
 use Rattle.lists.proofs.Parts.{put-end, length-end}
 use Rattle.sheet.specs.Results.{Front}
-use Rattle.incidence.proofs.Corners.{cornered}
 
 -- ---- what is read of the sheet
 
@@ -61,6 +61,10 @@ module _ {np nq : ℕ} {P : List Float} {Q labels M w : List ℕ} (G : Gathered 
 -- a list by its elements
 pub map-own : {A : Type 0} (g : ℕ → A) (l : List ℕ) (n : ℕ) → n ≡ length l → tabulate (λ k. g (get_or l k 0)) n ≡ map g l
 map-own g l n e = sym (ap (map g) (sym (tab-own 0 l n (sym e))) ∙ map-tab g (element_of 0 l) n)
+
+-- the first n elements stand in front
+pub front-take : {A : Type 0} (n : ℕ) (l : List A) → n ≤ length l → Front (take n l) l
+front-take n l h = let e : length (take n l) ≡ n = length-take-le n l h in record { fits = omega arith; is = rw e }
 
 -- a slice whose front is written, and what lies behind it by a part to the end
 pub front-behind : {A : Type 0} {l m s y : List A} (a : ℕ) → Front l s → length l ≡ a → Front m y → length y ≡ length (mid_of a (length s - a) s) → Front (l ++ m) (put_mid a (length s - a) s y)

@@ -50,10 +50,8 @@ fn put_copied(
     ensures { Front (tabulate (corner_in np quads.now labels.now
         (part (masks_at np nq) np w.now)) (4 * nq)) out.new }
 {
-    let mut c = 0;
-    while c < 4 * nq {
+    for c in 0..4 * nq {
         out[c] = corner_for(points, quads, labels, np, nq, c, w);
-        c += 1;
     }
 }
 
@@ -63,11 +61,7 @@ fn copy_labels(nq: usize, labels: &[u8], out: &mut [u8])
     requires nq_in_bounds_2 { nq ≤ length out.old }
     ensures { Front (take nq labels.now) out.new }
 {
-    let mut i = 0;
-    while i < nq {
-        out[i] = labels[i];
-        i += 1;
-    }
+    out[..nq].copy_from_slice(&labels[..nq]);
 }
 
 // Puts the strip at corner c to place i.
@@ -116,11 +110,9 @@ fn put_strips(
         out.new }
 {
     let at = rows_gather::SEAMS * (np + nq);
-    let mut t = 0;
-    while t < m {
+    for t in 0..m {
         let c = lists::at(w, at + t);
         put_strip(points, quads, labels, np, nq, c, t, w, out);
-        t += 1;
     }
 }
 
@@ -142,10 +134,8 @@ fn put_strip_labels(
         (seams_of np nq quads.now labels.now)) out.new }
 {
     let at = rows_gather::SEAMS * (np + nq);
-    let mut t = 0;
-    while t < m {
+    for t in 0..m {
         out[t] = labels[lists::at(w, at + t) / 4];
-        t += 1;
     }
 }
 

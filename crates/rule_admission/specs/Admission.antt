@@ -1,28 +1,27 @@
 -- The tests of a call on a lent sheet. Document 01, "Numbers a setter may read": "Order for a lent sheet: 12, 13
 -- (counts or work), 1, 5, 6, 7".
-use Rattle.std.specs.Prelude.{cond}
+use Rattle.std.specs.Prelude.{cond, Ok, Err}
 use Rattle.band.specs.Bands.{valid_of, measurable_of}
 use Rattle.setting.specs.Settings.{Domain, Setting, band_in, domain_in}
-use Rattle.rule_sheet.specs.declared.Verdict.{Verdict}
-use Rattle.rule_sheet.specs.declared.Verdict.TheVariants.{Accepted, Refused}
-use Rattle.rule_sheet.specs.Numbers.{box}
 use Rattle.rule_sheet.specs.Lent.{Lent, Work, held, room_in, lent_verdict}
 use Rattle.rule_sheet.specs.Sheet.{sheet_verdict}
+use Rattle.rule_sheet.specs.Verdicts.{Verdict, Accepted}
+use Rattle.rule_sheet.specs.declared.Refusal.TheVariants.{Box}
 
 -- a test, and another one where it finds nothing
 abbrev pub and_then : Verdict → Verdict → Verdict
-and_then Accepted v = v
-and_then (Refused n) v = Refused n
+and_then (Ok u) v = v
+and_then (Err n) v = Err n
 
 -- 1, box: "levels, bounds or length fail `validate`"; document 02, Point 12: "every operation that tests a band refuses
 -- a lower level that is not finite as box"
 unfoldable pub domain_verdict : Domain → Verdict
-domain_verdict d = cond (valid_of (band_in d)) Accepted (Refused box)
+domain_verdict d = cond (valid_of (band_in d)) Accepted (Err Box)
 
 -- the same of a call that only measures: "Only quality, and with it the page and the corners per point, keeps the old
 -- rule"
 unfoldable pub measurable_verdict : Domain → Verdict
-measurable_verdict d = cond (measurable_of (band_in d)) Accepted (Refused box)
+measurable_verdict d = cond (measurable_of (band_in d)) Accepted (Err Box)
 
 -- the test of all that a call brings
 abbrev pub setting_verdict : Setting → Verdict

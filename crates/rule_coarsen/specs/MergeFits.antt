@@ -1,13 +1,11 @@
 -- What a merge's rule reads of the points, and the position of the merged point. Document 01, "The merged sheet".
-use Rattle.std.specs.Prelude.{ℕ, Bool, false, not, cond, ◌||◌, List, length, get_or, eqb, Float}
+use Rattle.std.specs.Prelude.{ℕ, Bool, false, not, cond, ◌||◌, List, length, get_or, eqb, Float, Some, None, Option}
 use Rattle.lists.specs.Every.{every}
 use Rattle.points.specs.declared.Point.{Point}
 use Rattle.points.specs.Points.{halfway_p, point_in}
 use Rattle.field.specs.declared.Field.{Field}
 use Rattle.setting.specs.Settings.{Setting, band_in, domain_in}
 use Rattle.band.specs.Bands.{length_of, normal_with}
-use Rattle.projection.specs.declared.Projected.{Projected}
-use Rattle.projection.specs.declared.Projected.TheVariants.{Onto, Refused}
 use Rattle.projection.specs.Project.{project_of, onto_of}
 use Rattle.rule_sheet.specs.Quads.{Quad, has_label, pack}
 use Rattle.rule_sheet.specs.Sheet.{Sheet}
@@ -22,7 +20,7 @@ unfoldable pub joined_mask : List Quad → List ℕ → ℕ → ℕ → ℕ
 joined_mask S labels a c = pack (λ l. has_label S labels a l || has_label S labels c l)
 
 -- the projection of the halfway point of a and c, with the joined mask of the sheet at the pass's start
-unfoldable pub moved_to : Setting → Sheet → List Point → ℕ → ℕ → Projected
+unfoldable pub moved_to : Setting → Sheet → List Point → ℕ → ℕ → Option Point
 moved_to w s ps a c = project_of w (halfway_p (point_in ps a) (point_in ps c)) (joined_mask s.quads s.labels a c)
 
 -- the places with the merged point in place of both
@@ -49,9 +47,9 @@ abbrev pub merge_at : ℕ → ℕ → ℕ → Point → Merge
 merge_at f a c p = record { face = f; a = a; c = c; to = p }
 
 -- "If projecting the halfway point is refused, that diagonal is passed over."
-abbrev pub fits_at : Setting → Sheet → List Point → ℕ → ℕ → ℕ → Projected → Bool
-fits_at w s ps f a c (Onto p) = every (other_stays w s ps (merge_at f a c p)) (length s.quads)
-fits_at w s ps f a c Refused = false
+abbrev pub fits_at : Setting → Sheet → List Point → ℕ → ℕ → ℕ → Option Point → Bool
+fits_at w s ps f a c (Some p) = every (other_stays w s ps (merge_at f a c p)) (length s.quads)
+fits_at w s ps f a c None = false
 
 -- the part of the merges' rule that reads the points
 unfoldable pub merge_fits : Setting → Sheet → MergeFits

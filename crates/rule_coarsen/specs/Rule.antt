@@ -1,13 +1,13 @@
 -- The rule of `coarsen`, from lent slices to what is left in them. Document 01, "The merged sheet".
 use Rattle.std.specs.Prelude.{ℕ, cond, eqb}
 use Rattle.setting.specs.Settings.{Setting}
-use Rattle.rule_sheet.specs.declared.Verdict.{Verdict}
 use Rattle.rule_sheet.specs.Sheet.{Sheet}
 use Rattle.rule_sheet.specs.Lent.{Lent, Work, held, room_in, lent_verdict}
 use Rattle.rule_sheet.specs.Outcomes.{Outcome, gives, RunEnd, after_test}
 use Rattle.rule_admission.specs.Admission.{admits}
 use Rattle.rule_coarsen.specs.Coarse.{coarse_run}
 use Rattle.rule_coarsen.specs.MergeFits.{merge_fits, merge_position}
+use Rattle.rule_sheet.specs.Verdicts.{Verdict}
 
 -- at most k passes over a sheet
 abbrev pub coarse_sheet : Setting → ℕ → Sheet → RunEnd Sheet

@@ -8,10 +8,3 @@ pub struct Ratio {
     pub quotient: usize,
     pub remainder: usize,
 }
-
-// What `corners_per_point` answers: the two numbers, or the number of a refusal.
-#[derive(Clone, Copy)]
-pub enum Divided {
-    Done(Ratio),
-    Refused(u32),
-}

@@ -1,14 +1,13 @@
 -- What the exports on sheets show: a number, 0 if accepted, and four numbers in the answer slice.
-use Rattle.std.specs.Prelude.{ℕ, ◌≡◌, Bool, cond, List, ltb, Float, length, set}
+use Rattle.std.specs.Prelude.{ℕ, ◌≡◌, Bool, cond, List, ltb, Float, length, set, Result, Ok, Err}
 use Rattle.rule_sheet.specs.declared.Counts.{Counts}
-use Rattle.rule_sheet.specs.declared.Answer.{Answer}
-use Rattle.rule_sheet.specs.declared.Answer.TheVariants as answers
-use Rattle.rule_sheet.specs.declared.Verdict.{Verdict}
-use Rattle.rule_sheet.specs.declared.Verdict.TheVariants as verdicts
 use Rattle.rule_sheet.specs.Sheet.{Sheet}
 use Rattle.rule_sheet.specs.Lent.{Lent, Room, before_verdict}
 use Rattle.rule_sheet.specs.Outcomes.{Outcome, RunEnd, after_test}
 use Rattle.rule_sheet.specs.Results.{answer_of, made, shown_counts, Makes, Alters, AltersQuads}
+use Rattle.rule_sheet.specs.declared.Refusal.{Refusal}
+use Rattle.rule_sheet.specs.Numbers.{refusal_number}
+use Rattle.rule_sheet.specs.Verdicts.{Verdict, Answer}
 
 -- an answer slice is too short: it has fewer than 4 elements
 abbrev pub is_short_answer : List ℕ → Bool
@@ -19,19 +18,14 @@ abbrev pub with_answer : {A : Type 0} → Counts → List ℕ → Outcome A → 
 with_answer c l o = after_test (before_verdict c (is_short_answer l)) o
 
 -- the number that an export returns: 0 if accepted
-unfoldable pub answer_number : Answer → ℕ
-answer_number (answers.Done t) = 0
-answer_number (answers.Refused n) = n
-
--- the number of a verdict: 0 if accepted
-unfoldable pub verdict_number : Verdict → ℕ
-verdict_number verdicts.Accepted = 0
-verdict_number (verdicts.Refused n) = n
+unfoldable pub answer_number : {A : Type 0} → Result A Refusal → ℕ
+answer_number (Ok t) = 0
+answer_number (Err n) = refusal_number n
 
 -- the count that an answer shows: 0 if refused
 unfoldable pub answer_count : Answer → ℕ
-answer_count (answers.Done t) = t.count
-answer_count (answers.Refused n) = 0
+answer_count (Ok t) = t.count
+answer_count (Err n) = 0
 
 -- the answer slice l at its end: the count and the counts of the sheet in its front; untouched if it is too short
 unfoldable pub answer_left : Answer → List ℕ → List ℕ

@@ -1,9 +1,8 @@
 -- What `quads_save_job` and `quads_open_job` show: a number, 0 if accepted, and four numbers in the answer slice; and
 -- what `quads_job_sum` shows: a number and two.
-use Rattle.std.specs.Prelude.{ℕ, ◌≡◌, Bool, cond, List, [], ◌∷◌, ltb, length}
+use Rattle.std.specs.Prelude.{ℕ, ◌≡◌, Bool, cond, List, [], ◌∷◌, ltb, length, Some, None, Option}
+use Rattle.rule_sheet.specs.Numbers.{refusal_number}
 use Rattle.rule_sheet.specs.Outcomes.{Outcome, refuses, gives}
-use Rattle.rule_job.specs.declared.Sum.{Sum}
-use Rattle.rule_job.specs.declared.Sum.TheVariants.{Missing, Written}
 use Rattle.rule_job.specs.Files.{Job}
 use Rattle.rule_job.specs.Jobs.{JobRoom, job_room_with, saved_answer, Saves, open_rule, opened_answer, Opens}
 use Rattle.rule_exports.specs.Exports.{is_short_answer, Shows}
@@ -31,17 +30,17 @@ abbrev pub is_short_sum : List ℕ → Bool
 is_short_sum l = ltb (length l) 2
 
 -- the two numbers: 1 and the sum where one is written, else zeros
-unfoldable pub sum_shown : Outcome Sum → List ℕ
-sum_shown (gives (Written n)) = 1 ∷ n ∷ []
-sum_shown (gives Missing) = 0 ∷ 0 ∷ []
+unfoldable pub sum_shown : Outcome (Option ℕ) → List ℕ
+sum_shown (gives (Some n)) = 1 ∷ n ∷ []
+sum_shown (gives None) = 0 ∷ 0 ∷ []
 sum_shown (refuses n) = 0 ∷ 0 ∷ []
 
 -- the number: 0 if accepted
-unfoldable pub sum_answered : Outcome Sum → ℕ
+unfoldable pub sum_answered : Outcome (Option ℕ) → ℕ
 sum_answered (gives s) = 0
-sum_answered (refuses n) = n
+sum_answered (refuses n) = refusal_number n
 
 -- the number n and the answer slice, l at the start and l' at the end: untouched if it is too short
-pub record ShowsSum (o : Outcome Sum) (l : List ℕ) (n : ℕ) (l' : List ℕ) : Type 0 where
+pub record ShowsSum (o : Outcome (Option ℕ)) (l : List ℕ) (n : ℕ) (l' : List ℕ) : Type 0 where
   pub number : n ≡ sum_answered o
   pub answer : l' ≡ cond (is_short_sum l) l (fronted (sum_shown o) l)

@@ -1,12 +1,11 @@
 -- What `quads_quality` shows: a number, 0 if accepted, ten numbers in the answer slice and four in the slice of
 -- measures.
-use Rattle.std.specs.Prelude.{ℕ, ◌≡◌, Bool, cond, List, [], ◌∷◌, ◌++◌, ltb, length, drop, replicate, Float}
+use Rattle.std.specs.Prelude.{ℕ, ◌≡◌, Bool, cond, List, [], ◌∷◌, ◌++◌, ltb, length, drop, replicate, Float, Ok, Err}
 use Rattle.numeric.specs.Num.{zero_f}
 use Rattle.rule_sheet.specs.Quads.{num}
 use Rattle.rule_quality.specs.declared.report.Quality.{Quality}
-use Rattle.rule_quality.specs.declared.report.Assessed.{Assessed}
-use Rattle.rule_quality.specs.declared.report.Assessed.TheVariants.{Done, Refused}
-use Rattle.rule_quality.specs.Quality.{is_valid, eight_counts}
+use Rattle.rule_quality.specs.Quality.{is_valid, eight_counts, Assessed}
+use Rattle.rule_exports.specs.Exports.{answer_number}
 
 -- the eight counts of a record, tight and valid
 abbrev pub quality_counts : Quality → ℕ → ℕ → List ℕ
@@ -19,17 +18,12 @@ quality_measures q =
 
 -- what an answer shows in the two slices: zeros where it is a refusal
 unfoldable pub counts_shown : Assessed → List ℕ
-counts_shown (Done q t) = quality_counts q (num t) (num (is_valid q))
-counts_shown (Refused n) = replicate 10 0
+counts_shown (Ok a) = quality_counts a.quality (num a.is_tight) (num (is_valid a.quality))
+counts_shown (Err n) = replicate 10 0
 
 unfoldable pub measures_shown : Assessed → List Float
-measures_shown (Done q t) = quality_measures q
-measures_shown (Refused n) = replicate 4 zero_f
-
--- the number of an answer: 0 if accepted
-unfoldable pub assessed_number : Assessed → ℕ
-assessed_number (Done q t) = 0
-assessed_number (Refused n) = n
+measures_shown (Ok a) = quality_measures a.quality
+measures_shown (Err n) = replicate 4 zero_f
 
 -- a slice s with the elements of l in its front
 unfoldable pub fronted : {A : Type 0} → List A → List A → List A
@@ -47,6 +41,6 @@ is_short_measures m = ltb (length m) 4
 -- untouched if it is too short itself
 pub record ShowsMeasures (r : Assessed) (c : List ℕ) (m : List Float) (n : ℕ) (c' : List ℕ) (m' : List Float)
     : Type 0 where
-  pub number : n ≡ assessed_number r
+  pub number : n ≡ answer_number r
   pub counts : c' ≡ cond (is_short_counts c) c (fronted (counts_shown r) c)
   pub measures : m' ≡ cond (is_short_measures m) m (fronted (measures_shown r) m)

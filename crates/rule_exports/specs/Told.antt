@@ -1,5 +1,5 @@
 -- What the exports are told of a band: the kind of its field, ten numbers, six bounds and two levels.
-use Rattle.std.specs.Prelude.{ℕ, Bool, cond, ◌||◌, List, eqb, ltb, Float, length, get_or}
+use Rattle.std.specs.Prelude.{ℕ, Bool, cond, ◌||◌, List, eqb, ltb, Float, length, get_or, Err}
 use Rattle.std.specs.Float.{nan}
 use Rattle.points.specs.Points.{point_at}
 use Rattle.field.specs.declared.Field.{Field}
@@ -8,10 +8,10 @@ use Rattle.field.specs.declared.Coefficients.{Coefficients}
 use Rattle.band.specs.declared.Band.{Band}
 use Rattle.setting.specs.Settings.{Setting, setting_of}
 use Rattle.rule_sheet.specs.declared.Counts.{Counts}
-use Rattle.rule_sheet.specs.declared.Verdict.TheVariants.{Accepted, Refused}
-use Rattle.rule_sheet.specs.Numbers.{short}
 use Rattle.rule_sheet.specs.Lent.{Work, work_with, before_verdict}
 use Rattle.rule_sheet.specs.Outcomes.{Outcome, after_test}
+use Rattle.rule_sheet.specs.declared.Refusal.TheVariants.{Short}
+use Rattle.rule_sheet.specs.Verdicts.{Accepted}
 
 -- what an export is told of the band
 pub record Told : Type 0 where
@@ -73,5 +73,5 @@ by_told c few t rule = after_test (before_verdict c (few || is_short_told t)) (r
 -- "1, 2, 3, 13 (work)", of which 2 never occurs, where a short answer slice counts as no work
 abbrev pub drawn_by_told : {A : Type 0} → Bool → Told → Work → (Setting → Work → Outcome A) → Outcome A
 drawn_by_told few t w rule =
-    after_test (cond (is_short_told t) (Refused short) Accepted)
+    after_test (cond (is_short_told t) (Err Short) Accepted)
     (rule (setting_of (band_of t)) (cond few (work_with 0 0) w))

@@ -14,7 +14,6 @@ use Rattle.lists.specs.Every.{every}
 use Rattle.rule_sheet.specs.Quads.{Quad, quad}
 use Rattle.rule_sheet.specs.Edges.{join_to}
 use Rattle.rule_sheet.specs.Tests.{good_masks}
-use Rattle.rule_sheet.specs.Numbers.{box, bare, clash, short}
 use Rattle.rule_sheet.specs.Sheet.{Sheet, counts_of, is_bare}
 use Rattle.rule_sheet.specs.Lent.{Work, Room}
 use Rattle.rule_sheet.specs.Outcomes.{Outcome, refuses, gives, with_room}
@@ -24,6 +23,7 @@ use Rattle.rule_extract.specs.Grids.{grid_of}
 use Rattle.rule_extract.specs.Crossings.{crossing_of, crossed_label}
 use Rattle.rule_extract.specs.Lattice.{site_at, index_of, sample_at, inside_at, cell_groups, edge_site}
 use Rattle.rule_extract.specs.Paths.{crossed_at, edge_crosses}
+use Rattle.rule_sheet.specs.declared.Refusal.TheVariants.{Box, Cells, Samples, Bare, Clash, Short}
 
 -- ---- points
 
@@ -134,16 +134,6 @@ drawn_sheet g n = record {
   labels = join_to (label_if g n) (inner_count n);
 }
 
--- 2, bottomless, with which no operation refuses since document 02, Point 12; 3, cells; 4, samples
-abbrev pub bottomless : ℕ
-bottomless = 2
-
-abbrev pub cells_number : ℕ
-cells_number = 3
-
-abbrev pub samples_number : ℕ
-samples_number = 4
-
 -- "not 4 to 128"
 abbrev pub good_cells : ℕ → Bool
 good_cells cells = leb 4 cells && leb cells 128
@@ -164,15 +154,15 @@ finite_samples g m = every (finite_sample g m) (m * m * m)
 -- 13 (result), 5, 7
 abbrev pub drawn_or : Sheet → Room → Outcome Sheet
 drawn_or s room =
-    with_room (counts_of s) room (cond (is_bare s) (refuses bare)
-    (cond (good_masks (length s.points) s.quads s.labels) (gives s) (refuses clash)))
+    with_room (counts_of s) room (cond (is_bare s) (refuses Bare)
+    (cond (good_masks (length s.points) s.quads s.labels) (gives s) (refuses Clash)))
 
 -- `extract_candidate` into result slices: "1, 2, 3, 13 (work), 4, 13 (result), 5, 7", and since document 02, Point 12
 -- "number 2 never occurs"
 unfoldable pub extract_rule : Domain → ℕ → Work → Room → Outcome Sheet
 extract_rule d cells w room =
-    cond (not (valid_of (band_in d))) (refuses box)
-    (cond (not (good_cells cells)) (refuses cells_number)
-    (cond (short_work cells w) (refuses short)
-    (cond (not (finite_samples (grid_of d cells) (cells + 3))) (refuses samples_number)
+    cond (not (valid_of (band_in d))) (refuses Box)
+    (cond (not (good_cells cells)) (refuses Cells)
+    (cond (short_work cells w) (refuses Short)
+    (cond (not (finite_samples (grid_of d cells) (cells + 3))) (refuses Samples)
     (drawn_or (drawn_sheet (grid_of d cells) (cells + 2)) room))))

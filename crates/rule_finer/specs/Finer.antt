@@ -6,10 +6,10 @@ use Rattle.points.specs.Points.{halfway_p, centre_p, point_in}
 use Rattle.rule_sheet.specs.Quads.{Quad, quad, is, sum, all}
 use Rattle.rule_sheet.specs.FirstUse.{firsts, place}
 use Rattle.rule_sheet.specs.Tests.{in_range}
-use Rattle.rule_sheet.specs.Numbers.{bare, corner_number}
 use Rattle.rule_sheet.specs.Sheet.{Sheet, counts_of}
 use Rattle.rule_sheet.specs.Lent.{Lent, Work, Room, held, room_in, lent_verdict}
 use Rattle.rule_sheet.specs.Outcomes.{Outcome, refuses, gives, after_test, with_room}
+use Rattle.rule_sheet.specs.declared.Refusal.TheVariants.{Bare, Corner}
 
 -- ---- the quads and labels
 
@@ -106,8 +106,8 @@ made_or_short t room = with_room (counts_of t) room (gives t)
 unfoldable pub refined : Sheet → Room → Outcome Sheet
 refined s room =
     cond (eqb (length s.labels) (length s.quads))
-    (cond (all (in_range (length s.points)) s.quads) (made_or_short (finer_sheet s) room) (refuses corner_number))
-    (refuses bare)
+    (cond (all (in_range (length s.points)) s.quads) (made_or_short (finer_sheet s) room) (refuses Corner))
+    (refuses Bare)
 
 -- `refine` of the sheet in lent slices, into result slices: 12, 13, 5, 6, 13
 unfoldable pub refine_rule : Lent → Work → Room → Outcome Sheet

@@ -1,26 +1,16 @@
 -- What `save` and `open` answer and leave in their slices, and what is told of the sum alone: document 02, Points 1
 -- and 9.
-use Rattle.std.specs.Prelude.{ℕ, ◌*◌, ◌≡◌, Bool, false, not, cond, ◌||◌, List, [], eqb, ltb, length, take}
-use Rattle.rule_sheet.specs.declared.Answer.{Answer}
-use Rattle.rule_sheet.specs.declared.Answer.TheVariants.{Done, Refused}
+use Rattle.std.specs.Prelude.{ℕ, ◌*◌, ◌≡◌, Bool, false, not, cond, ◌||◌, List, [], eqb, ltb, length, take, Ok, Err}
+use Rattle.std.specs.Prelude.{Some, None, Option}
 use Rattle.rule_sheet.specs.declared.Counts.{Counts}
-use Rattle.rule_sheet.specs.Numbers.{short}
 use Rattle.rule_sheet.specs.Lent.{Room, room_with, is_short, before_verdict}
 use Rattle.rule_sheet.specs.Outcomes.{Outcome, refuses, gives, after_test}
 use Rattle.rule_sheet.specs.Results.{padded}
-use Rattle.rule_job.specs.declared.Sum.{Sum}
-use Rattle.rule_job.specs.declared.Sum.TheVariants.{Missing, Written}
-use Rattle.rule_job.specs.declared.Trailer.{Trailer}
-use Rattle.rule_job.specs.declared.Trailer.TheVariants.{Found, Broken}
 use Rattle.rule_job.specs.Files.{Job, job_of, sum_of, size_of, file_of, trailer_of, job_in}
-
--- "14 trailer, for a file too short for the 64 bytes and a trailer, or any trailer that breaks these rules"
-abbrev pub trailer_number : ℕ
-trailer_number = 14
-
--- "17 sum, when the sum written is not the sheet's"
-abbrev pub sum_number : ℕ
-sum_number = 17
+use Rattle.rule_sheet.specs.Verdicts.{Answer}
+use Rattle.rule_job.specs.declared.Trailer.{Trailer}
+use Rattle.rule_sheet.specs.declared.Refusal.TheVariants as refusals
+use Rattle.rule_sheet.specs.declared.Refusal.TheVariants.{Short}
 
 -- how many elements the slices of a job have: that of its header, those of its sheet, and that of the work
 pub record JobRoom : Type 0 where
@@ -59,8 +49,8 @@ save_rule x w n =
 
 -- its answer counts the bytes of the file
 abbrev pub saved_answer : Outcome Job → Answer
-saved_answer (refuses n) = Refused n
-saved_answer (gives j) = Done (record { count = length (file_of j); sheet = j.counts })
+saved_answer (refuses n) = Err n
+saved_answer (gives j) = Ok (record { count = length (file_of j); sheet = j.counts })
 
 -- the file that an outcome shows: none where it is a refusal
 abbrev pub file_shown : Outcome Job → List ℕ
@@ -75,18 +65,19 @@ pub record Saves (o : Outcome Job) (n : ℕ) (r : Answer) (F : List ℕ) : Type 
 -- ---- opening
 
 -- a sum is written that is not this one
-abbrev pub is_other : Sum → ℕ → Bool
-is_other Missing n = false
-is_other (Written m) n = not (eqb m n)
+abbrev pub is_other : Option ℕ → ℕ → Bool
+is_other None n = false
+is_other (Some m) n = not (eqb m n)
 
 -- a job whose trailer says this of the sum: "17 sum, .. after 12 and 13"
-unfoldable pub summed : Sum → Job → Outcome Job
-summed s j = cond (is_other s (sum_of j)) (refuses sum_number) (gives j)
+unfoldable pub summed : Option ℕ → Job → Outcome Job
+summed s j = cond (is_other s (sum_of j)) (refuses refusals.Sum) (gives j)
 
 -- what is opened by what a trailer tells: "14 .. before 12 and 13"
-unfoldable pub open_with : List ℕ → JobRoom → Trailer → Outcome Job
-open_with F r (Found c s) = after_test (before_verdict c (is_short_job c r)) (summed s (job_in F c))
-open_with F r Broken = refuses trailer_number
+unfoldable pub open_with : List ℕ → JobRoom → Option Trailer → Outcome Job
+open_with F r (Some t) =
+    after_test (before_verdict t.counts (is_short_job t.counts r)) (summed t.sum (job_in F t.counts))
+open_with F r None = refuses refusals.Trailer
 
 -- opening the file F into slices of these lengths
 abbrev pub open_rule : List ℕ → JobRoom → Outcome Job
@@ -94,8 +85,8 @@ open_rule F r = open_with F r (trailer_of F)
 
 -- its answer counts nothing
 abbrev pub opened_answer : Outcome Job → Answer
-opened_answer (refuses n) = Refused n
-opened_answer (gives j) = Done (record { count = 0; sheet = j.counts })
+opened_answer (refuses n) = Err n
+opened_answer (gives j) = Ok (record { count = 0; sheet = j.counts })
 
 -- the job that an outcome shows: none where it is a refusal
 abbrev pub job_shown : Outcome Job → Job
@@ -113,10 +104,10 @@ pub record Opens (o : Outcome Job) (room : JobRoom) (r : Answer) (H P Q L : List
 -- ---- reading the sum alone: "Planners want to read it without opening the sheet."
 
 -- what a trailer says of the sum: 14; then 13, where what it is told in is too short
-unfoldable pub sum_by : Trailer → Bool → Outcome Sum
-sum_by (Found c s) too_short = cond too_short (refuses short) (gives s)
-sum_by Broken too_short = refuses trailer_number
+unfoldable pub sum_by : Option Trailer → Bool → Outcome (Option ℕ)
+sum_by (Some t) too_short = cond too_short (refuses Short) (gives t.sum)
+sum_by None too_short = refuses refusals.Trailer
 
 -- what the file F says of it
-abbrev pub sum_rule : List ℕ → Bool → Outcome Sum
+abbrev pub sum_rule : List ℕ → Bool → Outcome (Option ℕ)
 sum_rule F too_short = sum_by (trailer_of F) too_short

@@ -1,17 +1,17 @@
 -- The page for the kiln office: the eight counts of a sheet as text. Document 02, Point 2.
-use Rattle.std.specs.Prelude.{ℕ, ◌+◌, ◌-◌, ◌/◌, ◌%◌, ◌^◌, ◌≡◌, cond, ◌&&◌, List, [], ◌∷◌, ◌++◌, eqb, ltb}
+use Rattle.std.specs.Prelude.{ℕ, ◌+◌, ◌-◌, ◌/◌, ◌%◌, ◌^◌, ◌≡◌, cond, ◌&&◌, List, [], ◌∷◌, ◌++◌, eqb, ltb, Err}
 use Prim.Native.Char.{code}
 use Prim.Native.String.{String, len, char_at}
 use Rattle.lists.specs.Sort.{tabulate}
 use Rattle.setting.specs.Settings.{Domain}
-use Rattle.rule_sheet.specs.declared.Verdict.{Verdict}
-use Rattle.rule_sheet.specs.declared.Verdict.TheVariants.{Accepted, Refused}
 use Rattle.rule_sheet.specs.Edges.{join_of}
 use Rattle.rule_sheet.specs.Lent.{Lent, Work, before_verdict}
 use Rattle.rule_sheet.specs.Outcomes.{Outcome, refuses, gives, after_test}
 use Rattle.rule_sheet.specs.Results.{padded}
 use Rattle.rule_quality.specs.declared.report.Quality.{Quality}
-use Rattle.rule_quality.specs.Quality.{Assessment, quality_rule}
+use Rattle.rule_quality.specs.declared.report.Assessment.{Assessment}
+use Rattle.rule_quality.specs.Quality.{quality_rule}
+use Rattle.rule_sheet.specs.Verdicts.{Verdict, Accepted}
 
 -- ---- a line
 
@@ -85,7 +85,7 @@ page_rule d x w n = after_test (before_verdict x.counts (ltb n page_size)) (page
 
 -- the answer of an outcome
 abbrev pub verdict_of : Outcome (List ℕ) → Verdict
-verdict_of (refuses n) = Refused n
+verdict_of (refuses n) = Err n
 verdict_of (gives p) = Accepted
 
 -- the bytes that it shows: none where it is a refusal

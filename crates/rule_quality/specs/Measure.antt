@@ -1,5 +1,5 @@
 -- What `quality` measures of a sheet in floats: each sum, mean and least value in the order of 000's operations.
-use Rattle.std.specs.Prelude.{ℕ, ◌+◌, ◌-◌, Bool, cond, not, ◌&&◌, length, get_or, Float}
+use Rattle.std.specs.Prelude.{ℕ, ◌+◌, ◌-◌, Bool, cond, not, ◌&&◌, length, get_or, Float, Result, Ok, Err}
 use mathlib.Core.List.{List, map, zip_with, foldl}
 use Rattle.std.specs.Float.{nan, binary64}
 use Rattle.std.specs.Float.Ieee.{div, lt, le, of_bits}
@@ -14,8 +14,8 @@ use Rattle.rule_quality.specs.Floats.{sort_floats}
 use Rattle.rule_quality.specs.declared.Corners.{Corners}
 use Rattle.rule_quality.specs.Cells.{shape_of, least_jacobian, area_of}
 use Rattle.rule_quality.specs.declared.Measures.{Measures}
-use Rattle.rule_quality.specs.declared.Measured.{Measured}
-use Rattle.rule_quality.specs.declared.Measured.TheVariants.{Done, Refused}
+use Rattle.rule_sheet.specs.declared.Refusal.{Refusal}
+use Rattle.rule_sheet.specs.declared.Refusal.TheVariants.{Normal}
 
 -- ---- one quad
 
@@ -133,10 +133,10 @@ measures_of cells =
     summary_of (map cell_shape cells) (map cell_jacobian cells)
     (sort_floats (scores_of (map cell_shape cells) (map cell_area cells)))
 
--- 11, normal: "quality: normal not finite or shorter than 0.5"
-abbrev pub normal_number : ℕ
-normal_number = 11
+-- what `measure` answers: the measures, or a refusal
+abbrev pub Measured : Type 0
+Measured = Result Measures Refusal
 
 -- 11 where a quad's normal is not finite or shorter than 0.5, else the five values
 unfoldable pub measure_rule : Domain → Sheet → Measured
-measure_rule d s = cond (all has_normal (cells_of d s)) (Done (measures_of (cells_of d s))) (Refused normal_number)
+measure_rule d s = cond (all has_normal (cells_of d s)) (Ok (measures_of (cells_of d s))) (Err Normal)

@@ -1,7 +1,8 @@
 -- The measured sheet: the record of `quality`, and its refusals in order. Document 01, "The measured sheet".
-use Rattle.std.specs.Prelude.{ℕ, Bool, ◌&&◌, List, [], ◌∷◌, eqb, length}
+use Rattle.std.specs.Prelude.{ℕ, Bool, ◌&&◌, List, [], ◌∷◌, eqb, length, Result, Ok, Err}
 use Rattle.numeric.specs.Num.{finite_of}
 use Rattle.setting.specs.Settings.{Domain}
+use Rattle.rule_sheet.specs.declared.Refusal.{Refusal}
 use Rattle.rule_sheet.specs.Quads.{Quad}
 use Rattle.rule_sheet.specs.Lent.{Lent, Work, held}
 use Rattle.rule_sheet.specs.Outcomes.{Outcome, refuses, gives, after_test}
@@ -9,12 +10,10 @@ use Rattle.rule_admission.specs.Admission.{measurable}
 use Rattle.rule_quality.specs.Census.{irregular, bad_links, duplicate_faces, tight}
 use Rattle.rule_sheet.specs.Edges.{boundary_edges, nonmanifold_edges, orientation_errors}
 use Rattle.rule_quality.specs.declared.Measures.{Measures}
-use Rattle.rule_quality.specs.declared.Measured.{Measured}
-use Rattle.rule_quality.specs.declared.Measured.TheVariants as measured
 use Rattle.rule_quality.specs.Measure.{measure_rule}
 use Rattle.rule_quality.specs.declared.report.Quality.{Quality}
-use Rattle.rule_quality.specs.declared.report.Assessed.{Assessed}
-use Rattle.rule_quality.specs.declared.report.Assessed.TheVariants.{Done, Refused}
+use Rattle.rule_quality.specs.declared.report.Assessment.{Assessment}
+use Rattle.rule_quality.specs.Measure.{Measured}
 
 -- "`is_valid` as in 000": "boundary_edges == 0 && nonmanifold_edges == 0 && orientation_errors == 0 &&
 -- bad_vertex_links == 0 && duplicate_faces == 0 && invalid_cells == 0 && minimum_sampled_jacobian.is_finite()"
@@ -59,21 +58,24 @@ eight_counts q =
     ∷ []
 
 -- the record, and beside it tight
-pub record Assessment : Type 0 where
-  pub quality : Quality
-  pub is_tight : Bool
+abbrev pub assessment_of : ℕ → List Quad → Measures → Assessment
+assessment_of n S m = record { quality = quality_of n S m; is_tight = tight n S }
 
 -- the same with the counts, or the refusal of a normal
 abbrev pub with_counts : ℕ → List Quad → Measured → Outcome Assessment
-with_counts n S (measured.Done m) = gives (record { quality = quality_of n S m; is_tight = tight n S })
-with_counts n S (measured.Refused k) = refuses k
+with_counts n S (Ok m) = gives (assessment_of n S m)
+with_counts n S (Err k) = refuses k
 
 -- `quality` of the sheet in lent slices: 12, 13, 1, 5, 6, 7, 11
 unfoldable pub quality_rule : Domain → Lent → Work → Outcome Assessment
 quality_rule d x w =
     after_test (measurable d x w) (with_counts (length (held x).points) (held x).quads (measure_rule d (held x)))
 
+-- what `quality` answers: the record and tight, or a refusal
+abbrev pub Assessed : Type 0
+Assessed = Result Assessment Refusal
+
 -- the answer of an outcome
 abbrev pub assessed_of : Outcome Assessment → Assessed
-assessed_of (refuses n) = Refused n
-assessed_of (gives a) = Done a.quality a.is_tight
+assessed_of (refuses n) = Err n
+assessed_of (gives a) = Ok a

@@ -24,10 +24,3 @@ pub struct Measures {
     pub minimum_sampled_jacobian: f64,
     pub invalid_cells: usize,
 }
-
-// What `measure` answers.
-#[derive(Clone, Copy)]
-pub enum Measured {
-    Done(Measures),
-    Refused(u32),
-}

@@ -35,9 +35,9 @@ impl Quality {
     }
 }
 
-// The measures and whether the sheet is tight, or the number of a refusal.
+// The measures, and beside them whether the sheet is tight.
 #[derive(Clone, Copy)]
-pub enum Assessed {
-    Done(Quality, bool),
-    Refused(u32),
+pub struct Assessment {
+    pub quality: Quality,
+    pub is_tight: bool,
 }

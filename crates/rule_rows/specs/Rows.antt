@@ -1,6 +1,7 @@
 -- The sheet of `boundary_rows`: a row of quads along the edges between two labels. Document 01, "The finer sheet
 -- and the rows", and `boundary_rows` of 000.
 use Rattle.std.specs.Prelude.{ℕ, zero, suc, ◌+◌, ◌*◌, ◌/◌, ◌%◌, ◌^◌, min, max, Bool, cond, ◌&&◌, List, [], ◌∷◌, ◌++◌}
+use Rattle.std.specs.Prelude.{Some, None, Option}
 use Rattle.std.specs.Prelude.{map, eqb, ltb, length, get_or, Float}
 use Rattle.std.specs.Float.{binary64}
 use Rattle.std.specs.Float.Ieee.{of_bits}
@@ -10,12 +11,9 @@ use Rattle.numeric.specs.Num.{half}
 use Rattle.points.specs.declared.Point.{Point}
 use Rattle.points.specs.Points.{◌⊗◌, add_p, sub_p, mul_p}
 use Rattle.setting.specs.Settings.{Setting}
-use Rattle.projection.specs.declared.Projected.{Projected}
-use Rattle.projection.specs.declared.Projected.TheVariants.{Onto, Refused}
 use Rattle.projection.specs.Project.{project_of, is_onto, onto_of}
 use Rattle.rule_sheet.specs.Quads.{Quad, quad, all, has_label}
 use Rattle.rule_sheet.specs.Edges.{Pair, join_to, join_of, edges_of}
-use Rattle.rule_sheet.specs.Numbers.{edge_number}
 use Rattle.rule_sheet.specs.Sheet.{Sheet, counts_of, sheet_verdict}
 use Rattle.rule_sheet.specs.Lent.{Lent, Work, Room, held}
 use Rattle.rule_sheet.specs.Outcomes.{Outcome, refuses, gives, after_test, with_room}
@@ -23,10 +21,7 @@ use Rattle.rule_admission.specs.Admission.{admits}
 use Rattle.smoothing.specs.Smooth.{mean, sum_of}
 use Rattle.smoothing.specs.Rounded.{pointwise}
 use Rattle.rule_finer.specs.Smoothed.{those, point_quads, paired, label_count, point_of, centre_at}
-
--- 10, row: "all twenty steps fail"
-abbrev pub row : ℕ
-row = 10
+use Rattle.rule_sheet.specs.declared.Refusal.TheVariants.{Edge, Row}
 
 -- ---- the copies: (v, l), a point and a label, has the key 8 v + l, so that "in ascending order" is the order of
 -- the keys
@@ -75,18 +70,18 @@ abbrev pub try_count : ℕ
 try_count = 20
 
 -- a projection that succeeds, or another
-abbrev pub or_else : Projected → Projected → Projected
-or_else (Onto p) r = Onto p
-or_else Refused r = r
+abbrev pub or_else : Option Point → Option Point → Option Point
+or_else (Some p) r = Some p
+or_else None r = r
 
 -- n tries are left: the first projection that succeeds of p + d × step, p + d × step / 2, ..
-unfoldable pub try_from : ℕ → Setting → Point → Point → ℕ → Float → Projected
-try_from zero s p d mask step = Refused
+unfoldable pub try_from : ℕ → Setting → Point → Point → ℕ → Float → Option Point
+try_from zero s p d mask step = None
 try_from (suc n) s p d mask step =
     or_else (project_of s (add_p p (mul_p d step)) mask) (try_from n s p d mask (step ⊗ half))
 
 -- the copy of a key: "trying steps 0.7, 0.35 and so on, twenty in all", onto its label alone
-unfoldable pub copy_of : Setting → Sheet → ℕ → Projected
+unfoldable pub copy_of : Setting → Sheet → ℕ → Option Point
 copy_of w s k =
     let v = key_point k in let l = key_label k in try_from try_count w (point_of s v) (inward s v l) (2 ^ l) first_step
 
@@ -170,8 +165,8 @@ unfoldable pub rows_made : Setting → Sheet → Outcome Sheet
 rows_made w s =
     let t = rows_sheet w s in
     cond (all (λ k. is_onto (copy_of w s k)) (copies s))
-    (cond (paired (length s.points) s.quads) (after_test (sheet_verdict t) (gives t)) (refuses edge_number))
-    (refuses row)
+    (cond (paired (length s.points) s.quads) (after_test (sheet_verdict t) (gives t)) (refuses Edge))
+    (refuses Row)
 
 -- 13 (result), 10, 8, 7
 unfoldable pub rowed : Setting → Sheet → Room → Outcome Sheet

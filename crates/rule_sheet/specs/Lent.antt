@@ -1,11 +1,10 @@
 -- What an operation is lent: the slices of a sheet with its counts, work slices, result slices; and their tests by
 -- length, 12 and 13.
-use Rattle.std.specs.Prelude.{ℕ, ◌+◌, ◌*◌, Bool, cond, ◌||◌, List, length, ltb, Float}
+use Rattle.std.specs.Prelude.{ℕ, ◌+◌, ◌*◌, Bool, cond, ◌||◌, List, length, ltb, Float, Err}
 use Rattle.rule_sheet.specs.declared.Counts.{Counts}
-use Rattle.rule_sheet.specs.declared.Verdict.{Verdict}
-use Rattle.rule_sheet.specs.declared.Verdict.TheVariants.{Accepted, Refused}
 use Rattle.rule_sheet.specs.Sheet.{Sheet, sheet_of}
-use Rattle.rule_sheet.specs.Numbers.{large, short}
+use Rattle.rule_sheet.specs.Verdicts.{Verdict, Accepted}
+use Rattle.rule_sheet.specs.declared.Refusal.TheVariants.{Large, Short}
 
 -- a sheet in lent slices: its counts, coordinates, corners and labels
 pub record Lent : Type 0 where
@@ -66,9 +65,9 @@ is_short_work c w = ltb w.numbers (64 * (c.points + c.quads)) || ltb w.floats (1
 -- the tests of lent slices by their lengths: 12, 13
 unfoldable pub lent_verdict : Counts → Room → Work → Verdict
 lent_verdict c r w =
-    cond (is_large c) (Refused large) (cond (is_short c r) (Refused short)
-    (cond (is_short_work c w) (Refused short) Accepted))
+    cond (is_large c) (Err Large) (cond (is_short c r) (Err Short)
+    (cond (is_short_work c w) (Err Short) Accepted))
 
 -- 12, then 13 where something else that a call is lent is too short
 unfoldable pub before_verdict : Counts → Bool → Verdict
-before_verdict c too_short = cond (is_large c) (Refused large) (cond too_short (Refused short) Accepted)
+before_verdict c too_short = cond (is_large c) (Err Large) (cond too_short (Err Short) Accepted)

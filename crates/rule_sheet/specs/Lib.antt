@@ -3,6 +3,7 @@ pub mod Flat
 pub mod Edges
 pub mod Tests
 pub mod Numbers
+pub mod Verdicts
 pub mod Sheet
 pub mod Lent
 pub mod Places

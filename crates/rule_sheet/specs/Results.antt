@@ -1,18 +1,17 @@
 -- What an operation answers, and what it leaves in its slices.
-use Rattle.std.specs.Prelude.{ℕ, ◌-◌, ◌≡◌, List, [], ◌++◌, length, replicate, Float}
+use Rattle.std.specs.Prelude.{ℕ, ◌-◌, ◌≡◌, List, [], ◌++◌, length, replicate, Float, Ok, Err}
 use Rattle.numeric.specs.Num.{zero_f}
 use Rattle.rule_sheet.specs.declared.Counts.{Counts}
-use Rattle.rule_sheet.specs.declared.Answer.{Answer}
-use Rattle.rule_sheet.specs.declared.Answer.TheVariants.{Done, Refused}
 use Rattle.rule_sheet.specs.Flat.{flat_quads}
 use Rattle.rule_sheet.specs.Sheet.{Sheet, flat_points, counts_of}
 use Rattle.rule_sheet.specs.Lent.{Lent, Room}
 use Rattle.rule_sheet.specs.Outcomes.{Outcome, refuses, gives, RunEnd}
+use Rattle.rule_sheet.specs.Verdicts.{Answer}
 
--- the answer of an outcome: its number, or what it counted and the counts of the sheet that it leaves
+-- the answer of an outcome: its refusal, or what it counted and the counts of the sheet that it leaves
 abbrev pub answer_of : Outcome (RunEnd Sheet) → Answer
-answer_of (refuses n) = Refused n
-answer_of (gives e) = Done (record { count = e.count; sheet = counts_of e.left })
+answer_of (refuses n) = Err n
+answer_of (gives e) = Ok (record { count = e.count; sheet = counts_of e.left })
 
 -- n elements that begin with those of l, and are zeros behind them
 unfoldable pub padded : {A : Type 0} → A → ℕ → List A → List A
@@ -36,8 +35,8 @@ shown (gives s) = s
 
 -- the counts that an answer shows: none where it is a refusal
 unfoldable pub shown_counts : Answer → Counts
-shown_counts (Done t) = t.sheet
-shown_counts (Refused n) = record { points = 0; quads = 0; labels = 0 }
+shown_counts (Ok t) = t.sheet
+shown_counts (Err n) = record { points = 0; quads = 0; labels = 0 }
 
 -- the answer r of an operation that makes a sheet, and its result slices at its end: "result slices become zero" on a
 -- refusal, "so are unused tails after success"

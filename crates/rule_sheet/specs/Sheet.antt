@@ -1,15 +1,14 @@
 -- A sheet and its tests, in the order of their refusals: 5, 6, 7.
-use Rattle.std.specs.Prelude.{ℕ, Bool, cond, not, ◌||◌, List, [], ◌∷◌, length, take, eqb, Float}
+use Rattle.std.specs.Prelude.{ℕ, Bool, cond, not, ◌||◌, List, [], ◌∷◌, length, take, eqb, Float, Err}
 use Rattle.lists.specs.Sort.{tabulate}
 use Rattle.points.specs.declared.Point.{Point}
 use Rattle.points.specs.Points.{point_at, finite_p}
 use Rattle.rule_sheet.specs.declared.Counts.{Counts}
-use Rattle.rule_sheet.specs.declared.Verdict.{Verdict}
-use Rattle.rule_sheet.specs.declared.Verdict.TheVariants.{Accepted, Refused}
 use Rattle.rule_sheet.specs.Quads.{Quad, all}
 use Rattle.rule_sheet.specs.Flat.{quads_of}
 use Rattle.rule_sheet.specs.Tests.{good_corners, good_masks}
-use Rattle.rule_sheet.specs.Numbers.{bare, corner_number, clash}
+use Rattle.rule_sheet.specs.Verdicts.{Verdict, Accepted}
+use Rattle.rule_sheet.specs.declared.Refusal.TheVariants.{Bare, Corner, Clash}
 
 -- "A sheet has points (three f64), quads (four point numbers, u32) and one label byte per quad."
 pub record Sheet : Type 0 where
@@ -48,8 +47,8 @@ is_bare s =
 -- 6, 7
 unfoldable pub quads_verdict : ℕ → List Quad → List ℕ → Verdict
 quads_verdict n S labels =
-    cond (good_corners n S labels) (cond (good_masks n S labels) Accepted (Refused clash)) (Refused corner_number)
+    cond (good_corners n S labels) (cond (good_masks n S labels) Accepted (Err Clash)) (Err Corner)
 
 -- the tests of a sheet: 5, 6, 7
 unfoldable pub sheet_verdict : Sheet → Verdict
-sheet_verdict s = cond (is_bare s) (Refused bare) (quads_verdict (length s.points) s.quads s.labels)
+sheet_verdict s = cond (is_bare s) (Err Bare) (quads_verdict (length s.points) s.quads s.labels)

@@ -3,6 +3,9 @@
 
 #![tactic(auto)]
 
+ghost use Rattle.std.specs.Prelude.{◌≡◌};
+ghost use Rattle.rule_sheet.specs.Numbers.{refusal_number};
+
 // How many points, quads and labels a sheet has.
 #[derive(Clone, Copy)]
 pub struct Counts {
@@ -11,11 +14,49 @@ pub struct Counts {
     pub labels: usize,
 }
 
-// What a test answers.
-#[derive(Clone, Copy)]
-pub enum Verdict {
-    Accepted,
-    Refused(u32),
+// Why a test or an operation refuses, by the words that a setter reads.
+#[derive(Clone, Copy, PartialEq, Eq)]
+pub enum Refusal {
+    Box,
+    Bottomless,
+    Cells,
+    Samples,
+    Bare,
+    Corner,
+    Clash,
+    Edge,
+    Astray,
+    Row,
+    Normal,
+    Large,
+    Short,
+    Trailer,
+    Sum,
+}
+
+impl Refusal {
+    // The number that a setter reads.
+    pub fn number(self) -> u32
+        ensures { result ≡ refusal_number self }
+    {
+        match self {
+            Refusal::Box => 1,
+            Refusal::Bottomless => 2,
+            Refusal::Cells => 3,
+            Refusal::Samples => 4,
+            Refusal::Bare => 5,
+            Refusal::Corner => 6,
+            Refusal::Clash => 7,
+            Refusal::Edge => 8,
+            Refusal::Astray => 9,
+            Refusal::Row => 10,
+            Refusal::Normal => 11,
+            Refusal::Large => 12,
+            Refusal::Short => 13,
+            Refusal::Trailer => 14,
+            Refusal::Sum => 17,
+        }
+    }
 }
 
 // What an operation did: the swaps or merges that it made, the bytes of a file that it saved, 0 of one that makes a
@@ -24,11 +65,4 @@ pub enum Verdict {
 pub struct Tally {
     pub count: usize,
     pub sheet: Counts,
-}
-
-// What an operation on a sheet answers.
-#[derive(Clone, Copy)]
-pub enum Answer {
-    Done(Tally),
-    Refused(u32),
 }

@@ -12,11 +12,6 @@ use Rattle.lists.specs.Every.{every}
 use Rattle.setting.specs.Settings.{Setting}
 use Rattle.rule_sheet.specs.declared.Counts.{Counts}
 use Rattle.rule_sheet.specs.declared.Tally.{Tally}
-use Rattle.rule_sheet.specs.declared.Verdict.{Verdict}
-use Rattle.rule_sheet.specs.declared.Verdict.TheVariants.{Accepted, Refused}
-use Rattle.rule_sheet.specs.declared.Answer.{Answer}
-use Rattle.rule_sheet.specs.declared.Answer.TheVariants as answers
-use Rattle.rule_sheet.specs.Numbers.{large, short, edge_number}
 use Rattle.rule_sheet.specs.Quads.{Quad, num, touches, has_label, mask_of}
 use Rattle.rule_sheet.specs.Flat.{quads_of, flat_quads}
 use Rattle.rule_sheet.specs.Sheet.{Sheet, sheet_verdict, counts_of, with_quads}
@@ -34,7 +29,7 @@ use Rattle.admission.proofs.Admitted.{Admitted, lent-refuses, sheet-decides}
 use Rattle.admission.proofs.Accepted.{counts-held}
 use Rattle.rule_finer.specs.Finer.{finer_sheet}
 use Rattle.rule_finer.specs.Smoothed.{paired, smooth_sheet}
-use Rattle.rule_finer.specs.Subdivide.{astray, lands_at, projected_sheet, projected, subdivided, subdivide_rule}
+use Rattle.rule_finer.specs.Subdivide.{lands_at, projected_sheet, projected, subdivided, subdivide_rule}
 use Rattle.rule_passes.specs.Runs.{capped}
 use Rattle.rule_regularize.specs.Swaps.{swap_run}
 use Rattle.rule_regularize.specs.SwapFits.{swap_fits}
@@ -51,6 +46,10 @@ use Rattle.safety.proofs.Slices.{quads-padded, length-padded, held-padded}
 use Rattle.safety.proofs.Finer.{made_kept}
 use Rattle.safety.proofs.Caps.{uncapped}
 use Rattle.safety.proofs.Tested.{passes, done-tested, done_admitted}
+use Rattle.std.specs.Prelude.{Ok, Err}
+use Rattle.rule_sheet.specs.Verdicts.{Verdict, Answer, Accepted}
+use Rattle.rule_sheet.specs.declared.Refusal.TheVariants.{Edge, Astray, Short}
+use Rattle.rule_sheet.specs.declared.Refusal.{Refusal}
 
 -- ---- `regularize` and `improve_layout`
 
@@ -66,18 +65,18 @@ module _ (m : ℕ) (s : Setting) (k : ℕ) (x : Lent) (a : Good (held x)) where
   swapped-is : held (lent_quads x (padded 0 (length x.quads) (flat_quads found.left.quads))) ≡ found.left
   swapped-is = rw (quads-padded found.left.quads x.counts.quads (length x.quads) as_many)
 
-  swap-call : (count : Answer → ℕ) → ((n : ℕ) → count (answers.Refused n) ≡ 0) → Keeps (held x) found.left (count (answers.Done (record { count = found.count; sheet = counts_of found.left })))
+  swap-call : (count : Answer → ℕ) → ((n : Refusal) → count (Err n) ≡ 0) → Keeps (held x) found.left (count (Ok (record { count = found.count; sheet = counts_of found.left })))
       → (u : Verdict) (r : Answer) (Q : List ℕ) → AltersQuads (after_test u (gives found)) x r Q → Keeps (held x) (held (lent_quads x Q)) (count r)
-  swap-call count none done (Refused n) r Q L = rw (L.answer, L.quads, none n) (keeps_same (held x) a)
-  swap-call count none done Accepted r Q L = rw (L.answer, L.quads, swapped-is) done
+  swap-call count none done (Err n) r Q L = rw (L.answer, L.quads, none n) (keeps_same (held x) a)
+  swap-call count none done (Ok u) r Q L = rw (L.answer, L.quads, swapped-is) done
 
 -- ---- `coarsen`
 
 module _ (s : Setting) (k : ℕ) (x : Lent) (a : Good (held x)) where
   coarsen-call : (u : Verdict) (r : Answer) (P : List Float) (Q L : List ℕ) → Alters (after_test u (gives (coarse_sheet s k (held x)))) x r P Q L
       → Keeps (held x) (held (record { counts = counts_or r x.counts; points = P; quads = Q; labels = L })) 0
-  coarsen-call (Refused n) r P Q L l = rw (l.answer, l.points, l.quads, l.labelled) (keeps_same (held x) a)
-  coarsen-call Accepted r P Q L l =
+  coarsen-call (Err n) r P Q L l = rw (l.answer, l.points, l.quads, l.labelled) (keeps_same (held x) a)
+  coarsen-call (Ok u) r P Q L l =
       rw (l.answer, l.points, l.quads, l.labelled, held-padded (coarse_sheet s k (held x)).left (length x.points) (length x.quads) (length x.labels))
       (coarse-kept (merge_fits s) (merge_position s) (merge-finite s) k (held x) a).0
 
@@ -96,7 +95,7 @@ module _ (s : Setting) (x : Lent) (w : Work) (room : Room) (a : Good (held x)) w
   abbrev Left : Outcome Sheet → Type 0
   Left o = (r : Answer) (P : List Float) (Q L : List ℕ) → Makes o room r P Q L → Keeps (held x) (held (result_or r x P Q L)) 0
 
-  refused-call : (n : ℕ) → Left (refuses n)
+  refused-call : (n : Refusal) → Left (refuses n)
   refused-call n r P Q L K = rw K.answer (keeps_same (held x) a)
 
   made-call : (t : Sheet) → Keeps (held x) t 0 → Left (gives t)
@@ -114,13 +113,13 @@ module _ (s : Setting) (x : Lent) (w : Work) (room : Room) (a : Good (held x)) w
       t = smooth_sheet (held x)
 
       go : (u : Verdict) (over : Bool) → (is_large c || is_short c room) ≡ over → (pairs : Bool) (z : Verdict) (lands : Bool) → every (lands_at s t) (length t.points) ≡ lands
-          → Left (after_test u (cond over (refuses short) (cond pairs (after_test z (cond lands (gives (projected_sheet s t)) (refuses astray))) (refuses edge_number))))
-      go (Refused n) over e pairs z lands h = refused-call n
-      go Accepted true e pairs z lands h = refused-call short
-      go Accepted false e false z lands h = refused-call edge_number
-      go Accepted false e true (Refused n) lands h = refused-call n
-      go Accepted false e true Accepted false h = refused-call astray
-      go Accepted false e true Accepted true h = made-call (projected_sheet s t) (made_kept s (held x) a (or_left (is_large c) (is_short c room) e) h)
+          → Left (after_test u (cond over (refuses Short) (cond pairs (after_test z (cond lands (gives (projected_sheet s t)) (refuses Astray))) (refuses Edge))))
+      go (Err n) over e pairs z lands h = refused-call n
+      go (Ok u) true e pairs z lands h = refused-call Short
+      go (Ok u) false e false z lands h = refused-call Edge
+      go (Ok u) false e true (Err n) lands h = refused-call n
+      go (Ok u) false e true (Ok o) false h = refused-call Astray
+      go (Ok u) false e true (Ok o) true h = made-call (projected_sheet s t) (made_kept s (held x) a (or_left (is_large c) (is_short c room) e) h)
 
 -- ---- refused calls
 
@@ -141,15 +140,15 @@ pub refused-left : (c : Call) → Contract c → is_refused (answer_in c) ≡ tr
 refused-left (regularize_call s k x w r Q) C h = (rw (quads-refused _ x r Q C h), none r h)
   where
     none : (r : Answer) → is_refused r ≡ true → count_in r ≡ 0
-    none (answers.Done t) h = absurd (true≢false (sym h))
-    none (answers.Refused n) h = refl
+    none (Ok t) h = absurd (true≢false (sym h))
+    none (Err n) h = refl
 refused-left (improve_call s k x w r Q) C h = (rw (quads-refused _ x r Q C h), refl)
 refused-left (coarsen_call s k x w r P Q L) C h = (sheet-refused _ x r P Q L C h, refl)
 refused-left (subdivide_call s x w room r P Q L) C h = (none r h, refl)
   where
     none : (r : Answer) → is_refused r ≡ true → result_or r x P Q L ≡ x
-    none (answers.Done t) h = absurd (true≢false (sym h))
-    none (answers.Refused n) h = refl
+    none (Ok t) h = absurd (true≢false (sym h))
+    none (Err n) h = refl
 
 all-unchanged : (s : Sheet) (cs : List Call) → Run s cs → Unchanged cs
 all-unchanged s [] run = tt
@@ -198,7 +197,7 @@ apart_of s c v j h low high =
 
 -- ---- the last call
 
-module _ (s : Setting) (k : ℕ) (x : Lent) (w : Work) (t : Tally) (Q : List ℕ) (a : Good (held x)) (C : Contract (regularize_call s k x w (answers.Done t) Q)) where
+module _ (s : Setting) (k : ℕ) (x : Lent) (w : Work) (t : Tally) (Q : List ℕ) (a : Good (held x)) (C : Contract (regularize_call s k x w (Ok t) Q)) where
   abbrev passed : Admitted (setting_verdict s) x w
   passed = done_admitted s k x w t Q C
 
@@ -232,7 +231,7 @@ module _ (s : Setting) (k : ℕ) (x : Lent) (w : Work) (t : Tally) (Q : List ℕ
             let q : swap_run (length (held x).points) (held x).labels 1 fits k remain ≡ record { left = remain; count = 0 } = regularize-again (held x) fits k a h k in
             let o : swap_sheet 1 s k (held (lent_quads x Q)) ≡ record { left = held (lent_quads x Q); count = 0 } = rw remain-is (ap (λ (e : RunEnd (List Quad)). swap_end e) q) in
             let D : AltersQuads (gives (record { left = held (lent_quads x Q); count = 0 })) (lent_quads x Q) r R = rw (passes-again, o) at L in
-            (D.answer ∙ ap (λ (c : Counts). answers.Done (record { count = 0; sheet = c })) (counts-held (lent_quads x Q) (rw quads-length passed.sheet)), D.quads ∙ rw (remain-is, quads-length) (sym quads_are));
+            (D.answer ∙ ap (λ (c : Counts). Ok (record { count = 0; sheet = c })) (counts-held (lent_quads x Q) (rw quads-length passed.sheet)), D.quads ∙ rw (remain-is, quads-length) (sym quads_are));
       }
     where
       -- what passes leave, as a sheet
@@ -263,10 +262,10 @@ rises-never s ds es fs a run =
     let k = every_call (after s ds) es (good-at s ds (es ++ fs) a run) (front (after s ds) es fs (rest s ds (es ++ fs) run)) in
     rw (joined s ds es) (omega (arith, k.falls))
 
-none-anywhere : (s : Sheet) (ds es : List Call) (v : Setting) (k : ℕ) (x : Lent) (w : Work) (t : Tally) (Q : List ℕ) → Good s → Run s (ds ++ (regularize_call v k x w (answers.Done t) Q ∷ es))
+none-anywhere : (s : Sheet) (ds es : List Call) (v : Setting) (k : ℕ) (x : Lent) (w : Work) (t : Tally) (Q : List ℕ) → Good s → Run s (ds ++ (regularize_call v k x w (Ok t) Q ∷ es))
     → squared_of (held x) < 2 * k → NoneLeft v k (lent_quads x Q) w
 none-anywhere s ds es v k x w t Q a run h =
-    let c = regularize_call v k x w (answers.Done t) Q in
+    let c = regularize_call v k x w (Ok t) Q in
     let r : Run (after s ds) (c ∷ es) = rest s ds (c ∷ es) run in
     let g : Good (held x) = rw (r.0 refl) (good-at s ds (c ∷ es) a run) in
     none_left v k x w t Q g r.1 h

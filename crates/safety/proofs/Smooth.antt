@@ -10,9 +10,6 @@ use Rattle.lists.specs.Every.{every}
 use Rattle.points.specs.Points.{finite_p}
 use Rattle.setting.specs.Settings.{Setting}
 use Rattle.rule_sheet.specs.declared.Counts.{Counts}
-use Rattle.rule_sheet.specs.declared.Verdict.{Verdict}
-use Rattle.rule_sheet.specs.declared.Verdict.TheVariants.{Accepted, Refused}
-use Rattle.rule_sheet.specs.Numbers.{bare, edge_number, short}
 use Rattle.rule_sheet.specs.Quads.{Quad, all}
 use Rattle.rule_sheet.specs.Tests.{good_corners, good_masks}
 use Rattle.rule_sheet.specs.Sheet.{Sheet, is_bare, quads_verdict, sheet_verdict}
@@ -23,11 +20,15 @@ use Rattle.rule_sheet.specs.Sheet.{counts_of}
 use Rattle.rule_finer.specs.Finer.{finer, four_labels, finer_sheet}
 use Rattle.refine.specs.Finer.{finer_count}
 use Rattle.rule_finer.specs.Smoothed.{paired, smooth_sheet}
-use Rattle.rule_finer.specs.Subdivide.{astray, lands_at, projected_sheet, projected, subdivided}
+use Rattle.rule_finer.specs.Subdivide.{lands_at, projected_sheet, projected, subdivided}
 use Rattle.safety_rules.proofs.Numbers.{finer-length}
 use Rattle.safety_rules.proofs.Fine.{Passing, passing-of, passing-good}
 use Rattle.safety_rules.proofs.Demand.{finer-passing}
 use Rattle.safety.proofs.Finer.{smooth-count}
+use Rattle.std.specs.Prelude.{Ok, Err}
+use Rattle.rule_sheet.specs.Verdicts.{Verdict, Accepted}
+use Rattle.rule_sheet.specs.declared.Refusal.TheVariants.{Bare, Edge, Astray, Short}
+use Rattle.rule_sheet.specs.declared.Refusal.{Refusal}
 
 module _ (s : Sheet) (T : Tested s) where
   abbrev n : ℕ
@@ -64,24 +65,24 @@ module _ (s : Sheet) (T : Tested s) where
   smooth-bare = bare-finite t some_points (omega (arith, finer-length n S old.in_range old.differ, whole.some_quads)) four.labelled
 
   -- of the tests only that of the points is left
-  smooth-verdict : sheet_verdict t ≡ cond (all finite_p t.points) Accepted (Refused bare)
+  smooth-verdict : sheet_verdict t ≡ cond (all finite_p t.points) Accepted (Err Bare)
   unfolding sheet_verdict quads_verdict
   smooth-verdict = rw (smooth-bare, smooth-good.0, smooth-good.1) (go (all finite_p t.points))
     where
-      go : (f : Bool) → cond (not f) (Refused bare) Accepted ≡ cond f Accepted (Refused bare)
+      go : (f : Bool) → cond (not f) (Err Bare) Accepted ≡ cond f Accepted (Err Bare)
       go true = refl
       go false = refl
 
 -- "Then subdivide 8, 5, 9": the test of the smoothed sheet of an accepted one finds nothing or 5
-pub smooth-test : (s : Sheet) → sheet_verdict s ≡ Accepted → (sheet_verdict (smooth_sheet s) ≡ Accepted) ⊎ (sheet_verdict (smooth_sheet s) ≡ Refused bare)
+pub smooth-test : (s : Sheet) → sheet_verdict s ≡ Accepted → (sheet_verdict (smooth_sheet s) ≡ Accepted) ⊎ (sheet_verdict (smooth_sheet s) ≡ Err Bare)
 smooth-test s e = go (all finite_p (smooth_sheet s).points) (smooth-verdict s (tested s e))
   where
-    go : (f : Bool) → sheet_verdict (smooth_sheet s) ≡ cond f Accepted (Refused bare) → (sheet_verdict (smooth_sheet s) ≡ Accepted) ⊎ (sheet_verdict (smooth_sheet s) ≡ Refused bare)
+    go : (f : Bool) → sheet_verdict (smooth_sheet s) ≡ cond f Accepted (Err Bare) → (sheet_verdict (smooth_sheet s) ≡ Accepted) ⊎ (sheet_verdict (smooth_sheet s) ≡ Err Bare)
     go true h = inl h
     go false h = inr h
 
 -- so after the tests of the lent sheet `subdivide` refuses with 13, 8, 5 or 9 only
-pub numbers-left : (w : Setting) (s : Sheet) (room : Room) (n : ℕ) → sheet_verdict s ≡ Accepted → subdivided w s room ≡ refuses n → (n ≡ short) ⊎ ((n ≡ edge_number) ⊎ ((n ≡ bare) ⊎ (n ≡ astray)))
+pub numbers-left : (w : Setting) (s : Sheet) (room : Room) (n : Refusal) → sheet_verdict s ≡ Accepted → subdivided w s room ≡ refuses n → (n ≡ Short) ⊎ ((n ≡ Edge) ⊎ ((n ≡ Bare) ⊎ (n ≡ Astray)))
 unfolding subdivided projected
 numbers-left w s room n e = go (is_large c || is_short c room) (paired (length s.points) s.quads) (sheet_verdict t) refl (every (lands_at w t) (length t.points))
   where
@@ -92,14 +93,14 @@ numbers-left w s room n e = go (is_large c || is_short c room) (paired (length s
     c = counts_of (finer_sheet s)
 
     go : (over pairs : Bool) (v : Verdict) → sheet_verdict t ≡ v → (lands : Bool)
-        → cond over (refuses short) (cond pairs (after_test v (cond lands (gives (projected_sheet w t)) (refuses astray))) (refuses edge_number)) ≡ refuses n
-        → (n ≡ short) ⊎ ((n ≡ edge_number) ⊎ ((n ≡ bare) ⊎ (n ≡ astray)))
+        → cond over (refuses Short) (cond pairs (after_test v (cond lands (gives (projected_sheet w t)) (refuses Astray))) (refuses Edge)) ≡ refuses n
+        → (n ≡ Short) ⊎ ((n ≡ Edge) ⊎ ((n ≡ Bare) ⊎ (n ≡ Astray)))
     go true pairs v h lands x = inl (cc)
     go false false v h lands x = inr (inl (cc))
-    go false true (Refused k) h lands x = inr (inr (inl (last (smooth-test s e))))
+    go false true (Err k) h lands x = inr (inr (inl (last (smooth-test s e))))
       where
-        last : (sheet_verdict t ≡ Accepted) ⊎ (sheet_verdict t ≡ Refused bare) → n ≡ bare
+        last : (sheet_verdict t ≡ Accepted) ⊎ (sheet_verdict t ≡ Err Bare) → n ≡ Bare
         last (inl a) = absurd (let z : ◌≡◌ {A = ℕ} 0 1 = cc in omega arith)
-        last (inr a) = let r : Refused k ≡ Refused bare = sym h ∙ a in let i : refuses k ≡ refuses n = x in cc
-    go false true Accepted h true x = absurd (let z : ◌≡◌ {A = ℕ} 0 1 = cc in omega arith)
-    go false true Accepted h false x = inr (inr (inr (cc)))
+        last (inr a) = let r : Err k ≡ Err Bare = sym h ∙ a in let i : refuses k ≡ refuses n = x in cc
+    go false true (Ok u) h true x = absurd (let z : ◌≡◌ {A = ℕ} 0 1 = cc in omega arith)
+    go false true (Ok u) h false x = inr (inr (inr (cc)))

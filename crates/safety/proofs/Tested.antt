@@ -6,9 +6,6 @@ use native.Mathlib.Omega.{arith}
 use lib.ListN.{length}
 use Rattle.setting.specs.Settings.{Setting}
 use Rattle.rule_sheet.specs.declared.Tally.{Tally}
-use Rattle.rule_sheet.specs.declared.Verdict.{Verdict}
-use Rattle.rule_sheet.specs.declared.Verdict.TheVariants.{Accepted, Refused}
-use Rattle.rule_sheet.specs.declared.Answer.TheVariants.{Done}
 use Rattle.rule_sheet.specs.Sheet.{Sheet, sheet_verdict}
 use Rattle.rule_sheet.specs.Lent.{Lent, Work, held}
 use Rattle.rule_sheet.specs.Sound.{AcceptedSheet}
@@ -23,20 +20,22 @@ use Rattle.rule_regularize.specs.SwapFits.{swap_fits}
 use Rattle.rule_regularize.specs.Rule.{swap_sheet, swap_rule}
 use Rattle.safety.specs.Calls.{Contract, regularize_call}
 use Rattle.safety.proofs.Caps.{uncapped}
+use Rattle.std.specs.Prelude.{Ok, Err}
+use Rattle.rule_sheet.specs.Verdicts.{Verdict, Accepted}
 
 -- what 5, 6 and 7 accept passes their tests
 pub passes : (s : Sheet) → AcceptedSheet s → sheet_verdict s ≡ Accepted
 passes s a = tests-accept s (record { not_bare = a.not_bare; corners = a.corners; masks = a.masks })
 
-module _ (s : Setting) (k : ℕ) (x : Lent) (w : Work) (t : Tally) (Q : List ℕ) (C : Contract (regularize_call s k x w (Done t) Q)) where
+module _ (s : Setting) (k : ℕ) (x : Lent) (w : Work) (t : Tally) (Q : List ℕ) (C : Contract (regularize_call s k x w (Ok t) Q)) where
   -- the call passed its tests
   pub done-tested : admits s x w ≡ Accepted
   unfolding swap_rule
   done-tested = go _ refl C
     where
-      go : (u : Verdict) → admits s x w ≡ u → AltersQuads (after_test u (gives (swap_sheet 1 s k (held x)))) x (Done t) Q → admits s x w ≡ Accepted
-      go (Refused i) e L = absurd (let z : ◌≡◌ {A = ℕ} 0 1 = cc L.answer in omega arith)
-      go Accepted e L = e
+      go : (u : Verdict) → admits s x w ≡ u → AltersQuads (after_test u (gives (swap_sheet 1 s k (held x)))) x (Ok t) Q → admits s x w ≡ Accepted
+      go (Err i) e L = absurd (let z : ◌≡◌ {A = ℕ} 0 1 = cc L.answer in omega arith)
+      go (Ok u) e L = e
 
   abbrev pub done_admitted : Admitted (setting_verdict s) x w
   done_admitted = admitted (setting_verdict s) x w done-tested
@@ -48,6 +47,6 @@ module _ (s : Setting) (k : ℕ) (x : Lent) (w : Work) (t : Tally) (Q : List ℕ
   pub done-count : t.count ≡ (swap_run (length (held x).points) (held x).labels 1 (swap_fits s (held x).points (held x).labels) k (held x).quads).count
   unfolding swap_rule
   done-count =
-      let A : AltersQuads (gives (swap_sheet 1 s k (held x))) x (Done t) Q = rw done-tested at C in
+      let A : AltersQuads (gives (swap_sheet 1 s k (held x))) x (Ok t) Q = rw done-tested at C in
       let e : t.count ≡ (swap_sheet 1 s k (held x)).count = cc A.answer in
       e ∙ uncapped (held x) (swap_fits s (held x).points (held x).labels) k done-accepted

@@ -2,12 +2,11 @@
 -- is what it was lent, what it answered and what it left, by its contract.
 -- Document 01, "The finer sheet and the rows".
 use Rattle.std.specs.Prelude.{ℕ, ◌+◌, ◌*◌, ◌/◌, ◌%◌, ◌^◌, ◌≤◌, ◌<◌, Bool, true, false, cond, ◌≡◌, List, [], ◌∷◌, ◌++◌}
+use Rattle.std.specs.Prelude.{Ok, Err}
 use Rattle.std.specs.Prelude.{length, Float}
 use Rattle.setting.specs.Settings.{Setting}
 use Rattle.rule_sheet.specs.declared.Counts.{Counts}
 use Rattle.rule_sheet.specs.declared.Tally.{Tally}
-use Rattle.rule_sheet.specs.declared.Answer.{Answer}
-use Rattle.rule_sheet.specs.declared.Answer.TheVariants.{Done, Refused}
 use Rattle.rule_sheet.specs.Quads.{mask_of}
 use Rattle.rule_sheet.specs.Sheet.{Sheet}
 use Rattle.rule_sheet.specs.Lent.{Lent, Work, Room, lent_of, held}
@@ -18,6 +17,7 @@ use Rattle.rule_regularize.specs.Swaps.{regularize_gain, NoSwap}
 use Rattle.rule_regularize.specs.SwapFits.{swap_fits}
 use Rattle.rule_regularize.specs.Rule.{regularize_rule, improve_rule}
 use Rattle.rule_coarsen.specs.Rule.{coarsen_rule}
+use Rattle.rule_sheet.specs.Verdicts.{Answer}
 
 -- ---- one call
 
@@ -52,13 +52,13 @@ lent_quads x Q = lent_of x.counts x.points Q x.labels
 
 -- `coarsen` answers the counts of the sheet that it leaves
 abbrev pub counts_or : Answer → Counts → Counts
-counts_or (Done t) c = t.sheet
-counts_or (Refused n) c = c
+counts_or (Ok t) c = t.sheet
+counts_or (Err n) c = c
 
 -- "the result of an accepted `subdivide` is the sheet of the next call, after a refusal the sheet before it"
 abbrev pub result_or : Answer → Lent → List Float → List ℕ → List ℕ → Lent
-result_or (Done t) x P Q L = lent_of t.sheet P Q L
-result_or (Refused n) x P Q L = x
+result_or (Ok t) x P Q L = lent_of t.sheet P Q L
+result_or (Err n) x P Q L = x
 
 -- the sheet that a call left
 abbrev pub left : Call → Lent
@@ -69,8 +69,8 @@ left (subdivide_call s x w room r P Q L) = result_or r x P Q L
 
 -- "Regularize's count is the swaps made in all its passes; a refused call adds 0."
 abbrev pub count_in : Answer → ℕ
-count_in (Done t) = t.count
-count_in (Refused n) = 0
+count_in (Ok t) = t.count
+count_in (Err n) = 0
 
 abbrev pub swaps_in : Call → ℕ
 swaps_in (regularize_call s k x w r Q) = count_in r
@@ -89,8 +89,8 @@ answer_in (subdivide_call s x w room r P Q L) = r
 
 -- it is a refusal
 abbrev pub is_refused : Answer → Bool
-is_refused (Done t) = false
-is_refused (Refused n) = true
+is_refused (Ok t) = false
+is_refused (Err n) = true
 
 -- "hand each call the sheet that the last one left": an accepted call was lent the sheet s, in slices of any length
 -- that hold it, with anything behind it; of what a refused one was lent nothing is asked
@@ -140,7 +140,7 @@ pub record NoneLeft (s : Setting) (k : ℕ) (x : Lent) (w : Work) : Type 0 where
   pub no_swap : NoSwap (length (held x).points) (held x).labels regularize_gain
       (swap_fits s (held x).points (held x).labels) (held x).quads
   pub again : (r : Answer) (Q : List ℕ) → Contract (regularize_call s k x w r Q)
-      → (r ≡ Done (record { count = 0; sheet = x.counts })) × (Q ≡ x.quads)
+      → (r ≡ Ok (record { count = 0; sheet = x.counts })) × (Q ≡ x.quads)
 
 -- demand 3 of a list of calls from the sheet s on
 pub record Demand3 (s : Sheet) (cs : List Call) : Type 0 where
@@ -159,7 +159,7 @@ pub record Demand3 (s : Sheet) (cs : List Call) : Type 0 where
   -- "Given more passes than half the sum it finds, an accepted regularize leaves no swap that its rule takes": anywhere
   -- in the list
   pub none_left : (ds es : List Call) (v : Setting) (k : ℕ) (x : Lent) (w : Work) (t : Tally) (Q : List ℕ)
-      → cs ≡ ds ++ (regularize_call v k x w (Done t) Q ∷ es) → squared_of (held x) < 2 * k
+      → cs ≡ ds ++ (regularize_call v k x w (Ok t) Q ∷ es) → squared_of (held x) < 2 * k
       → NoneLeft v k (lent_quads x Q) w
   -- "refused ones included": what a refused call leaves
   pub refused : Unchanged cs

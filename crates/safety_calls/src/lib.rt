@@ -8,7 +8,7 @@ ghost use Rattle.rule_sheet.specs.Lent.{lent_of, room_of, work_of};
 ghost use Rattle.safety.specs.Calls.{regularize_call, improve_call, coarsen_call, subdivide_call, Contract};
 
 use band::Band;
-use rule_sheet::{Answer, Counts};
+use rule_sheet::{Counts, Refusal, Tally};
 
 // A call of `regularize`.
 pub fn regularize_call(
@@ -20,7 +20,7 @@ pub fn regularize_call(
     labels: &[u8],
     work: &mut [u32],
     floats: &mut [f64],
-) -> Answer
+) -> Result<Tally, Refusal>
     ensures { let x = lent_of c points.now quads.old labels.now in
         let w = work_of work.old floats.old in
         Contract (regularize_call (setting_of b) passes x w result quads.new) }
@@ -38,7 +38,7 @@ pub fn improve_call(
     labels: &[u8],
     work: &mut [u32],
     floats: &mut [f64],
-) -> Answer
+) -> Result<Tally, Refusal>
     ensures { let x = lent_of c points.now quads.old labels.now in
         let w = work_of work.old floats.old in
         Contract (improve_call (setting_of b) passes x w result quads.new) }
@@ -56,7 +56,7 @@ pub fn coarsen_call(
     labels: &mut [u8],
     work: &mut [u32],
     floats: &mut [f64],
-) -> Answer
+) -> Result<Tally, Refusal>
     ensures { let x = lent_of c points.old quads.old labels.old in
         let w = work_of work.old floats.old in
         Contract (coarsen_call (setting_of b) passes x w result points.new quads.new
@@ -77,7 +77,7 @@ pub fn subdivide_call(
     new_labels: &mut [u8],
     work: &mut [u32],
     floats: &mut [f64],
-) -> Answer
+) -> Result<Tally, Refusal>
     ensures { let x = lent_of c points.now quads.now labels.now in
         let w = work_of work.old floats.old in
         let room = room_of new_points.old new_quads.old new_labels.old in

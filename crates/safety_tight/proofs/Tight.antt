@@ -5,7 +5,6 @@ use Rattle.rule_sheet.specs.Lent.{Lent, held}
 use Rattle.rule_sheet.specs.Sound.{AcceptedSheet, Sound}
 use Rattle.rule_admission.specs.Admission.{measurable_verdict}
 use Rattle.rule_quality.specs.declared.report.Quality.{Quality}
-use Rattle.rule_quality.specs.declared.report.Assessed.TheVariants.{Done}
 use Rattle.rule_quality.specs.Quality.{quality_rule, assessed_of}
 use Rattle.sheet.proofs.Tests.{length-points}
 use Rattle.admission.proofs.Accepted.{lent-accepted}
@@ -14,9 +13,10 @@ use Rattle.safety.specs.Calls.{EveryList}
 use Rattle.safety.proofs.Calls.{demand3}
 use Rattle.safety_rules.proofs.Fine.{fine_of}
 use Rattle.safety_tight.specs.Tight.{Assesses, TightIsSound, TightStays}
+use Rattle.std.specs.Prelude.{Ok}
 
-module _ (x : Lent) (q : Quality) (t : Bool) (A : Assesses x (Done q t)) where
-  answered : assessed_of (quality_rule A.domain x A.work) ≡ Done q t
+module _ (x : Lent) (q : Quality) (t : Bool) (A : Assesses x (Ok (record { quality = q; is_tight = t }))) where
+  answered : assessed_of (quality_rule A.domain x A.work) ≡ Ok (record { quality = q; is_tight = t })
   answered = sym A.answer
 
   held-accepted : AcceptedSheet (held x)

@@ -7,8 +7,8 @@ ghost use Rattle.rule_sheet.specs.Lent.{lent_of};
 ghost use Rattle.safety_tight.specs.Tight.{Assesses};
 
 use band::Band;
-use rule_quality::report::Assessed;
-use rule_sheet::Counts;
+use rule_quality::report::Assessment;
+use rule_sheet::{Counts, Refusal};
 
 // A call of `quality`.
 pub fn quality_call(
@@ -19,7 +19,7 @@ pub fn quality_call(
     labels: &[u8],
     work: &mut [u32],
     floats: &mut [f64],
-) -> Assessed
+) -> Result<Assessment, Refusal>
     ensures { Assesses (lent_of c points.now quads.now labels.now) result }
 {
     quality::quality(b, c, points, quads, labels, work, floats)

@@ -2,7 +2,7 @@
 use Prim.Native.Nat.{ℕ, zero, suc, ◌+◌, ◌*◌, ◌/◌, ◌%◌, ◌^◌, ◌≤◌, ◌<◌}
 use mathlib.Core.Bool.{Bool, true, false, cond, ◌&&◌, ◌||◌, or-true, or-false, and-false}
 use mathlib.Core.List.{List}
-use mathlib.Core.Logic.{◌⊎◌, ⊎_elim}
+use mathlib.Core.Logic.{⊎_elim}
 use mathlib.Core.Path.{◌≡◌, refl, sym, ap, ◌∙◌}
 use native.Mathlib.Omega.{arith}
 use native.Mathlib.Nat.{not-suc-le-zero}
@@ -13,7 +13,7 @@ use Rattle.lists.specs.Sort.{tabulate}
 use native.Mathlib.Numerals.{add-one}
 use Rattle.lists.proofs.Every.{and_left, and_right, every-at}
 use Rattle.lists.proofs.Laws.{eq-or-ne, is-tab, length-tab, get_or-tab, tab-set, tab-ext}
-use Rattle.rule_sheet.specs.Quads.{quad, num, pack_to, pack, at, uses, mask_of, touches}
+use Rattle.rule_sheet.specs.Quads.{quad, num, pack_to, pack, uses, mask_of, touches}
 use Rattle.rule_sheet.specs.Flat.{corner, quad_at, quads_of}
 use Rattle.sheet.specs.Flat.{seen, mask_in, Holds}
 use Rattle.rule_sheet.specs.Tests.{in_range}
@@ -275,9 +275,6 @@ unfolding used_to mask_of
 used_all {Q = Q} {labels = labels} {q = q} {j = j} U h =
     let e : j ≡ 4 = omega (arith, U.j≤) in
     marks-ext (seen Q labels (q + 1)) (rw e at U.marks) (λ v l. quad-more Q labels q v l U.label<)
-
-pub used-length : {Q labels : List ℕ} {q np l : ℕ} {w : List ℕ} {j : ℕ} → Used Q labels q np l w j → length w ≡ np
-used-length {np = np} U = ap length U.marks.is ∙ length-tab _ np
 
 -- ---- the quads one by one
 

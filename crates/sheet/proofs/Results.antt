@@ -14,12 +14,13 @@ use Rattle.rule_sheet.specs.declared.Counts.{Counts}
 use Rattle.rule_sheet.specs.Quads.{Quad, quad}
 use Rattle.rule_sheet.specs.Flat.{flat_quads}
 use Rattle.rule_sheet.specs.Sheet.{Sheet, flat_points}
-use Rattle.rule_sheet.specs.declared.Answer.{Answer}
-use Rattle.rule_sheet.specs.declared.Answer.TheVariants.{Refused}
 use Rattle.rule_sheet.specs.Outcomes.{Outcome, refuses, gives}
 use Rattle.rule_sheet.specs.Lent.{room_with, room_of}
 use Rattle.sheet.specs.Results.{cleared, HoldsCounts, Front, Fills}
 use Rattle.rule_sheet.specs.Results.{shown_counts, answer_of, made, shown, padded, Makes}
+use Rattle.std.specs.Prelude.{Err}
+use Rattle.rule_sheet.specs.Verdicts.{Answer}
+use Rattle.rule_sheet.specs.declared.Refusal.{Refusal}
 
 -- `clear(&mut s[n..])`
 pub behind : {A : Type 0} (x : A) (n : ℕ) (s z : List A) → n ≤ length s → z ≡ replicate (length (mid_of n (length s - n) s)) x → put_mid n (length s - n) s z ≡ cleared x n s
@@ -78,7 +79,7 @@ pub leaves_of : {o : Outcome Sheet} {r : Answer} {P A : List Float} {Q labels B 
 leaves_of {o} {r} {P} {A} {Q} {labels} {B} {D} {k} p q l F e ep eq el E = rw (← ep, ← eq, ← el, E.0, E.1.0, E.1.1, e) (fills-leaves F)
 
 -- a refusal shows nothing, whatever the slices hold
-pub refused-fills : (n : ℕ) (P : List Float) (Q labels : List ℕ) → Fills (refuses n) (Refused n) P Q labels
+pub refused-fills : (n : Refusal) (P : List Float) (Q labels : List ℕ) → Fills (refuses n) (Err n) P Q labels
 unfolding flat_points flat_quads
 refused-fills n P Q labels = record {
   answer = refl;

@@ -16,9 +16,6 @@ use Rattle.lists.proofs.Laws.{eq-or-ne, length-tab, get_or-tab, tab-take}
 use Rattle.lists.proofs.Every.{and_left, and_right, every-ext}
 use Rattle.points.specs.Points.{point_at, finite_p}
 use Rattle.rule_sheet.specs.declared.Counts.{Counts}
-use Rattle.rule_sheet.specs.declared.Verdict.{Verdict}
-use Rattle.rule_sheet.specs.declared.Verdict.TheVariants.{Accepted, Refused}
-use Rattle.rule_sheet.specs.Numbers.{bare, large, short, corner_number, clash}
 use Rattle.rule_sheet.specs.Quads.{Quad, all}
 use Rattle.rule_sheet.specs.Flat.{quad_at, quads_of}
 use Rattle.sheet.specs.Flat.{mask_in, Holds}
@@ -29,6 +26,10 @@ use Rattle.rule_sheet.specs.Lent.{is_large, is_short, is_short_work, lent_verdic
 use Rattle.sheet.specs.Sheet.{Few, bare_by, LentSheet, LentWork, masks_of, MasksIf}
 use Rattle.sheet.proofs.Flat.{length-quads}
 use Rattle.rule_sheet.proofs.All.{all_append}
+use Rattle.std.specs.Prelude.{Ok, Err}
+use Rattle.rule_sheet.specs.Numbers.{refusal_number}
+use Rattle.rule_sheet.specs.Verdicts.{Verdict, Accepted}
+use Rattle.rule_sheet.specs.declared.Refusal.TheVariants.{Bare, Corner, Clash, Large, Short}
 
 -- ---- 12 and 13
 
@@ -70,8 +71,8 @@ work-of c w f e = record { work = ltb-false _ _ (search (or_left)); floats = ltb
 
 -- the number of an answer, 0 where it is accepted
 abbrev number_of : Verdict → ℕ
-number_of Accepted = 0
-number_of (Refused n) = n
+number_of (Ok u) = 0
+number_of (Err n) = refusal_number n
 
 -- a lent sheet that 12 and 13 accept
 pub lent_is : (c : Counts) (p q l w f : ℕ) → lent_verdict c (room_with p q l) (work_with w f) ≡ Accepted → LentSheet c p q l × LentWork c w f
@@ -79,7 +80,7 @@ unfolding lent_verdict
 lent_is c p q l w f = go (is_large c) refl (is_short c (room_with p q l)) refl (is_short_work c (work_with w f)) refl
   where
     go : (a : Bool) → is_large c ≡ a → (b : Bool) → is_short c (room_with p q l) ≡ b → (d : Bool) → is_short_work c (work_with w f) ≡ d
-        → cond a (Refused large) (cond b (Refused short) (cond d (Refused short) Accepted)) ≡ Accepted → LentSheet c p q l × LentWork c w f
+        → cond a (Err Large) (cond b (Err Short) (cond d (Err Short) Accepted)) ≡ Accepted → LentSheet c p q l × LentWork c w f
     go true ea b eb d ed h = absurd (let z : ◌≡◌ {A = ℕ} 0 1 = cc in omega arith)
     go false ea true eb d ed h = absurd (let z : ◌≡◌ {A = ℕ} 0 1 = cc in omega arith)
     go false ea false eb true ed h = absurd (let z : ◌≡◌ {A = ℕ} 0 1 = cc in omega arith)
@@ -129,11 +130,11 @@ masks-tested np nq Q labels w e =
     rw l (every-ext (good_mask_at w) (good_point (quads_of nq Q) (take nq labels)) np (λ v h. ap good_mask (rw e (get_or-tab _ np v 0 h))))
 
 module _ (n : ℕ) (S : List Quad) (labels : List ℕ) where
-  pub verdict-corner : good_corners n S labels ≡ false → Refused corner_number ≡ quads_verdict n S labels
+  pub verdict-corner : good_corners n S labels ≡ false → Err Corner ≡ quads_verdict n S labels
   unfolding quads_verdict
   verdict-corner e = rw e
 
-  pub verdict-clash : good_corners n S labels ≡ true → good_masks n S labels ≡ false → Refused clash ≡ quads_verdict n S labels
+  pub verdict-clash : good_corners n S labels ≡ true → good_masks n S labels ≡ false → Err Clash ≡ quads_verdict n S labels
   unfolding quads_verdict
   verdict-clash e f = rw (e, f)
 
@@ -144,7 +145,7 @@ module _ (n : ℕ) (S : List Quad) (labels : List ℕ) where
 -- ---- 5, and then 6 and 7
 
 module _ (s : Sheet) where
-  pub verdict-bare : is_bare s ≡ true → Refused bare ≡ sheet_verdict s
+  pub verdict-bare : is_bare s ≡ true → Err Bare ≡ sheet_verdict s
   unfolding sheet_verdict
   verdict-bare e = rw e
 
@@ -185,7 +186,7 @@ unfolding sheet_verdict quads_verdict
 tested s = go (is_bare s) refl (good_corners (length s.points) s.quads s.labels) refl (good_masks (length s.points) s.quads s.labels) refl
   where
     go : (x : Bool) → is_bare s ≡ x → (g : Bool) → good_corners (length s.points) s.quads s.labels ≡ g → (m : Bool) → good_masks (length s.points) s.quads s.labels ≡ m
-        → cond x (Refused bare) (cond g (cond m Accepted (Refused clash)) (Refused corner_number)) ≡ Accepted → Tested s
+        → cond x (Err Bare) (cond g (cond m Accepted (Err Clash)) (Err Corner)) ≡ Accepted → Tested s
     go true ex g eg m em h = absurd (let z : ◌≡◌ {A = ℕ} 0 1 = cc in omega arith)
     go false ex false eg m em h = absurd (let z : ◌≡◌ {A = ℕ} 0 1 = cc in omega arith)
     go false ex true eg false em h = absurd (let z : ◌≡◌ {A = ℕ} 0 1 = cc in omega arith)

@@ -3,9 +3,9 @@ use Rattle.std.specs.Prelude.{ℕ, ◌-◌, ◌*◌, ◌≤◌, ◌≡◌, List,
 use Rattle.rule_sheet.specs.declared.Counts.{Counts}
 use Rattle.rule_sheet.specs.Flat.{flat_quads}
 use Rattle.rule_sheet.specs.Sheet.{Sheet, flat_points}
-use Rattle.rule_sheet.specs.declared.Answer.{Answer}
 use Rattle.rule_sheet.specs.Outcomes.{Outcome}
 use Rattle.rule_sheet.specs.Results.{answer_of, made, shown}
+use Rattle.rule_sheet.specs.Verdicts.{Answer}
 
 -- the first n elements, and zeros behind them
 unfoldable pub cleared : {A : Type 0} → A → ℕ → List A → List A

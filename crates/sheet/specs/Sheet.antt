@@ -1,13 +1,12 @@
 -- What the tests of a lent sheet are handed, and what they read of it.
-use Rattle.std.specs.Prelude.{ℕ, ◌+◌, ◌*◌, ◌≤◌, ◌≡◌, Bool, not, ◌||◌, List, eqb, Float}
+use Rattle.std.specs.Prelude.{ℕ, ◌+◌, ◌*◌, ◌≤◌, ◌≡◌, Bool, not, ◌||◌, List, eqb, Float, Ok, Err}
 use Rattle.lists.specs.Sort.{tabulate}
 use Rattle.lists.specs.Every.{every}
 use Rattle.points.specs.Points.{point_at, finite_p}
 use Rattle.rule_sheet.specs.declared.Counts.{Counts}
-use Rattle.rule_sheet.specs.declared.Verdict.{Verdict}
-use Rattle.rule_sheet.specs.declared.Verdict.TheVariants.{Accepted, Refused}
 use Rattle.rule_sheet.specs.Quads.{Quad, mask_of}
 use Rattle.rule_sheet.specs.Lent.{limit}
+use Rattle.rule_sheet.specs.Verdicts.{Verdict}
 
 -- what 12 leaves: small counts
 pub record Few (c : Counts) : Type 0 where
@@ -29,8 +28,8 @@ masks_of n S labels = tabulate (mask_of S labels) n
 
 -- an accepted sheet leaves its masks; of a refused one nothing is said
 abbrev pub MasksIf : Verdict → List ℕ → List ℕ → Type 0
-MasksIf Accepted masks w = w ≡ masks
-MasksIf (Refused n) masks w = Unit {0}
+MasksIf (Ok u) masks w = w ≡ masks
+MasksIf (Err n) masks w = Unit {0}
 
 -- what 12 and 13 leave of a sheet in slices of p, q and l elements: small counts, and slices that hold them
 pub record LentSheet (c : Counts) (p q l : ℕ) : Type 0 where

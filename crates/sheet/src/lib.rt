@@ -19,23 +19,11 @@ ghost use Rattle.numeric.specs.Num.{zero_f};
 ghost use Rattle.sheet.specs.Results.{cleared, HoldsCounts};
 ghost use Rattle.rule_sheet.specs.Results.{shown_counts, Cleared};
 
-use rule_sheet::{Answer, Counts, Verdict};
+use lists::Zero;
+use rule_sheet::{Counts, Refusal, Tally};
 
 // The most points, quads or labels of a sheet.
 pub const LIMIT: usize = 1048576;
-
-// The numbers of refusals.
-pub const BARE: u32 = 5;
-
-pub const CORNER: u32 = 6;
-
-pub const CLASH: u32 = 7;
-
-pub const EDGE: u32 = 8;
-
-pub const LARGE: u32 = 12;
-
-pub const SHORT: u32 = 13;
 
 // 12: more than the limit.
 pub fn is_large(c: Counts) -> bool
@@ -79,32 +67,32 @@ pub fn lent(
     labels: usize,
     work: usize,
     floats: usize,
-) -> Verdict
+) -> Result<(), Refusal>
     ensures { result ≡ lent_verdict c (room_with points quads labels) (work_with work floats) }
 {
     if is_large(c) {
-        return Verdict::Refused(LARGE);
+        return Err(Refusal::Large);
     }
     if is_short(c, points, quads, labels) {
-        return Verdict::Refused(SHORT);
+        return Err(Refusal::Short);
     }
     if is_short_work(c, work, floats) {
-        return Verdict::Refused(SHORT);
+        return Err(Refusal::Short);
     }
-    Verdict::Accepted
+    Ok(())
 }
 
 // 12, then 13 where something else that a call is lent is too short.
-pub fn before_verdict(c: Counts, too_short: bool) -> Verdict
+pub fn before_verdict(c: Counts, too_short: bool) -> Result<(), Refusal>
     ensures { result ≡ before_verdict c too_short }
 {
     if is_large(c) {
-        return Verdict::Refused(LARGE);
+        return Err(Refusal::Large);
     }
     if too_short {
-        return Verdict::Refused(SHORT);
+        return Err(Refusal::Short);
     }
-    Verdict::Accepted
+    Ok(())
 }
 
 // Every coordinate of the first n points is finite.
@@ -112,11 +100,8 @@ pub fn finite_points(n: usize, points: &[f64]) -> bool
     requires { 3 * n ≤ length points.now }
     ensures { result ≡ every (finite_at points.now) n }
 {
-    let mut v = 0;
-    while v < n {
-        if points::finite(points::point_at(points, v)) {
-            v += 1;
-        } else {
+    for v in 0..n {
+        if !points::finite(points::point_at(points, v)) {
             return false;
         }
     }
@@ -136,7 +121,7 @@ pub fn is_bare(c: Counts, points: &[f64]) -> bool
 pub fn one_if(test: bool) -> usize
     ensures { result ≡ num test }
 {
-    if test { 1 } else { 0 }
+    usize::from(test)
 }
 
 // All four are numbers of the n points.
@@ -180,11 +165,8 @@ fn good_quads(n: usize, nq: usize, quads: &[u32], labels: &[u8]) -> bool
     requires { Holds nq quads.now labels.now }
     ensures { result ≡ every (good_quad_at n quads.now labels.now) nq }
 {
-    let mut q = 0;
-    while q < nq {
-        if good_quad(n, quads, labels, q) {
-            q += 1;
-        } else {
+    for q in 0..nq {
+        if !good_quad(n, quads, labels, q) {
             return false;
         }
     }
@@ -212,15 +194,7 @@ pub fn good_mask(m: u32) -> bool
 pub fn good_masks(masks: &[u32]) -> bool
     ensures { result ≡ every (good_mask_at masks.now) (length masks.now) }
 {
-    let mut v = 0;
-    while v < masks.len() {
-        if good_mask(masks[v]) {
-            v += 1;
-        } else {
-            return false;
-        }
-    }
-    true
+    masks.iter().all(|m| good_mask(*m))
 }
 
 // Sets the bit of a label in the mask at v.
@@ -243,10 +217,8 @@ fn mark_corners(quads: &[u32], labels: &[u8], q: usize, masks: &mut [u32])
         (length masks.old) }
 {
     let l = lists::byte_at(labels, q);
-    let mut j = 0;
-    while j < 4 {
+    for j in 0..4 {
         mark(masks, corner_at(quads, q, j), l);
-        j += 1;
     }
 }
 
@@ -258,15 +230,13 @@ pub fn mark_quads(nq: usize, quads: &[u32], labels: &[u8], masks: &mut [u32])
     ensures { masks.new ≡ tabulate (mask_in quads.now labels.now nq)
         (length masks.old) }
 {
-    let mut q = 0;
-    while q < nq {
+    for q in 0..nq {
         mark_corners(quads, labels, q, masks);
-        q += 1;
     }
 }
 
 // 6 and 7, of nq quads and as many points as there are masks.
-fn quads_tested(nq: usize, quads: &[u32], labels: &[u8], masks: &mut [u32]) -> Verdict
+fn quads_tested(nq: usize, quads: &[u32], labels: &[u8], masks: &mut [u32]) -> Result<(), Refusal>
     requires { Holds nq quads.now labels.now }
     ensures value { result ≡ quads_verdict (length masks.old) (quads_of nq quads.now)
         (take nq labels.now) }
@@ -277,11 +247,11 @@ fn quads_tested(nq: usize, quads: &[u32], labels: &[u8], masks: &mut [u32]) -> V
         lists::clear(masks);
         mark_quads(nq, quads, labels, masks);
         if good_masks(masks) {
-            return Verdict::Accepted;
+            return Ok(());
         }
-        return Verdict::Refused(CLASH);
+        return Err(Refusal::Clash);
     }
-    Verdict::Refused(CORNER)
+    Err(Refusal::Corner)
 }
 
 // 5, 6 and 7, of a sheet that its slices hold; the masks of an accepted one go to the lent slice.
@@ -291,7 +261,7 @@ pub fn constraints(
     quads: &[u32],
     labels: &[u8],
     masks: &mut [u32],
-) -> Verdict
+) -> Result<(), Refusal>
     requires lent_sheet { LentSheet c (length points.now) (length quads.now) (length labels.now) }
     requires masks_len { length masks.old ≡ c.points }
     ensures value { result ≡ sheet_verdict (sheet_of c points.now quads.now labels.now) }
@@ -299,7 +269,7 @@ pub fn constraints(
         (take c.labels labels.now)) masks.new }
 {
     if is_bare(c, points) {
-        return Verdict::Refused(BARE);
+        return Err(Refusal::Bare);
     }
     quads_tested(c.quads, quads, labels, masks)
 }
@@ -307,12 +277,12 @@ pub fn constraints(
 // What an operation leaves behind: its answer, result slices with zeros behind the sheet, work slices of zeros.
 
 // The counts of the sheet of an answer; a refusal shows none.
-pub fn shown_counts(r: Answer) -> Counts
+pub fn shown_counts(r: Result<Tally, Refusal>) -> Counts
     ensures { result ≡ shown_counts r }
 {
     match r {
-        Answer::Done(t) => t.sheet,
-        Answer::Refused(_) => Counts {
+        Ok(t) => t.sheet,
+        Err(_) => Counts {
             points: 0,
             quads: 0,
             labels: 0,
@@ -332,27 +302,11 @@ pub fn put_quad(quads: &mut [u32], i: usize, a: u32, b: u32, c: u32, d: u32)
 }
 
 // Clears what lies behind the first n elements.
-pub fn clear_behind(n: usize, s: &mut [u32])
+pub fn clear_behind<T: Zero>(n: usize, s: &mut [T])
     requires { n ≤ length s.old }
-    ensures { s.new ≡ cleared 0 n s.old }
+    ensures { s.new ≡ cleared T.ZERO n s.old }
 {
     lists::clear(&mut s[n..]);
-}
-
-// The same for f64.
-pub fn clear_behind_f64(n: usize, s: &mut [f64])
-    requires { n ≤ length s.old }
-    ensures { s.new ≡ cleared zero_f n s.old }
-{
-    lists::clear_f64(&mut s[n..]);
-}
-
-// The same for bytes.
-pub fn clear_behind_u8(n: usize, s: &mut [u8])
-    requires { n ≤ length s.old }
-    ensures { s.new ≡ cleared 0 n s.old }
-{
-    lists::clear_u8(&mut s[n..]);
 }
 
 // Clears the result slices behind a sheet of these counts.
@@ -362,9 +316,9 @@ pub fn clear_unused(c: Counts, points: &mut [f64], quads: &mut [u32], labels: &m
     ensures quads_after { quads.new ≡ cleared 0 (4 * c.quads) quads.old }
     ensures labels_after { labels.new ≡ cleared 0 c.labels labels.old }
 {
-    clear_behind_f64(3 * c.points, points);
+    clear_behind(3 * c.points, points);
     clear_behind(4 * c.quads, quads);
-    clear_behind_u8(c.labels, labels);
+    clear_behind(c.labels, labels);
 }
 
 // Clears both work slices.
@@ -372,5 +326,5 @@ pub fn clear_work(work: &mut [u32], floats: &mut [f64])
     ensures { Cleared work.old floats.old work.new floats.new }
 {
     lists::clear(work);
-    lists::clear_f64(floats);
+    lists::clear(floats);
 }

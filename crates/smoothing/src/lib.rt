@@ -3,31 +3,16 @@
 #![tactic(auto)]
 
 ghost use Rattle.std.specs.Prelude.{◌≡◌};
-ghost use Rattle.std.specs.Float.{binary64};
-ghost use Rattle.std.specs.Float.Ieee.{div};
-ghost use Rattle.points.specs.Points.{one, mul_p};
 ghost use Rattle.smoothing.specs.Smooth.{mean as mean_of, edge_point, crease_point, interior_by};
 ghost use Rattle.smoothing.specs.Rounded.{pointwise};
 
 use points::{Point, add, mul};
 
-// Each coordinate times the reciprocal of n.
-fn shared_by(sum: Point, n: f64) -> Point
-    ensures { result ≡ mul_p sum (div binary64 one n) }
-{
-    let r = 1.0 / n;
-    Point {
-        x: sum.x * r,
-        y: sum.y * r,
-        z: sum.z * r,
-    }
-}
-
-// The mean of n points, from their sum.
+// The mean of n points, from their sum: each coordinate times the reciprocal of n.
 pub fn mean(sum: Point, n: usize) -> Point
     ensures { result ≡ mean_of pointwise sum n }
 {
-    shared_by(sum, numeric::float(n))
+    mul(sum, 1.0 / numeric::float(n))
 }
 
 // The new point of the edge from a to b inside one label, f and g being the centres of its quads in quad order.

@@ -17,13 +17,12 @@ use Rattle.points.specs.Points.{point_at}
 use Rattle.points.specs.Steps.{with_point}
 use Rattle.band.specs.declared.Band.{Band}
 use Rattle.band.specs.Bands.{length_of}
-use Rattle.projection.specs.declared.Projected.{Projected}
-use Rattle.projection.specs.declared.Projected.TheVariants.{Onto, Refused}
 use Rattle.projection.specs.Project.{longest_move, look_count, project_with, project_of, onto_of}
 use Rattle.rule_sheet.specs.Sheet.{flat_points}
 use Rattle.sheet.specs.Results.{Front}
 use Rattle.sheet.proofs.Fronts.{front-none, front-point, length-with}
 use Rattle.subdivide.specs.Steps.{land_at, lands_of, landed_to}
+use Rattle.std.specs.Prelude.{Some, None, Option}
 
 -- a point put elsewhere leaves this one
 with-other : (s : List Float) (v u : ℕ) (p : Point) → (u ≡ v → ⊥) → point_at (with_point s v p) u ≡ point_at s u
@@ -35,7 +34,7 @@ with-other s v u p ne = simp (at (u * 3) (λ e. omega arith) (λ e. omega arith)
     at k a b c = rw (get_or-set_other (set (set s (v * 3) p.x) (v * 3 + 1) p.y) (v * 3 + 2) k p.z nan c, get_or-set_other (set s (v * 3) p.x) (v * 3 + 1) k p.y nan b, get_or-set_other s (v * 3) k p.x nan a)
 
 -- the projection that the code asks for
-pub project-is : (b : Band) (s : List Float) (v k : ℕ) (len : Float) (p : Point) (r : Projected) → r ≡ project_with b len longest_move look_count p k → len ≡ length_of b → p ≡ point_at s v
+pub project-is : (b : Band) (s : List Float) (v k : ℕ) (len : Float) (p : Point) (r : Option Point) → r ≡ project_with b len longest_move look_count p k → len ≡ length_of b → p ≡ point_at s v
     → r ≡ project_with b (length_of b) longest_move look_count (point_at s v) k
 project-is b s v k len p r er el ep = er ∙ rw (el, ep)
 
@@ -57,15 +56,15 @@ landed-start b P M n = record {
   all = every-zero (lands_of b P M);
 }
 
-module _ {b : Band} {P : List Float} {M : List ℕ} {n : ℕ} {s : List Float} {v : ℕ} (I : Landed b P M n s v) (r : Projected) (k : ℕ) (e : k ≡ get_or M v 0) (er : r ≡ project_with b (length_of b) longest_move look_count (point_at s v) k) where
+module _ {b : Band} {P : List Float} {M : List ℕ} {n : ℕ} {s : List Float} {v : ℕ} (I : Landed b P M n s v) (r : Option Point) (k : ℕ) (e : k ≡ get_or M v 0) (er : r ≡ project_with b (length_of b) longest_move look_count (point_at s v) k) where
   land-is : r ≡ land_at b P M v
   unfolding land_at project_of
   land-is = er ∙ rw (e, I.rest v (omega arith))
 
-  pub landed-turn : (p : Point) (s' : List Float) → v < n → 3 * n ≤ length P → r ≡ Onto p → s' ≡ with_point s v p → Landed b P M n s' (v + 1)
+  pub landed-turn : (p : Point) (s' : List Float) → v < n → 3 * n ≤ length P → r ≡ Some p → s' ≡ with_point s v p → Landed b P M n s' (v + 1)
   unfolding landed_to
   landed-turn p s' h room eo es =
-      let l : land_at b P M v ≡ Onto p = sym land-is ∙ eo in
+      let l : land_at b P M v ≡ Some p = sym land-is ∙ eo in
       record {
         v≤ = omega arith;
         len = rw es (length-with s v p ∙ I.len);
@@ -74,9 +73,9 @@ module _ {b : Band} {P : List Float} {M : List ℕ} {n : ℕ} {s : List Float} {
         all = every-suc (lands_of b P M) v I.all (rw l);
       }
 
-  pub landed-fails : v < n → r ≡ Refused → false ≡ every (lands_of b P M) n
+  pub landed-fails : v < n → r ≡ None → false ≡ every (lands_of b P M) n
   landed-fails h eo =
-      let l : land_at b P M v ≡ Refused = sym land-is ∙ eo in
+      let l : land_at b P M v ≡ None = sym land-is ∙ eo in
       sym (every-fails (lands_of b P M) n v h (rw l))
 
 pub landed-end : {b : Band} {P : List Float} {M : List ℕ} {n : ℕ} {s : List Float} {v : ℕ} → Landed b P M n s v → n ≤ v → (true ≡ every (lands_of b P M) n) × Front (flat_points (landed_to b P M n)) s

@@ -17,10 +17,6 @@ use Rattle.lists.proofs.Regions.{part-kept}
 use Rattle.band.specs.declared.Band.{Band}
 use Rattle.setting.specs.Settings.{setting_of}
 use Rattle.rule_sheet.specs.declared.Counts.{Counts}
-use Rattle.rule_sheet.specs.declared.Answer.{Answer}
-use Rattle.rule_sheet.specs.declared.Answer.TheVariants as answers
-use Rattle.rule_sheet.specs.declared.Verdict.{Verdict}
-use Rattle.rule_sheet.specs.declared.Verdict.TheVariants.{Accepted, Refused}
 use Rattle.rule_sheet.specs.Quads.{has_label, mask_of}
 use Rattle.rule_sheet.specs.Flat.{quads_of, flat_quads}
 use Rattle.rule_sheet.specs.Tests.{good_corners}
@@ -48,6 +44,10 @@ use Rattle.sheet.proofs.Fronts.{front-quads, points-front, quads-front}
 use Rattle.rule_finer.specs.Subdivide.{landing, lands_at, projected_sheet, projected, subdivided, subdivide_rule}
 use Rattle.projection.specs.Project.{onto_of}
 use Rattle.subdivide.specs.Steps.{Masked, land_at, lands_of, landed_to, Tested}
+use Rattle.std.specs.Prelude.{Ok, Err}
+use Rattle.rule_sheet.specs.Verdicts.{Verdict, Answer, Accepted}
+use Rattle.rule_sheet.specs.declared.Refusal.{Refusal}
+use Rattle.rule_sheet.specs.declared.Refusal.TheVariants.{Astray, Edge, Short}
 
 -- ---- the tests and the projection of the smoothed sheet
 
@@ -58,7 +58,7 @@ module _ (b : Band) (c : Counts) (P : List Float) (Q labels : List ℕ) (L : Len
   abbrev masks : List ℕ
   masks = masks_of c.points (quads_of c.quads Q) (take c.labels labels)
 
-  pub land-refused : (k : ℕ) (A : List Float) (B D : List ℕ) → sheet_verdict (sheet_of c P Q labels) ≡ Refused k → Fills landed (answers.Refused k) A B D
+  pub land-refused : (k : Refusal) (A : List Float) (B D : List ℕ) → sheet_verdict (sheet_of c P Q labels) ≡ Err k → Fills landed (Err k) A B D
   land-refused k A B D e = rw e (refused-fills k A B D)
 
   module _ (y w : List ℕ) (em : y ≡ masks) where
@@ -91,11 +91,11 @@ module _ (b : Band) (c : Counts) (P : List Float) (Q labels : List ℕ) (L : Len
     lands-same = rw (length-points c.points P) (every-ext _ _ c.points (λ v h. rw (land-same v h)))
 
     module _ (r : Bool) (er : r ≡ every (lands_of b P front) c.points) (e : sheet_verdict (sheet_of c P Q labels) ≡ Accepted) where
-      pub land-astray : (A : List Float) (B D : List ℕ) → r ≡ false → Fills landed (answers.Refused 9) A B D
+      pub land-astray : (A : List Float) (B D : List ℕ) → r ≡ false → Fills landed (Err Astray) A B D
       unfolding projected
-      land-astray A B D f = rw (e, lands-same, ← er, f) (refused-fills 9 A B D)
+      land-astray A B D f = rw (e, lands-same, ← er, f) (refused-fills Astray A B D)
 
-      pub land-done : (A : List Float) → r ≡ true → (r ≡ true → Front (flat_points (landed_to b P front c.points)) A) → Fills landed (answers.Done (record { count = 0; sheet = c })) A Q labels
+      pub land-done : (A : List Float) → r ≡ true → (r ≡ true → Front (flat_points (landed_to b P front c.points)) A) → Fills landed (Ok (record { count = 0; sheet = c })) A Q labels
       unfolding projected projected_sheet landed_to
       land-done A t F =
           let k : length (take c.labels labels) ≡ c.labels = length-take-le c.labels labels L.labels in
@@ -121,14 +121,14 @@ module _ (b : Band) (c : Counts) (P : List Float) (Q labels v : List ℕ) (T : T
   abbrev over : Bool
   over = is_large (counts_after c n) || is_short (counts_after c n) (room_with p q l)
 
-  pub tested-over : (A : List Float) (B D : List ℕ) → over ≡ true → Fills (subdivided (setting_of b) lent_sheet (room_with p q l)) (answers.Refused 13) A B D
+  pub tested-over : (A : List Float) (B D : List ℕ) → over ≡ true → Fills (subdivided (setting_of b) lent_sheet (room_with p q l)) (Err Short) A B D
   unfolding subdivided
-  tested-over A B D o = rw (counts-are, o) (refused-fills 13 A B D)
+  tested-over A B D o = rw (counts-are, o) (refused-fills Short A B D)
 
   module _ (o : over ≡ false) where
-    pub tested-edge : (A : List Float) (B D : List ℕ) → paired c.points (quads_of c.quads Q) ≡ false → Fills (subdivided (setting_of b) lent_sheet (room_with p q l)) (answers.Refused 8) A B D
+    pub tested-edge : (A : List Float) (B D : List ℕ) → paired c.points (quads_of c.quads Q) ≡ false → Fills (subdivided (setting_of b) lent_sheet (room_with p q l)) (Err Edge) A B D
     unfolding subdivided
-    tested-edge A B D e = rw (counts-are, o, length-points c.points P, e) (refused-fills 8 A B D)
+    tested-edge A B D e = rw (counts-are, o, length-points c.points P, e) (refused-fills Edge A B D)
 
     module _ {w : List ℕ} (W : Worked c.points c.quads Q w) (K : Kept (Behind c.points c.quads) v w) where
       finished : Finished c.points c.quads P Q labels w p q l
@@ -178,7 +178,7 @@ module _ (b : Band) (c : Counts) (P : List Float) (Q labels v : List ℕ) (T : T
 -- ---- the tests before
 
 module _ (b : Band) (c : Counts) (P : List Float) (Q labels : List ℕ) (k : Work) (v : Verdict) (e : v ≡ admits (setting_of b) (lent_of c P Q labels) k) where
-  pub rule-refused : (room : Room) (n : ℕ) (A : List Float) (B D : List ℕ) → v ≡ Refused n → Fills (subdivide_rule (setting_of b) (lent_of c P Q labels) k room) (answers.Refused n) A B D
+  pub rule-refused : (room : Room) (n : Refusal) (A : List Float) (B D : List ℕ) → v ≡ Err n → Fills (subdivide_rule (setting_of b) (lent_of c P Q labels) k room) (Err n) A B D
   unfolding subdivide_rule
   rule-refused room n A B D h = rw (← e, h) (refused-fills n A B D)
 

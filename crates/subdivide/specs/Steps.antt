@@ -1,11 +1,10 @@
 -- The projection of points in place, over flat lists: coordinates P and masks M.
-use Rattle.std.specs.Prelude.{ℕ, ◌≤◌, ◌<◌, ◌≡◌, Bool, true, List, length, get_or, take, Float}
+use Rattle.std.specs.Prelude.{ℕ, ◌≤◌, ◌<◌, ◌≡◌, Bool, true, List, length, get_or, take, Float, Option}
 use Rattle.lists.specs.Sort.{tabulate}
 use Rattle.lists.specs.Regions.{Part}
 use Rattle.points.specs.declared.Point.{Point}
 use Rattle.points.specs.Points.{point_at}
 use Rattle.band.specs.declared.Band.{Band}
-use Rattle.projection.specs.declared.Projected.{Projected}
 use Rattle.projection.specs.Project.{project_of, is_onto, onto_of}
 use Rattle.rule_sheet.specs.declared.Counts.{Counts}
 use Rattle.rule_sheet.specs.Quads.{all}
@@ -21,7 +20,7 @@ pub record Masked (n : ℕ) (M : List ℕ) : Type 0 where
   pub low : (v : ℕ) → v < n → get_or M v 0 < 256
 
 -- the projection of point v of the coordinates P by its mask in M
-unfoldable pub land_at : Band → List Float → List ℕ → ℕ → Projected
+unfoldable pub land_at : Band → List Float → List ℕ → ℕ → Option Point
 land_at b P M v = project_of b (point_at P v) (get_or M v 0)
 
 abbrev pub lands_of : Band → List Float → List ℕ → ℕ → Bool

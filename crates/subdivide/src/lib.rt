@@ -15,11 +15,8 @@ ghost use Rattle.rule_finer.specs.Subdivide.{projected, subdivided, subdivide_ru
 ghost use Rattle.subdivide.specs.Steps.{Masked, lands_of, landed_to, Tested};
 
 use band::Band;
-use projection::{LONGEST_MOVE, LOOKS, Projected};
-use rule_sheet::{Answer, Counts, Tally, Verdict};
-
-// The number of a refusal: a point whose projection fails.
-pub const ASTRAY: u32 = 9;
+use projection::{LONGEST_MOVE, LOOKS};
+use rule_sheet::{Counts, Refusal, Tally};
 
 // Projects the first n points, each by its mask; whether all projections succeed.
 fn project_points(b: Band, n: usize, masks: &[u32], points: &mut [f64]) -> bool
@@ -30,8 +27,7 @@ fn project_points(b: Band, n: usize, masks: &[u32], points: &mut [f64]) -> bool
         points.new }
 {
     let len = band::length(b);
-    let mut v = 0;
-    while v < n {
+    for v in 0..n {
         let mask = lists::at(masks, v) as u8;
         let r = projection::project(
             b,
@@ -41,11 +37,10 @@ fn project_points(b: Band, n: usize, masks: &[u32], points: &mut [f64]) -> bool
             points::point_at(points, v),
             mask,
         );
-        let Projected::Onto(p) = r else {
+        let Some(p) = r else {
             return false;
         };
         points::put_point(points, v, p);
-        v += 1;
     }
     true
 }
@@ -58,7 +53,7 @@ fn land(
     quads: &[u32],
     labels: &[u8],
     w: &mut [u32],
-) -> Answer
+) -> Result<Tally, Refusal>
     requires lent_sheet { LentSheet c (length points.old) (length quads.now) (length labels.now) }
     requires points_in_bounds { c.points ≤ length w.old }
     ensures { let t = sheet_of c points.old quads.now labels.now in
@@ -66,14 +61,11 @@ fn land(
         labels.now }
 {
     let n = c.points;
-    let v = sheet::constraints(c, points, quads, labels, &mut w[..n]);
-    if let Verdict::Refused(k) = v {
-        return Answer::Refused(k);
-    }
+    sheet::constraints(c, points, quads, labels, &mut w[..n])?;
     if project_points(b, n, &w[..n], points) {
-        return Answer::Done(Tally { count: 0, sheet: c });
+        return Ok(Tally { count: 0, sheet: c });
     }
-    Answer::Refused(ASTRAY)
+    Err(Refusal::Astray)
 }
 
 // Subdivides a sheet that the tests accept, its masks in the work slice.
@@ -87,7 +79,7 @@ fn subdivide_tested(
     new_quads: &mut [u32],
     new_labels: &mut [u8],
     w: &mut [u32],
-) -> Answer
+) -> Result<Tally, Refusal>
     requires { Tested c (length points.now) quads.now labels.now w.old }
     ensures { Fills (subdivided (setting_of b) (sheet_of c points.now quads.now
         labels.now) (room_of new_points.old new_quads.old
@@ -102,7 +94,7 @@ fn subdivide_tested(
         labels: 4 * nq,
     };
     if sheet::is_over(made, new_points.len(), new_quads.len(), new_labels.len()) {
-        return Answer::Refused(sheet::SHORT);
+        return Err(Refusal::Short);
     }
     if subdivide_points::is_paired(np, nq, quads, w) {
         subdivide_points::put_smoothed(
@@ -110,7 +102,7 @@ fn subdivide_tested(
         );
         return land(b, made, new_points, new_quads, new_labels, w);
     }
-    Answer::Refused(sheet::EDGE)
+    Err(Refusal::Edge)
 }
 
 // The subdivided sheet, or the first refusal; the slices behind it may hold anything.
@@ -125,13 +117,13 @@ fn subdivide_or_refusal(
     new_labels: &mut [u8],
     w: &mut [u32],
     floats: usize,
-) -> Answer
+) -> Result<Tally, Refusal>
     ensures { Fills (subdivide_rule (setting_of b) (lent_of c points.now quads.now
         labels.now) (work_with (length w.old) floats) (room_of new_points.old
         new_quads.old new_labels.old)) result new_points.new
         new_quads.new new_labels.new }
 {
-    let v = admission::admit(
+    admission::admit(
         b,
         c,
         points,
@@ -140,10 +132,7 @@ fn subdivide_or_refusal(
         subdivide_points::MASKS,
         w,
         floats,
-    );
-    if let Verdict::Refused(n) = v {
-        return Answer::Refused(n);
-    }
+    )?;
     subdivide_tested(
         b, c, points, quads, labels, new_points, new_quads, new_labels, w,
     )
@@ -162,7 +151,7 @@ pub fn subdivide(
     new_labels: &mut [u8],
     work: &mut [u32],
     floats: &mut [f64],
-) -> Answer
+) -> Result<Tally, Refusal>
     ensures sheet { let x = lent_of c points.now quads.now labels.now in
         let room = room_of new_points.old new_quads.old new_labels.old in
         Makes (subdivide_rule (setting_of b) x (work_of work.old floats.old) room) room result

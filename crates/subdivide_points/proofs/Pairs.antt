@@ -45,13 +45,12 @@ module _ {order : ℕ} {w : List ℕ} (nq : ℕ) (Q : List ℕ) (i c : ℕ) (B :
 
 -- the invariant of the loop that notes the second corners
 pub record SecondLoop (nq order second : ℕ) (E v w : List ℕ) (k : ℕ) : Type 0 where
-  pub k≤ : k ≤ 2 * nq
   pub pairing : Pairing nq order second E v
   pub done : Seconds second E k w
   pub kept : Kept (Out second (4 * nq)) v w
 
 pub seconds-start : {nq order second : ℕ} {E v : List ℕ} → Pairing nq order second E v → SecondLoop nq order second E v v 0
-seconds-start P = record { k≤ = omega arith; pairing = P; done = λ i h. absurd (omega arith); kept = kept_refl _ _ }
+seconds-start P = record { pairing = P; done = λ i h. absurd (omega arith); kept = kept_refl _ _ }
 
 module _ {nq order second : ℕ} {E v w : List ℕ} {k : ℕ} (I : SecondLoop nq order second E v w k) (h : k < 2 * nq) where
   corners-at : Part order (4 * nq) E w
@@ -64,7 +63,7 @@ module _ {nq order second : ℕ} {E v w : List ℕ} {k : ℕ} (I : SecondLoop nq
   first-low c e = rw (e, first-at) (I.pairing.corners.low (2 * k) (omega arith))
 
   pub seconds-turn : (c : ℕ) → c ≡ get_or w (order + 2 * k) 0 → SecondLoop nq order second E v (set w (second + c) (get_or w (order + (2 * k + 1)) 0)) (k + 1)
-  seconds-turn c e = record { k≤ = omega arith; pairing = I.pairing; done = done; kept = kept_set (second + c) _ I.kept (λ o. o (omega arith) (omega (arith, first-low c e))) }
+  seconds-turn c e = record { pairing = I.pairing; done = done; kept = kept_set (second + c) _ I.kept (λ o. o (omega arith) (omega (arith, first-low c e))) }
     where
       done : Seconds second E (k + 1) (set w (second + c) (get_or w (order + (2 * k + 1)) 0))
       done i b = ⊎_elim
@@ -74,5 +73,5 @@ module _ {nq order second : ℕ} {E v w : List ℕ} {k : ℕ} (I : SecondLoop nq
           get_or-set_other w (second + c) (second + get_or E (2 * i) 0) _ 0 (λ q. I.pairing.corners.once (2 * i) (2 * k) l (omega arith) (omega (arith, e, first-at))) ∙ I.done i (omega arith))
           (eq-or-ne i k)
 
-pub seconds-end : {nq order second : ℕ} {E v w : List ℕ} {k : ℕ} → SecondLoop nq order second E v w k → 2 * nq ≤ k → Seconds second E (2 * nq) w × Kept (Out second (4 * nq)) v w
-seconds-end {nq} {order} {second} {E} {v} {w} {k} I h = let e : k ≡ 2 * nq = omega (arith, I.k≤) in (rw e at I.done, I.kept)
+pub seconds-end : {nq order second : ℕ} {E v w : List ℕ} {k : ℕ} → SecondLoop nq order second E v w k → k ≡ 2 * nq → Seconds second E (2 * nq) w × Kept (Out second (4 * nq)) v w
+seconds-end {nq} {order} {second} {E} {v} {w} {k} I e = (rw e at I.done, I.kept)

@@ -1,12 +1,12 @@
--- Sums over a part of the work slice, one element more at a time. Assumes nothing.
+-- Parts of the work slice, and sums over a list, one element more at a time. Assumes nothing.
 use Prim.Native.Nat.{ℕ, ◌+◌, ◌-◌, ◌*◌, ◌/◌, ◌%◌, ◌≤◌, ◌<◌}
 use mathlib.Core.Path.{◌≡◌, sym, ap, ◌∙◌}
 use mathlib.Core.List.{List, [], ◌∷◌, ◌++◌, map, map-append}
 use native.Mathlib.Omega.{arith}
 use native.Mathlib.Numerals.{add-one}
-use lib.ListN.{length, get_or, drop, length-drop}
+use lib.ListN.{length, get_or, take, drop, length-drop}
 use lib.Ieee.{Float}
-use lib.Seq.{take-suc, get_or-drop}
+use lib.Seq.{take-suc, take-length, get_or-drop}
 use Rattle.lists.specs.Regions.{part}
 use Rattle.points.specs.declared.Point.{Point}
 use Rattle.smoothing.specs.Smooth.{sum_of}
@@ -27,24 +27,18 @@ part-suc d from j w h =
 pub below_at : {bound from n : ℕ} {w : List ℕ} (j x : ℕ) → Below bound from n w → j < n → x ≡ get_or w (from + j) 0 → x < bound
 below_at j x B h e = rw e (B.below j h)
 
--- the invariant of a loop that sums g over the m elements at `from`
-pub record Sum (g : ℕ → Point) (from m : ℕ) (w : List ℕ) (s : Point) (j : ℕ) : Type 0 where
-  pub j≤ : j ≤ m
-  pub is : s ≡ sum_of pointwise (map g (part from j w))
-
-pub sum-start : (g : ℕ → Point) (from m : ℕ) (w : List ℕ) (s : Point) → s ≡ origin → Sum g from m w s 0
+-- a sum of g over the first j numbers of l, and over one more
+pub sum-start : (s : Point) → s ≡ origin → s ≡ sum_of pointwise []
 unfolding sum_of
-sum-start g from m w s e = record { j≤ = omega arith; is = e ∙ sym origin-by }
+sum-start s e = e ∙ sym origin-by
 
-pub sum-turn : {g : ℕ → Point} {from m : ℕ} {w : List ℕ} {s : Point} {j : ℕ} (x : ℕ) (p r : Point) → Sum g from m w s j → j < m → from + m ≤ length w
-    → x ≡ get_or w (from + j) 0 → p ≡ g x → r ≡ add_p s p → Sum g from m w r (j + 1)
-sum-turn {g} {from} {m} {w} {s} {j} x p r I h fits ex ep er = record {
-  j≤ = omega arith;
-  is = rw (er, ep, ex, part-suc 0 from j w (omega arith), map-append g (part from j w), sum-snoc pointwise (map g (part from j w))) (ap (λ (q : Point). add_p q (g (get_or w (from + j) 0))) I.is);
-}
+pub sum-turn : (g : ℕ → Point) (l : List ℕ) (j : ℕ) (s p r : Point) → s ≡ sum_of pointwise (map g (take j l)) → j < length l → p ≡ g (get_or l j 0) → r ≡ add_p s p
+    → r ≡ sum_of pointwise (map g (take (j + 1) l))
+sum-turn g l j s p r e h ep er =
+    rw (er, ep, add-one j, take-suc l j 0 h, map-append g (take j l), sum-snoc pointwise (map g (take j l))) (ap (λ (q : Point). add_p q (g (get_or l j 0))) e)
 
-pub sum-end : {g : ℕ → Point} {from m : ℕ} {w : List ℕ} {s : Point} {j : ℕ} → Sum g from m w s j → m ≤ j → s ≡ sum_of pointwise (map g (part from m w))
-sum-end {g} {from} {m} {w} {s} {j} I h = let e : j ≡ m = omega (arith, I.j≤) in rw e at I.is
+pub sum-end : (g : ℕ → Point) (l : List ℕ) (j : ℕ) (s : Point) → s ≡ sum_of pointwise (map g (take j l)) → j ≡ length l → s ≡ sum_of pointwise (map g l)
+sum-end g l j s e h = e ∙ ap (λ (k : List ℕ). sum_of pointwise (map g k)) (rw h (take-length l))
 
 -- the other end of an edge is a point
 pub other-low : {np nq : ℕ} {P : List Float} {H : List ℕ} (i u : ℕ) → Positioned np nq P H → i < 4 * nq → u ≡ other_end H i → u * 3 + 3 ≤ length P

@@ -13,7 +13,6 @@ use Rattle.lists.specs.Sort.{cons_if, tabulate, itself, keep}
 use Rattle.lists.specs.Regions.{part}
 use Rattle.lists.proofs.Order.{Each, each-bucket, below-tab}
 use Rattle.lists.proofs.Regions.{part_of, part-len, part-get}
-use Rattle.sheet.specs.Flat.{from}
 use Rattle.rule_sheet.specs.Flat.{quad_at}
 use Rattle.sheet.specs.Edges.{point_corners}
 use Rattle.incidence.specs.Corners.{key_of, Positioned}
@@ -21,33 +20,30 @@ use Rattle.incidence.specs.Marks.{Incident}
 use Rattle.incidence.specs.declared.Key.TheVariants.{Smaller, Larger}
 use Rattle.incidence.proofs.Marks.{around}
 use Rattle.incidence.proofs.Corners.{key_below}
-use Rattle.smoothing.specs.Smooth.{sum_of, halfway, edge_point, crease_point, interior_by, interior, by_creases, smooth}
+use Rattle.smoothing.specs.Smooth.{sum_of, halfway, edge_point, interior_by, interior, by_creases, smooth}
 use Rattle.smoothing.specs.Rounded.{pointwise}
 use Rattle.smoothing.proofs.Coordinates.{halfway-by}
-use Rattle.refine.specs.Requests.{own}
 use Rattle.refine.specs.Loops.{order_at}
 use Rattle.subdivide_points.specs.declared.Creases.{Creases}
 use Rattle.rule_sheet.specs.Places.{centre_of}
-use Rattle.subdivide_points.specs.Steps.{ones_of, corner_centre, other_end, halfway_to, crease_at, crease_ends, creases_of, moved_by, interior_at, moved_point, edge_at, corner_of, place_at, masks_at, Spans, moved_in, Placing}
+use Rattle.subdivide_points.specs.Steps.{ones_of, corner_centre, other_end, halfway_to, crease_at, crease_ends, creases_of, moved_by, interior_at, moved_point, edge_at, corner_of, place_at, masks_at, Spans, Lead, moved_in}
 use Rattle.subdivide_points.proofs.Moved.{map-map}
 
 -- ---- the corners of a point
 
 pub span_of : {np nq : ℕ} {Q : List ℕ} {v starts list : ℕ} {w : List ℕ} (s e : ℕ) → Incident np nq Q starts list 0 w → v < np → s ≡ get_or w (starts + v) 0 → e ≡ get_or w (starts + v + 1) 0
-    → Spans nq Q v (list + s) (e - s) w
+    → Spans nq Q v (part (list + s) (list + e - (list + s)) w)
 span_of {np} {nq} {Q} {v} {starts} {list} {w} s e I h es ee =
     let A = around I h in
-    rw (es, ee) (record {
-      is = A.list;
-      below = record {
-        fits = omega (arith, A.s≤, A.e≤, A.fits);
-        below = λ j b. rw (part-get 0 j A.marking.at b) (A.marking.known j b);
-      };
+    let d : list + e - (list + s) ≡ e - s = omega arith in
+    let P = part_of (list + s) (e - s) w (omega (arith, es, ee, A.s≤, A.e≤, A.fits)) in
+    let n : length (part (list + s) (e - s) w) ≡ e - s = part-len P in
+    let is : part (list + s) (e - s) w ≡ point_corners Q nq v = rw (es, ee) A.list in
+    rw d (record {
+      is = is;
+      low = λ j b. let l : j < get_or w (starts + v + 1) 0 - get_or w (starts + v) 0 = omega arith in rw (es, ee) (A.marking.known j l);
       few = omega (arith, A.e≤);
     })
-
-spans-many : {nq : ℕ} {Q : List ℕ} {v from size : ℕ} {w : List ℕ} → Spans nq Q v from size w → length (point_corners Q nq v) ≡ size
-spans-many {nq} {Q} {v} {from} {size} {w} S = ap length (sym S.is) ∙ part-len (part_of from size w S.below.fits)
 
 -- ---- inside one label
 
@@ -55,35 +51,22 @@ halves_are : (p : Point) (P : List Float) (H l : List ℕ) → map (halfway poin
 unfolding halfway_to
 halves_are p P H l = rw (map-map (point_at P) (other_end H) l, map-map (halfway pointwise p) (λ i. point_at P (other_end H i)) l)
 
-pub interior-is : {nq : ℕ} {Q H : List ℕ} {v a n b m : ℕ} {w : List ℕ} (P : List Float) (p faces edges r : Point) → Spans nq Q v a n w → Spans nq H v b m w → p ≡ point_at P v
-    → faces ≡ sum_of pointwise (map (corner_centre P Q) (part a n w)) → edges ≡ sum_of pointwise (map (halfway_to p P H) (part b m w)) → r ≡ interior_by pointwise p n faces m edges → r ≡ interior_at nq P Q H v
+pub interior-is : {nq : ℕ} {Q H : List ℕ} {v n m : ℕ} {x y : List ℕ} (P : List Float) (p faces edges r : Point) → Spans nq Q v x → Spans nq H v y → n ≡ length x → m ≡ length y → p ≡ point_at P v
+    → faces ≡ sum_of pointwise (map (corner_centre P Q) x) → edges ≡ sum_of pointwise (map (halfway_to p P H) y) → r ≡ interior_by pointwise p n faces m edges → r ≡ interior_at nq P Q H v
 unfolding interior_at interior
-interior-is {nq} {Q} {H} {v} {a} {n} {b} {m} {w} P p faces edges r A B ep ef ee er =
-    let k : length (map (corner_centre P Q) (point_corners Q nq v)) ≡ n = length-map (point_corners Q nq v) (corner_centre P Q) ∙ spans-many A in
-    let l : length (map (point_at P) (map (other_end H) (point_corners H nq v))) ≡ m = length-map (map (other_end H) (point_corners H nq v)) (point_at P) ∙ length-map (point_corners H nq v) (other_end H) ∙ spans-many B in
+interior-is {nq} {Q} {H} {v} {n} {m} {x} {y} P p faces edges r A B en em ep ef ee er =
+    let k : length (map (corner_centre P Q) (point_corners Q nq v)) ≡ n = length-map (point_corners Q nq v) (corner_centre P Q) ∙ sym (en ∙ ap length A.is) in
+    let l : length (map (point_at P) (map (other_end H) (point_corners H nq v))) ≡ m = length-map (map (other_end H) (point_corners H nq v)) (point_at P) ∙ length-map (point_corners H nq v) (other_end H) ∙ sym (em ∙ ap length B.is) in
     rw (k, l, halves_are (point_at P v) P H (point_corners H nq v), ← ep, ← A.is, ← B.is, ← ef, ← ee) er
 
 -- ---- by the creases
-
-module _ (P : List Float) (c : Creases) (p q : Point) where
-  pub moved-interior : (r : Point) → c.count ≡ 0 → r ≡ q → r ≡ moved_by P c p q
-  unfolding moved_by
-  moved-interior r e er = rw (eq-eqb c.count 0 e) er
-
-  pub moved-crease : (a b s r : Point) → c.count ≡ 2 → a ≡ point_at P c.first → b ≡ point_at P c.second → s ≡ p → r ≡ crease_point pointwise s a b → r ≡ moved_by P c p q
-  unfolding moved_by
-  moved-crease a b s r e ea eb es er = rw (ne_eqb c.count 0 (λ z. omega arith), eq-eqb c.count 2 e, ← ea, ← eb, ← es) er
-
-  pub moved-stays : (r : Point) → (c.count ≡ 0 → ⊥) → (c.count ≡ 2 → ⊥) → r ≡ p → r ≡ moved_by P c p q
-  unfolding moved_by
-  moved-stays r n m er = rw (ne_eqb c.count 0 n, ne_eqb c.count 2 m) er
 
 moved-creases : (P : List Float) (l : List ℕ) (p q : Point) → moved_by P (creases_of l) p q ≡ by_creases pointwise p q (map (point_at P) l)
 unfolding moved_by creases_of
 moved-creases P [] p q = refl
 moved-creases P (a ∷ []) p q = refl
 moved-creases P (a ∷ b ∷ []) p q = refl
-moved-creases P (a ∷ b ∷ c ∷ l) p q = rw (ne_eqb (suc (suc (suc (length l)))) 0 (λ e. omega arith), ne_eqb (suc (suc (suc (length l)))) 2 (λ e. omega arith))
+moved-creases P (a ∷ b ∷ c ∷ l) p q = refl
 
 -- ---- by the labels and the creases
 
@@ -92,11 +75,11 @@ module _ (np nq : ℕ) (P : List Float) (Q labels H w : List ℕ) (v : ℕ) wher
   unfolding moved_point smooth
   old-stays m r em h er = rw (← em, lt-ltb 2 m h) er
 
-  pub old-moved : {from size : ℕ} (m : ℕ) (c : Creases) (r : Point) → m ≡ ones_of (get_or w (masks_at np nq + v) 0) → m ≤ 2 → Spans nq H v from size w
-      → c ≡ creases_of (crease_ends labels (part (order_at np nq) (4 * nq) w) H (part from size w)) → r ≡ moved_by P c (point_at P v) (interior_at nq P Q H v) → r ≡ moved_in np nq P Q labels H w v
+  pub old-moved : {l : List ℕ} (m : ℕ) (c : Creases) (r : Point) → m ≡ ones_of (get_or w (masks_at np nq + v) 0) → m ≤ 2 → Spans nq H v l
+      → c ≡ creases_of (crease_ends labels (part (order_at np nq) (4 * nq) w) H l) → r ≡ moved_by P c (point_at P v) (interior_at nq P Q H v) → r ≡ moved_in np nq P Q labels H w v
   unfolding moved_point smooth interior_at
-  old-moved {from} {size} m c r em h S ec er =
-      rw (← em, le-ltb 2 m h, ← S.is, ← moved-creases P (crease_ends labels (part (order_at np nq) (4 * nq) w) H (part from size w)) (point_at P v), ← ec) (rw (← S.is) at er)
+  old-moved {l} m c r em h S ec er =
+      rw (← em, le-ltb 2 m h, ← S.is, ← moved-creases P (crease_ends labels (part (order_at np nq) (4 * nq) w) H l) (point_at P v), ← ec) (rw (← S.is) at er)
 
 -- the creases lead to points
 module _ (np nq : ℕ) (labels E H : List ℕ) (low : (i : ℕ) → i < 4 * nq → get_or H i 0 < np) (some : 0 < np) where
@@ -113,11 +96,17 @@ module _ (np nq : ℕ) (labels E H : List ℕ) (low : (i : ℕ) → i < 4 * nq �
       go true (suc k) f = f k
       go false k f = f k
 
-  pub creases-low : {v from size : ℕ} {w : List ℕ} (c : Creases) → Spans nq H v from size w → c ≡ creases_of (crease_ends labels E H (part from size w)) → (c.first < np) × (c.second < np)
+  lead_to : (l : List ℕ) → ((k : ℕ) → get_or l k 0 < np) → Lead np (creases_of l)
   unfolding creases_of
-  creases-low {v} {from} {size} {w} c S e =
+  lead_to [] f = tt
+  lead_to (a ∷ []) f = tt
+  lead_to (a ∷ b ∷ []) f = (f 0, f 1)
+  lead_to (a ∷ b ∷ c ∷ l) f = tt
+
+  pub creases-low : {v : ℕ} {l : List ℕ} (c : Creases) → Spans nq H v l → c ≡ creases_of (crease_ends labels E H l) → Lead np c
+  creases-low {v} {l} c S e =
       let each = each-bucket 0 (λ x. x < 4 * nq) (λ i. get_or H i 0) v (tabulate itself (4 * nq)) (below-tab (4 * nq)).each in
-      rw (e, S.is) (ends_low (point_corners H nq v) each 0, ends_low (point_corners H nq v) each 1)
+      rw (e, S.is) (lead_to (crease_ends labels E H (point_corners H nq v)) (ends_low (point_corners H nq v) each))
 
 -- ---- the point of an edge
 
@@ -153,12 +142,3 @@ module _ (P : List Float) (Q labels : List ℕ) (t : ℕ) (r : Point) where
       → r ≡ place_at P Q labels (part second (4 * nq) w) t
   unfolding place_at
   place-edge nq second w d h b ne ed er = rw (ne_eqb (t % 5) 4 ne, ← part-get 0 (corner_of t) (part_of second (4 * nq) w h) (omega arith), ← ed) er
-
--- ---- the writing of the new points
-
-module _ {np nq : ℕ} {P : List Float} {Q labels : List ℕ} {first num second : ℕ} {F N w : List ℕ} {room : ℕ} (W : Placing np nq P Q labels first num second F N w room) where
-  pub placing-same : {more : ℕ} → more ≡ room → Placing np nq P Q labels first num second F N w more
-  placing-same e = rw e W
-
-  pub own_at : (t : ℕ) → t < 5 * nq → (f : ℕ) → f ≡ get_or w (first + t) 0 → f ≡ t → own F t ≡ true
-  own_at t h f ef e = eq-eqb (get_or F t 0) t (sym (part-get 0 t W.writing.firsts h) ∙ sym ef ∙ e)

@@ -1,6 +1,7 @@
 -- What the loops over the points and edges of a sheet read and leave, over flat lists: coordinates P, corners Q,
 -- and the ends H of the edges, two to an edge.
-use Rattle.std.specs.Prelude.{ℕ, ◌+◌, ◌*◌, ◌/◌, ◌%◌, ◌≤◌, ◌<◌, ◌≡◌, Bool, true, cond, not, List, map, eqb, length}
+use Rattle.std.specs.Prelude.{ℕ, ◌+◌, ◌*◌, ◌/◌, ◌%◌, ◌≤◌, ◌<◌, ◌≡◌, Bool, true, cond, not, List, [], ◌∷◌, map, eqb}
+use Rattle.std.specs.Prelude.{length}
 use Rattle.std.specs.Prelude.{get_or, take, Float}
 use Rattle.rule_sheet.specs.Lent.{limit}
 use Rattle.lists.specs.Regions.{part, Part, Apart}
@@ -19,6 +20,7 @@ use Rattle.sheet.specs.Edges.{smaller, larger, point_corners}
 use Rattle.smoothing.specs.Smooth.{halfway, edge_point, crease_point, interior, smooth}
 use Rattle.smoothing.specs.Rounded.{pointwise}
 use Rattle.subdivide_points.specs.declared.Creases.{Creases}
+use Rattle.subdivide_points.specs.declared.Creases.TheVariants.{Zero, One, Two, More}
 use Rattle.rule_finer.specs.Smoothed.{paired}
 use Rattle.lists.specs.Sort.{keep}
 use Rattle.rule_sheet.specs.Places.{centre_of}
@@ -33,6 +35,10 @@ ones_of m = m % 2 + m / 2 % 2 + m / 4 % 2 + m / 8 % 2 + m / 16 % 2 + m / 32 % 2 
 pub record Below (bound from n : ℕ) (w : List ℕ) : Type 0 where
   pub fits : from + n ≤ length w
   pub below : (j : ℕ) → j < n → get_or w (from + j) 0 < bound
+
+-- each number of l is below a bound
+abbrev pub Low : ℕ → List ℕ → Type 0
+Low bound l = (j : ℕ) → j < length l → get_or l j 0 < bound
 
 -- the end of an edge at place i: the corners E in the order of their edges, two to an edge, give its smaller and
 -- its larger point
@@ -80,17 +86,26 @@ crease_at labels E i =
 
 -- ---- creases
 
--- how many there are, and the first two
+-- how many there are, and where one or two lead
 unfoldable pub creases_of : List ℕ → Creases
-creases_of l = record { count = length l; first = get_or l 0 0; second = get_or l 1 0 }
+creases_of [] = Zero
+creases_of (a ∷ []) = One a
+creases_of (a ∷ b ∷ []) = Two a b
+creases_of (a ∷ b ∷ c ∷ l) = More
 
 -- one more
 unfoldable pub with_crease : Creases → ℕ → Creases
-with_crease c u = record {
-  count = c.count + 1;
-  first = cond (eqb c.count 0) u c.first;
-  second = cond (eqb c.count 1) u c.second;
-}
+with_crease Zero u = One u
+with_crease (One a) u = Two a u
+with_crease (Two a b) u = More
+with_crease More u = More
+
+-- two creases lead to points
+abbrev pub Lead : ℕ → Creases → Type 0
+Lead n (Two a b) = (a < n) × (b < n)
+Lead n Zero = Unit {0}
+Lead n (One a) = Unit {0}
+Lead n More = Unit {0}
 
 -- where the creases among the edges at the places lead, in their order
 abbrev pub crease_ends : List ℕ → List ℕ → List ℕ → List ℕ → List ℕ
@@ -100,9 +115,10 @@ crease_ends labels E H l = map (other_end H) (keep (crease_at labels E) l)
 
 -- where p comes to by its creases, q being the interior rule's answer
 unfoldable pub moved_by : List Float → Creases → Point → Point → Point
-moved_by P c p q =
-    cond (eqb c.count 0) q (cond (eqb c.count 2) (crease_point pointwise p (point_at P c.first)
-    (point_at P c.second)) p)
+moved_by P Zero p q = q
+moved_by P (One a) p q = p
+moved_by P (Two a b) p q = crease_point pointwise p (point_at P a) (point_at P b)
+moved_by P More p q = p
 
 -- the interior rule's answer for point v, by the ends H of the edges
 unfoldable pub interior_at : ℕ → List Float → List ℕ → List ℕ → ℕ → Point
@@ -163,11 +179,11 @@ seconds_at np nq = 34 * (np + nq)
 abbrev pub BeforeScratch : ℕ → ℕ → ℕ → Type 0
 BeforeScratch np nq i = i < scratch_at np nq
 
--- the `size` numbers at `from` are the corners of point v
-pub record Spans (nq : ℕ) (Q : List ℕ) (v from size : ℕ) (w : List ℕ) : Type 0 where
-  pub is : part from size w ≡ point_corners Q nq v
-  pub below : Below (4 * nq) from size w
-  pub few : size ≤ 4 * nq
+-- l has the corners of point v
+pub record Spans (nq : ℕ) (Q : List ℕ) (v : ℕ) (l : List ℕ) : Type 0 where
+  pub is : l ≡ point_corners Q nq v
+  pub low : Low (4 * nq) l
+  pub few : length l ≤ 4 * nq
 
 -- the corners of the quads Q and the ends H of the edges by their points; no marks are kept, and the region of
 -- marks is at 0

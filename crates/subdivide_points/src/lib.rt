@@ -16,10 +16,11 @@ ghost use Rattle.incidence.specs.Corners.{Cornered, edge_order, Positioned};
 ghost use Rattle.incidence.specs.Marks.{Incident};
 ghost use Rattle.smoothing.specs.Smooth.{sum_of};
 ghost use Rattle.smoothing.specs.Rounded.{pointwise};
-ghost use Rattle.refine.specs.Loops.{order_at, made_to, put_request, Numbered};
+ghost use Rattle.refine.specs.Loops.{order_at, made_to, Numbered};
 ghost use Rattle.rule_finer.specs.Smoothed.{paired, smooth_sheet};
 ghost use Rattle.rule_sheet.specs.Places.{centre_of};
-ghost use Rattle.subdivide_points.specs.Steps.{ones_of, Below, end_at, Ends, Pairing, Seconds, corner_centre};
+ghost use Rattle.subdivide_points.specs.Steps.{ones_of, Below, Low, Lead, end_at, Ends, Pairing, Seconds};
+ghost use Rattle.subdivide_points.specs.Steps.{corner_centre};
 ghost use Rattle.subdivide_points.specs.Steps.{other_end, halfway_to, crease_at, creases_of, with_crease, crease_ends};
 ghost use Rattle.subdivide_points.specs.Steps.{moved_by, interior_at, edge_at, corner_of, place_at, seconds_at};
 ghost use Rattle.subdivide_points.specs.Steps.{BeforeScratch, Spans, Listed, Gathered, moved_in, Placing};
@@ -45,19 +46,13 @@ const END_LIST: usize = 30;
 
 const SECONDS: usize = 34;
 
-// The corners of a point in a list of corners by point: where they begin, and how many there are.
+// The crease edges at a point: where they lead, if there are one or two.
 #[derive(Clone, Copy)]
-pub struct Span {
-    pub from: usize,
-    pub size: usize,
-}
-
-// The crease edges at a point: how many there are, and where the first two lead.
-#[derive(Clone, Copy)]
-pub struct Creases {
-    pub count: usize,
-    pub first: usize,
-    pub second: usize,
+pub enum Creases {
+    Zero,
+    One(usize),
+    Two(usize, usize),
+    More,
 }
 
 // How many bits of a mask of eight are set.
@@ -91,10 +86,8 @@ fn put_ends(quads: &[u32], nq: usize, order: usize, w: &[u32], ends: &mut [u32])
     ensures { Front (tabulate (end_at quads.now (part order (4 * nq) w.now)) (4 * nq))
         ends.new }
 {
-    let mut i = 0;
-    while i < 4 * nq {
+    for i in 0..4 * nq {
         ends[i] = end_at(quads, nq, order, i, w);
-        i += 1;
     }
 }
 
@@ -104,11 +97,9 @@ fn put_seconds(nq: usize, order: usize, second: usize, w: &mut [u32])
     ensures seconds { Seconds second (part order (4 * nq) w.old) (2 * nq) w.new }
     ensures kept { Kept (Out second (4 * nq)) w.old w.new }
 {
-    let mut k = 0;
-    while k < 2 * nq {
+    for k in 0..2 * nq {
         let c = lists::at(w, order + 2 * k);
         w[second + c] = w[order + (2 * k + 1)];
-        k += 1;
     }
 }
 
@@ -125,27 +116,15 @@ pub fn centre_at(points: &[f64], quads: &[u32], np: usize, nq: usize, q: usize) 
     points::centre(a, b, c, d)
 }
 
-// The sum of the centres of the quads of the m corners at from.
-fn sum_centres(
-    points: &[f64],
-    quads: &[u32],
-    np: usize,
-    nq: usize,
-    from: usize,
-    m: usize,
-    w: &[u32],
-) -> Point
+// The sum of the centres of the quads of some corners.
+fn sum_centres(points: &[f64], quads: &[u32], np: usize, nq: usize, corners: &[u32]) -> Point
     requires positioned { Positioned np nq points.now quads.now }
-    requires below { Below (4 * nq) from m w.now }
-    ensures { result ≡ sum_of pointwise (map (corner_centre points.now quads.now)
-        (part from m w.now)) }
+    requires low { Low (4 * nq) corners.now }
+    ensures { result ≡ sum_of pointwise (map (corner_centre points.now quads.now) corners.now) }
 {
     let mut sum = points::origin();
-    let mut j = 0;
-    while j < m {
-        let c = lists::at(w, from + j);
-        sum = points::add(sum, centre_at(points, quads, np, nq, c / 4));
-        j += 1;
+    for c in corners {
+        sum = points::add(sum, centre_at(points, quads, np, nq, *c as usize / 4));
     }
     sum
 }
@@ -158,55 +137,35 @@ fn other_end(ends: &[u32], i: usize) -> usize
     lists::at(ends, i / 2 * 2 + (i + 1) % 2)
 }
 
-// The sum of the halfway points from p to the other ends of the edges at the m places at from.
+// The sum of the halfway points from p to the other ends of the edges at some places.
 fn sum_halfways(
     p: Point,
     points: &[f64],
     ends: &[u32],
     np: usize,
     nq: usize,
-    from: usize,
-    m: usize,
-    w: &[u32],
+    places: &[u32],
 ) -> Point
     requires positioned { Positioned np nq points.now ends.now }
-    requires below { Below (4 * nq) from m w.now }
-    ensures { result ≡ sum_of pointwise (map (halfway_to p points.now ends.now)
-        (part from m w.now)) }
+    requires low { Low (4 * nq) places.now }
+    ensures { result ≡ sum_of pointwise (map (halfway_to p points.now ends.now) places.now) }
 {
     let mut sum = points::origin();
-    let mut j = 0;
-    while j < m {
-        let i = lists::at(w, from + j);
-        let q = points::point_at(points, other_end(ends, i));
+    for i in places {
+        let q = points::point_at(points, other_end(ends, *i as usize));
         sum = points::add(sum, points::halfway(p, q));
-        j += 1;
     }
     sum
 }
 
-// The one or the other.
-fn pick(test: bool, a: usize, b: usize) -> usize
-    ensures { result ≡ cond test a b }
+// One more crease, which leads to u.
+fn with_crease(c: Creases, u: usize) -> Creases
+    ensures { result ≡ with_crease c u }
 {
-    if test { a } else { b }
-}
-
-// One more crease, if there is one.
-fn with_crease(c: Creases, test: bool, u: usize) -> Creases
-    requires { c.count < 4294967296 }
-    ensures { result ≡ cond test (with_crease c u) c }
-{
-    if !test {
-        return c;
-    }
-    let count = c.count;
-    let first = pick(count == 0, u, c.first);
-    let second = pick(count == 1, u, c.second);
-    Creases {
-        count: count + 1,
-        first,
-        second,
+    match c {
+        Creases::Zero => Creases::One(u),
+        Creases::One(a) => Creases::Two(a, u),
+        Creases::Two(_, _) | Creases::More => Creases::More,
     }
 }
 
@@ -222,58 +181,48 @@ fn is_crease(labels: &[u8], nq: usize, order: usize, i: usize, w: &[u32]) -> boo
     lists::byte_at(labels, c / 4) != lists::byte_at(labels, d / 4)
 }
 
-// The creases among the edges at the m places at from.
+// The creases among the edges at some places.
 fn creases_at(
     labels: &[u8],
     ends: &[u32],
     nq: usize,
     order: usize,
-    from: usize,
-    m: usize,
+    places: &[u32],
     w: &[u32],
 ) -> Creases
     requires nq_in_bounds { nq ≤ length labels.now }
     requires nq_in_bounds_2 { 4 * nq ≤ length ends.now }
     requires below { Below (4 * nq) order (4 * nq) w.now }
-    requires below_2 { Below (4 * nq) from m w.now }
-    requires m_bound { m < 4294967296 }
+    requires low { Low (4 * nq) places.now }
     ensures { result ≡ creases_of (crease_ends labels.now (part order (4 * nq) w.now)
-        ends.now (part from m w.now)) }
+        ends.now places.now) }
 {
-    let mut c = Creases {
-        count: 0,
-        first: 0,
-        second: 0,
-    };
-    let mut j = 0;
-    while j < m {
-        let i = lists::at(w, from + j);
-        c = with_crease(c, is_crease(labels, nq, order, i, w), other_end(ends, i));
-        j += 1;
+    let mut c = Creases::Zero;
+    for i in places {
+        if is_crease(labels, nq, order, *i as usize, w) {
+            c = with_crease(c, other_end(ends, *i as usize));
+        }
     }
     c
 }
 
 // The corners of point v in the list of corners by point.
-pub fn span_at(
+pub fn span_at<'a>(
     np: usize,
     nq: usize,
     quads: &[u32],
     starts: usize,
     list: usize,
     v: usize,
-    w: &[u32],
-) -> Span
+    w: &'a [u32],
+) -> &'a [u32]
     requires incident { Incident np nq quads.now starts list 0 w.now }
     requires v_lt_np { v < np }
-    ensures { Spans nq quads.now v result.from result.size w.now }
+    ensures { Spans nq quads.now v result.now }
 {
     let s = lists::at(w, starts + v);
     let e = lists::at(w, starts + v + 1);
-    Span {
-        from: list + s,
-        size: e - s,
-    }
+    &w[list + s..list + e]
 }
 
 // Where point v comes to inside one label.
@@ -295,9 +244,9 @@ fn interior_at(
     let p = points::point_at(points, v);
     let a = span_at(np, nq, quads, STARTS * n, LIST * n, v, w);
     let b = span_at(np, nq, ends, END_STARTS * n, END_LIST * n, v, w);
-    let faces = sum_centres(points, quads, np, nq, a.from, a.size, w);
-    let edges = sum_halfways(p, points, ends, np, nq, b.from, b.size, w);
-    smoothing::interior_point(p, a.size, faces, b.size, edges)
+    let faces = sum_centres(points, quads, np, nq, a);
+    let edges = sum_halfways(p, points, ends, np, nq, b);
+    smoothing::interior_point(p, a.len(), faces, b.len(), edges)
 }
 
 // Where point v comes to by its creases.
@@ -311,24 +260,21 @@ fn moved_by(
     v: usize,
     w: &[u32],
 ) -> Point
-    requires first_lt_np { c.first < np }
-    requires second_lt_np { c.second < np }
+    requires lead { Lead np c }
     requires np_in_bounds { 3 * np ≤ length points.now }
     requires listed { Listed np nq quads.now ends.now w.now }
     requires v_lt_np { v < np }
     ensures { result ≡ moved_by points.now c (point_at points.now v)
         (interior_at nq points.now quads.now ends.now v) }
 {
-    if c.count == 0 {
-        return interior_at(points, quads, ends, np, nq, v, w);
-    }
     let p = points::point_at(points, v);
-    if c.count == 2 {
-        let a = points::point_at(points, c.first);
-        let b = points::point_at(points, c.second);
-        return smoothing::crease_point(p, a, b);
+    match c {
+        Creases::Zero => interior_at(points, quads, ends, np, nq, v, w),
+        Creases::Two(a, b) => {
+            smoothing::crease_point(p, points::point_at(points, a), points::point_at(points, b))
+        }
+        Creases::One(_) | Creases::More => p,
     }
-    p
 }
 
 // Where point v comes to: one of more than two labels stays, another is moved by its creases.
@@ -352,7 +298,7 @@ fn old_point(
         return points::point_at(points, v);
     }
     let s = span_at(np, nq, ends, END_STARTS * n, END_LIST * n, v, w);
-    let c = creases_at(labels, ends, nq, refine::ORDER * n, s.from, s.size, w);
+    let c = creases_at(labels, ends, nq, refine::ORDER * n, s, w);
     moved_by(c, points, quads, ends, np, nq, v, w)
 }
 
@@ -372,11 +318,9 @@ fn put_old_points(
     ensures { Front (flat_points (tabulate (moved_in np nq points.now quads.now
         labels.now ends.now w.now) np)) out.new }
 {
-    let mut v = 0;
-    while v < np {
+    for v in 0..np {
         let p = old_point(points, quads, labels, ends, np, nq, v, w);
         points::put_point(out, v, p);
-        v += 1;
     }
 }
 
@@ -433,34 +377,6 @@ fn new_place(
     edge_place(points, quads, labels, np, nq, c, d)
 }
 
-// Puts the new point of request t at its number, if the request is the first of its key.
-fn put_place(
-    np: usize,
-    nq: usize,
-    points: &[f64],
-    quads: &[u32],
-    labels: &[u8],
-    first: usize,
-    num: usize,
-    second: usize,
-    t: usize,
-    w: &[u32],
-    out: &mut [f64],
-)
-    requires placing { Placing np nq points.now quads.now labels.now first num second (part first (5 * nq) w.now)
-        (part num (5 * nq) w.now) w.now (length out.old) }
-    requires t_bound { t < 5 * nq }
-    ensures { out.new ≡ put_request (part first (5 * nq) w.now)
-        (part num (5 * nq) w.now) (place_at points.now quads.now labels.now
-        (part second (4 * nq) w.now)) t out.old }
-{
-    if lists::at(w, first + t) == t {
-        let p = new_place(points, quads, labels, np, nq, second, t, w);
-        points::put_point(out, lists::at(w, num + t), p);
-        return;
-    }
-}
-
 // Puts the new points of all requests at their numbers, behind the np points in front.
 fn put_places(
     np: usize,
@@ -482,11 +398,9 @@ fn put_places(
         ++ made_to (part first (5 * nq) w.now) (place_at points.now quads.now
         labels.now (part second (4 * nq) w.now)) (5 * nq))) out.new }
 {
-    let mut t = 0;
-    while t < 5 * nq {
-        put_place(np, nq, points, quads, labels, first, num, second, t, w, out);
-        t += 1;
-    }
+    refine::put_new(np, 5 * nq, first, num, w, out, |t| {
+        new_place(points, quads, labels, np, nq, second, t, w)
+    });
 }
 
 // Gathers what the smoothing reads: the ends of the edges in a slice of their own, the second corners and the lists

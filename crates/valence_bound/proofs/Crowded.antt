@@ -18,7 +18,6 @@ use Rattle.numeric.specs.Root.{sqrt_of}
 use Rattle.points.specs.Points.{add_p, sub_p, mul_p, times_p, dot_p, cross_p, norm_p, finite_p}
 use Rattle.band.specs.Bands.{length_of, face_normal_of, side_of, normal_with, axis_valid_of, box_valid_of, levels_valid_of, valid_of}
 use Rattle.shape.specs.Shapes.{corner_of, shape_of}
-use Rattle.rule_sheet.specs.declared.Verdict.TheVariants.{Accepted}
 use Rattle.rule_sheet.specs.Quads.{Quad, quad, is, sum, all, corners, at, uses, valence, side, is_edge, label_sum}
 use Rattle.rule_sheet.specs.Edges.{pair, join_to, edges_of}
 use Rattle.rule_sheet.specs.Tests.{in_range, distinct, proper}
@@ -42,6 +41,7 @@ use Rattle.safety_rules.proofs.Fine.{Fine, in-range-of, accepted-of}
 use Rattle.safety.proofs.Tested.{passes}
 use Rattle.cases.specs.Cases.{unit_box, lent_sheet, work_for, hexagon}
 use Rattle.valence_bound.specs.Valences.{state_in, crowded, Reaches, BoundReached}
+use Rattle.rule_sheet.specs.Verdicts.{Accepted}
 
 -- ---- lists of one thing
 

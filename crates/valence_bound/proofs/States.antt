@@ -9,8 +9,6 @@ use lib.ListN.{length, take, replicate, length-replicate}
 use lib.Seq.{take-length}
 use borrow.Author.Tests.{eqb-true}
 use Rattle.setting.specs.Settings.{Setting}
-use Rattle.rule_sheet.specs.declared.Verdict.{Verdict}
-use Rattle.rule_sheet.specs.declared.Verdict.TheVariants.{Accepted, Refused}
 use Rattle.rule_sheet.specs.Quads.{Quad, valence}
 use Rattle.rule_sheet.specs.Edges.{Pair, edges_of}
 use Rattle.rule_sheet.specs.Claims.{All, Differ}
@@ -32,6 +30,8 @@ use Rattle.rule_regularize.proofs.Sweep.{Barred, Swept, sweep-pass, pass-none}
 use Rattle.safety_rules.proofs.Fine.{Fine, fine_of}
 use Rattle.safety.proofs.Caps.{pass-fell, Proper, passes-ran}
 use Rattle.valence_bound.specs.Valences.{start_of, EveryPass, NonePasses, EveryCall}
+use Rattle.std.specs.Prelude.{Ok, Err}
+use Rattle.rule_sheet.specs.Verdicts.{Verdict}
 
 -- ---- the states of a pass
 
@@ -98,8 +98,8 @@ unfolding swap_rule
 accepted-call m s k x w e h = go (admits s x w) refl h
   where
     go : (v : Verdict) → admits s x w ≡ v → after_test v (gives (swap_sheet m s k (held x))) ≡ gives e → AcceptedSheet (held x)
-    go Accepted q g = lent-accepted (setting_verdict s) x w q
-    go (Refused n) q g = absurd (let z : ◌≡◌ {A = ℕ} 0 1 = cc in omega arith)
+    go (Ok u) q g = lent-accepted (setting_verdict s) x w q
+    go (Err n) q g = absurd (let z : ◌≡◌ {A = ℕ} 0 1 = cc in omega arith)
 
 pub every_call : EveryCall
 every_call = record {

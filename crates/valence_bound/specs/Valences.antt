@@ -2,7 +2,6 @@
 -- valence pass 1,048,576". At the end of every step of a pass what is stored for a point is its valence in the quads.
 use Rattle.std.specs.Prelude.{ℕ, ◌+◌, ◌-◌, ◌≤◌, ◌≡◌, List, ◌∷◌, length, take, replicate}
 use Rattle.setting.specs.Settings.{Setting}
-use Rattle.rule_sheet.specs.declared.Verdict.TheVariants.{Accepted}
 use Rattle.rule_sheet.specs.Quads.{Quad, quad, valence}
 use Rattle.rule_sheet.specs.Edges.{edges_of}
 use Rattle.rule_sheet.specs.Sheet.{Sheet}
@@ -13,6 +12,7 @@ use Rattle.rule_regularize.specs.Swaps.{State, fresh, sweep, regularize_gain, im
 use Rattle.rule_regularize.specs.SwapFits.{swap_fits}
 use Rattle.rule_regularize.specs.Rule.{swap_sheet, regularize_rule, improve_rule}
 use Rattle.cases.specs.Cases.{unit_box, lent_sheet, work_for, patch, hexagon}
+use Rattle.rule_sheet.specs.Verdicts.{Accepted}
 
 -- ---- the states of a call
 

@@ -3,17 +3,18 @@ use native.Mathlib.Omega.{arith}
 use Prim.Native.Nat.{◌+◌, ◌*◌, ◌≤◌}
 use mathlib.Core.Path.{◌≡◌, sym, ◌∙◌}
 use lib.ListN.{length}
-use Rattle.rule_sheet.specs.declared.Verdict.TheVariants.{Accepted}
 use Rattle.rule_sheet.specs.Lent.{lent_verdict, room_of, work_with}
 use Rattle.sheet.specs.Sheet.{LentSheet, LentWork}
 use Rattle.sheet.proofs.Tests.{lent_is}
+use Rattle.rule_sheet.proofs.Exits.{exited}
 use Rattle.admission.proofs.Admitted.{lent-refuses, brought-refuses, sheet-decides, region-fits, region-small}
 use Rattle.admission.proofs.admit_after.Goals.{After-struct_known-1}
 use Rattle.admission.proofs.admit_after.Goals as goal
+use Rattle.rule_sheet.specs.Verdicts.{Accepted}
 
 accepted : (c : After-struct_known-1) →
     lent_verdict c.args.c (room_of c.args.points.now c.args.quads.now c.args.labels.now) (work_with (length c.args.w.now) c.args.floats) ≡ Accepted
-accepted c = sym c.lent-lent.ensures ∙ c.in_default.is
+accepted c = sym c.lent.ensures ∙ c.in_ok-lent.was
 
 held : (c : After-struct_known-1) →
     LentSheet c.args.c (length c.args.points.now) (length c.args.quads.now) (length c.args.labels.now) × LentWork c.args.c (length c.args.w.now) c.args.floats
@@ -22,13 +23,14 @@ held c = lent_is c.args.c (length c.args.points.now) (length c.args.quads.now) (
 fits : (c : After-struct_known-1) → c.args.masks * (c.args.c.points + c.args.c.quads) + c.args.c.points ≤ length c.args.w.now
 fits c = region-fits c.args.masks (c.args.c.points + c.args.c.quads) c.args.c.points (length c.args.w.now) c.requires (omega arith) (held c).1.work
 
-pub returns-in-Refused : goal.returns-in-Refused
-returns-in-Refused c =
-    record { value = lent-refuses _ _ _ (sym c.lent-lent.ensures ∙ c.in-Refused.is); masks_at = tt }
+pub returns-in_err-lent : goal.returns-in_err-lent
+returns-in_err-lent c =
+    rw (exited _ _ c.from_residual.ensures.1) (record { value = lent-refuses _ _ _ (sym c.lent.ensures ∙ c.in_err-lent.was); masks_at = tt })
 
-pub returns-in-Refused-brought : goal.returns-in-Refused-brought
-returns-in-Refused-brought c =
-    record { value = brought-refuses _ _ _ (sym c.lent-lent.ensures ∙ c.in_default.is) c.in-Refused-brought.is; masks_at = tt }
+pub returns-in_err-brought : goal.returns-in_err-brought
+returns-in_err-brought c =
+    rw (exited _ _ c.from_residual-in_err-brought.ensures.1)
+    (record { value = brought-refuses _ _ _ (sym c.lent.ensures ∙ c.in_ok-lent.was) c.in_err-brought.was; masks_at = tt })
 
 pub overflow_add-c : goal.overflow_add-c
 overflow_add-c c = let f = (held c).0.few in omega (arith, f.points≤, f.quads≤)
@@ -43,4 +45,4 @@ test_sheet-requires c =
 
 pub returns : goal.returns
 returns c =
-    record { value = sheet-decides _ _ _ (accepted (goal.at.returns c).After-struct_known-1) c.in_default-brought.is c.test_sheet.ensures.value; masks_at = c.test_sheet.ensures.masks_at }
+    record { value = sheet-decides _ _ _ (accepted (goal.at.returns c).After-struct_known-1) c.in_ok-brought.was c.test_sheet.ensures.value; masks_at = c.test_sheet.ensures.masks_at }

@@ -2,10 +2,10 @@
 use Rattle.band.specs.Bands.{gradient_with}
 use Rattle.band.proofs.gradient.Goals as goal
 
-pub returns-in-Known : goal.returns-in-Known
+pub returns-in-Some : goal.returns-in-Some
 unfolding gradient_with
-returns-in-Known c = rw (← c.gradient-own.ensures, c.in-Known.is)
+returns-in-Some c = rw (← c.gradient-own.ensures, c.in-Some.is)
 
-pub returns-in-Missing : goal.returns-in-Missing
+pub returns-in-None : goal.returns-in-None
 unfolding gradient_with
-returns-in-Missing c = rw (← c.gradient-own.ensures, c.in-Missing.is) c.central.ensures
+returns-in-None c = rw (← c.gradient-own.ensures, c.in-None.is) c.central.ensures

@@ -9,16 +9,9 @@ use Rattle.coarsen_bars.proofs.bar_point.Goals as goal
 pub bounds-w-at : goal.bounds-w-at
 bounds-w-at c = (used-read c.args.x c.requires.start_holds c.requires.x_lt_np).in_w
 
-pub bounds-w-at-2 : goal.bounds-w-at-2
-bounds-w-at-2 c = (used-read c.args.x c.requires.start_holds c.requires.x_lt_np).in_w
-
 pub touch_around-requires : goal.touch_around-requires
 touch_around-requires c =
     record { start_holds = grounds-barred c.args.x c.requires.start_holds c.requires.touched_holds c.requires.x_lt_np; x_lt_np = c.requires.x_lt_np }
-
-pub shape_of-w-then-first : goal.shape_of-w-then-first
-shape_of-w-then-first c =
-    (barred-first c.args.x c.requires.start_holds c.requires.touched_holds c.requires.x_lt_np c.touch_around.ensures.part c.touch_around.ensures.kept).kept.len
 
 pub returns-then-first : goal.returns-then-first
 returns-then-first c =

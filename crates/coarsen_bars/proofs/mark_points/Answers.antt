@@ -1,6 +1,6 @@
 use native.Mathlib.Omega.{arith}
 use mathlib.Core.Path.{refl}
-use Prim.Native.Nat.{◌+◌, ◌-◌}
+use Prim.Native.Nat.{◌+◌}
 use lib.ListN.{get_or}
 use Rattle.lists.specs.Regions.{part}
 use Rattle.coarsen_bars.proofs.Marks.{pointing-start, PointTurn, point-turn, pointing-end}
@@ -15,35 +15,11 @@ turn_at c = point-turn _ c.loop-j.invariant c.loop-j-test.true refl
 pub loop-j-init : goal.loop-j-init
 loop-j-init c = pointing-start c.requires
 
-pub overflow_add-v : goal.overflow_add-v
-overflow_add-v c = omega arith
-
-pub bounds-w-from : goal.bounds-w-from
-bounds-w-from c = omega arith
-
-pub overflow_cast-v : goal.overflow_cast-v
-overflow_cast-v c = omega (arith, c.slice_known-1.given (c.args.from + c.loop-j.j))
-
-pub overflow_add-w : goal.overflow_add-w
-overflow_add-w c = let t = turn_at (goal.at.overflow_add-w c).In-loop-j in omega arith
-
-pub offset_bounds-w-to : goal.offset_bounds-w-to
-offset_bounds-w-to c = let t = turn_at (goal.at.offset_bounds-w-to c).In-loop-j in omega arith
-
 pub bounds-w-to : goal.bounds-w-to
 bounds-w-to c = let t = turn_at (goal.at.bounds-w-to c).In-loop-j in omega arith
 
-pub overflow_add-j : goal.overflow_add-j
-overflow_add-j c = omega arith
-
-pub loop-j-smaller : goal.loop-j-smaller
-loop-j-smaller c = omega arith
-
 pub loop-j-preserved : goal.loop-j-preserved
 loop-j-preserved c = (turn_at (goal.at.loop-j-preserved c).In-loop-j).again
-
-pub shape_of-w : goal.shape_of-w
-shape_of-w c = c.loop-j.invariant.kept.len
 
 pub returns : goal.returns
 returns c =

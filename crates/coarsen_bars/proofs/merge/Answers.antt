@@ -1,16 +1,8 @@
 -- `coarsen_bars::merge` meets its contract. Assumes nothing.
-use native.Mathlib.Omega.{arith}
 use Rattle.coarsen_merge.proofs.Start.{start-kept, removed-in}
 use Rattle.coarsen_bars.proofs.Bars.{only-points, joined_of}
 use Rattle.lists.proofs.Regions.{kept_then}
 use Rattle.coarsen_bars.proofs.merge.Goals as goal
-
-pub put_point-requires : goal.put_point-requires
-put_point-requires c = omega arith
-
-pub rename-requires : goal.rename-requires
-rename-requires c =
-    record { start_holds = c.requires.start_holds; c_lt_np = c.requires.merge_asks.c<; a_lt_np = c.requires.merge_asks.a<; nq_in_bounds = c.requires.merge_asks.quads }
 
 pub bar_around-requires : goal.bar_around-requires
 bar_around-requires c =
@@ -20,25 +12,9 @@ pub bar_around-requires-2 : goal.bar_around-requires-2
 bar_around-requires-2 c =
     record { start_holds = start-kept c.requires.start_holds (only-points c.args.np c.args.nq c.bar_around.ensures.kept); touched_holds = c.bar_around.ensures.touched; v_lt_np = c.requires.merge_asks.c< }
 
-pub overflow_add-w : goal.overflow_add-w
-overflow_add-w c = omega arith
-
-pub overflow_mul-w : goal.overflow_mul-w
-overflow_mul-w c = omega arith
-
-pub overflow_add-w-2 : goal.overflow_add-w-2
-overflow_add-w-2 c = omega arith
-
-pub offset_bounds-w-np : goal.offset_bounds-w-np
-offset_bounds-w-np c = omega arith
-
 pub bounds-w-np : goal.bounds-w-np
 bounds-w-np c =
     removed-in c.args.f c.requires.start_holds (kept_then c.bar_around.ensures.kept c.bar_around-2.ensures.kept (λ i o. (o, o))) c.requires.merge_asks.f<
-
-pub shape_of-w : goal.shape_of-w
-shape_of-w c =
-    (joined_of _ _ c.requires.start_holds c.requires.merge_asks.f< c.rename.ensures c.bar_around.ensures c.bar_around-2.ensures).kept.len
 
 pub returns : goal.returns
 returns c =

@@ -1,11 +1,5 @@
--- `coarsen_bars::rename_corners` meets its contract. Assumes nothing.
-use Prim.Native.Nat.{◌-◌}
-use lib.ListN.{length}
 use Rattle.coarsen_bars.proofs.Marks.{Naming}
 use Rattle.coarsen_bars.proofs.rename_corners.Given as goal
 
-abbrev pub invariant-loop-t : goal.invariant-loop-t
-invariant-loop-t l = Naming l.cs l.initial.quads l.a l.quads l.t
-
-abbrev pub decreases-loop-t : goal.decreases-loop-t
-decreases-loop-t l = length l.cs - l.t
+abbrev pub invariant-loop-c : goal.invariant-loop-c
+invariant-loop-c l = Naming l.cs l.initial.quads l.a l.quads l.c-index

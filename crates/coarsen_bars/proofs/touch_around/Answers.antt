@@ -1,38 +1,20 @@
-use native.Mathlib.Omega.{arith}
-use mathlib.Core.Path.{refl}
-use Prim.Native.Nat.{◌-◌}
+-- `coarsen_bars::touch_around` meets its contract. Assumes nothing.
 use Rattle.coarsen_bars.proofs.Bars.{touching-start, touching-turn, rounding-end}
 use Rattle.coarsen_bars.proofs.touch_around.Goals as goal
 
-pub overflow_sub-m : goal.overflow_sub-m
-overflow_sub-m c = c.corners_of-s.ensures.low
+pub loop-i-init : goal.loop-i-init
+loop-i-init c = rw c.into_iter-i-iterator.ensures.into_iter_gives (touching-start c.requires.start_holds c.corners_of-i-items.ensures)
 
-pub loop-t-init : goal.loop-t-init
-loop-t-init c = touching-start c.requires.start_holds c.corners_of-s.ensures
+pub touch_quad-requires-clause-q_lt_nq : goal.touch_quad-requires-clause-q_lt_nq
+touch_quad-requires-clause-q_lt_nq c =
+    let s = c.in-Some.ensures.steps in
+    (touching-turn _ c.requires.start_holds c.loop-i.invariant s.1.0 s.1.1 c.at.ensures).q<
 
-pub overflow_add-from : goal.overflow_add-from
-overflow_add-from c = omega arith
+pub loop-i-preserved : goal.loop-i-preserved
+loop-i-preserved c =
+    let s = c.in-Some.ensures.steps in
+    rw (s.0, s.1.2)
+    ((touching-turn _ c.requires.start_holds c.loop-i.invariant s.1.0 s.1.1 c.at.ensures).next _ c.touch_quad.ensures.part c.touch_quad.ensures.kept)
 
-pub at-requires : goal.at-requires
-at-requires c = (touching-turn _ c.requires.start_holds c.loop-t.invariant c.loop-t-test.true refl).at<
-
-pub touch_quad-requires : goal.touch_quad-requires
-touch_quad-requires c =
-    record { start_holds = c.loop-t.invariant.grounds; q_lt_nq = (touching-turn _ c.requires.start_holds c.loop-t.invariant c.loop-t-test.true c.at.ensures).q< }
-
-pub overflow_add-t : goal.overflow_add-t
-overflow_add-t c = omega arith
-
-pub loop-t-smaller : goal.loop-t-smaller
-loop-t-smaller c = omega arith
-
-pub loop-t-preserved : goal.loop-t-preserved
-loop-t-preserved c =
-    (touching-turn _ c.requires.start_holds c.loop-t.invariant c.loop-t-test.true c.at.ensures).next _ c.touch_quad.ensures.part c.touch_quad.ensures.kept
-
-pub shape_of-w : goal.shape_of-w
-shape_of-w c = c.loop-t.invariant.kept.len
-
-pub returns : goal.returns
-returns c =
-    let the_pair = rounding-end c.loop-t.invariant (omega arith) in record { part = the_pair.0; kept = the_pair.1 }
+pub returns-clause-part : goal.returns-clause-part
+returns-clause-part c = (rounding-end c.loop-i.invariant c.in-None.ensures.steps.1.0).0

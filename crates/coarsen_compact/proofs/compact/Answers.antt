@@ -1,34 +1,57 @@
 -- `coarsen_compact::compact` meets its contract. Assumes nothing.
 use native.Mathlib.Omega.{arith}
-use Prim.Native.Nat.{◌+◌, ◌-◌, ◌≤◌}
+use Prim.Native.Nat.{◌+◌, ◌-◌, ◌*◌, ◌≤◌}
+use mathlib.Core.Path.{sym, ◌∙◌}
+use lib.Seq.{length-take-le}
 use borrow.Rule.Slice.PartMut.{put_mid}
 use Rattle.lists.proofs.Regions.{Lent, lent-all, kept_then}
 use Rattle.coarsen_compact.proofs.Sheet.{compact-numbering, compact-few, compact-begins}
-use lib.ListN.{replicate}
-use Rattle.coarsen_compact.proofs.compact.Goals.{After-number_corners-arg-1, After-number_corners-used}
+use lib.ListN.{length, replicate}
+use Rattle.coarsen_compact.proofs.Packing.{front-copied}
+use Rattle.coarsen_compact.proofs.compact.Goals.{After-clear, After-number_corners-used}
 use Rattle.coarsen_compact.proofs.compact.Goals as goal
 
-cleared : (c : After-number_corners-arg-1) →
+cleared : (c : After-clear) →
     Lent c.args.numbers c.args.np c.args.w.now (replicate c.args.np 0) (put_mid c.args.numbers (c.args.numbers + c.args.np - c.args.numbers) c.args.w.now c.clear.new.s)
 cleared c = lent-all 0 _ _ c.args.w.now _ c.requires.in_numbers c.clear.ensures
 
 few : (c : After-number_corners-used) → c.number_corners-used.result ≤ c.args.np
-few c = compact-few c.args.points.now c.args.labels.now c.requires c.pack_corners-m.ensures.value c.pack_corners-m.ensures.front c.number_corners-used.ensures.value
+few c = compact-few c.args.points.now c.args.labels.now c.requires c.pack-m.ensures.value c.pack-m.ensures.front c.number_corners-used.ensures.value
 
 pub number_corners-used-requires : goal.number_corners-used-requires
 number_corners-used-requires c =
-    compact-numbering c.args.points.now c.args.labels.now c.requires c.pack_corners-m.ensures.value c.pack_corners-m.ensures.front (cleared (goal.at.number_corners-used-requires c).After-number_corners-arg-1).part
+    compact-numbering c.args.points.now c.args.labels.now c.requires c.pack-m.ensures.value c.pack-m.ensures.front (cleared (goal.at.number_corners-used-requires c).After-clear).part
 
-pub overflow_mul-used : goal.overflow_mul-used
-overflow_mul-used c =
-    let f = few (goal.at.overflow_mul-used c).After-number_corners-used in
+pub overflow_mul-end : goal.overflow_mul-end
+overflow_mul-end c =
+    let f = few (goal.at.overflow_mul-end c).After-number_corners-used in
     omega arith
 
-pub copy_front-requires : goal.copy_front-requires
-copy_front-requires c =
-    let f = few (goal.at.copy_front-requires c).After-number_corners-used in
-    record { n_in_bounds = omega (arith, c.requires.floats, c.number_corners-used.auto.floats); n_in_bounds_2 = omega (arith, c.requires.held) }
+few-points : (c : After-number_corners-used) → 3 * c.number_corners-used.result ≤ length c.args.points.now
+few-points c = let f = few c in omega (arith, c.requires.held)
+
+few-floats : (c : After-number_corners-used) → 3 * c.number_corners-used.result ≤ length c.number_corners-used.new.floats
+few-floats c = let f = few c in omega (arith, c.requires.floats, c.number_corners-used.auto.floats)
+
+pub slice_bounds-copy_from_slice-end : goal.slice_bounds-copy_from_slice-end
+slice_bounds-copy_from_slice-end c = few-points (goal.at.slice_bounds-copy_from_slice-end c).After-number_corners-used
+
+pub slice_bounds-copy_from_slice-end-2 : goal.slice_bounds-copy_from_slice-end-2
+slice_bounds-copy_from_slice-end-2 c =
+    sym (length-take-le _ _ (few-points (goal.at.slice_bounds-copy_from_slice-end-2 c).After-number_corners-used))
+
+pub slice_bounds-copy_from_slice-end-3 : goal.slice_bounds-copy_from_slice-end-3
+slice_bounds-copy_from_slice-end-3 c = few-floats (goal.at.slice_bounds-copy_from_slice-end-3 c).After-number_corners-used
+
+pub slice_bounds-copy_from_slice-end-4 : goal.slice_bounds-copy_from_slice-end-4
+slice_bounds-copy_from_slice-end-4 c =
+    sym (length-take-le _ _ (few-floats (goal.at.slice_bounds-copy_from_slice-end-4 c).After-number_corners-used))
+
+pub copy_from_slice-requires : goal.copy_from_slice-requires
+copy_from_slice-requires c =
+    let C = (goal.at.copy_from_slice-requires c).After-number_corners-used in
+    length-take-le _ _ (few-points C) ∙ sym (length-take-le _ _ (few-floats C))
 
 pub returns : goal.returns
 returns c =
-    record { begins = compact-begins c.args.points.now c.args.labels.now c.requires c.pack_corners-m.ensures.value c.pack_corners-m.ensures.front c.pack_labels-kept.ensures.value c.pack_labels-kept.ensures.front c.number_corners-used.ensures.value c.number_corners-used.ensures.front c.number_corners-used.ensures.front_2 c.copy_front.ensures; kept = kept_then (cleared (goal.at.returns c).After-number_corners-arg-1).kept c.number_corners-used.ensures.kept (λ i o. (o, o)) }
+    record { begins = compact-begins c.args.points.now c.args.labels.now c.requires c.pack-m.ensures.value c.pack-m.ensures.front c.pack-kept.ensures.value c.pack-kept.ensures.front c.number_corners-used.ensures.value c.number_corners-used.ensures.front c.number_corners-used.ensures.front_2 (front-copied _ _ c.copy_from_slice.ensures.after); kept = kept_then (cleared (goal.at.returns c).After-clear).kept c.number_corners-used.ensures.kept (λ i o. (o, o)) }

@@ -4,14 +4,14 @@ use borrow.Author.Tests.{lt-ltb, le-ltb}
 use Rattle.coarsen_search.specs.Steps.{better_of}
 use Rattle.coarsen_search.proofs.better.Goals as goal
 
-pub returns-then-old-next : goal.returns-then-old-next
+pub returns-in-Some : goal.returns-in-Some
 unfolding better_of
-returns-then-old-next c = rw (c.in-Take.is, lt-ltb _ _ c.if-old-next.true) refl
+returns-in-Some c = rw (c.in-Some.is, le-ltb _ _ c.if-next-old.true) refl
 
-pub returns-in-None : goal.returns-in-None
+pub returns-in_default : goal.returns-in_default
 unfolding better_of
-returns-in-None c = rw c.in-None.is refl
+returns-in_default c = rw (c.in-Some.is, lt-ltb _ _ c.if-next-old.false) refl
 
-pub returns-else-old-next : goal.returns-else-old-next
+pub returns-in_default-2 : goal.returns-in_default-2
 unfolding better_of
-returns-else-old-next c = rw (c.in-Take.is, le-ltb _ _ c.if-old-next.false) refl
+returns-in_default-2 c = rw c.in_default.is refl

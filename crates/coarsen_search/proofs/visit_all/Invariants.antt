@@ -1,10 +1,6 @@
 -- `coarsen_search::visit_all` meets its contract. Assumes nothing.
-use Prim.Native.Nat.{◌-◌}
 use Rattle.coarsen_search.proofs.Steps.{Visiting}
 use Rattle.coarsen_search.proofs.visit_all.Given as goal
 
 abbrev pub invariant-loop-f : goal.invariant-loop-f
 invariant-loop-f l = Visiting l.b l.np l.nq l.labels l.initial.points l.initial.quads l.initial.w l.points l.quads l.w l.f l.count
-
-abbrev pub decreases-loop-f : goal.decreases-loop-f
-decreases-loop-f l = l.nq - l.f

@@ -10,9 +10,6 @@ seen_at : (c : After-key_at) →
     Seen c.args.quads.now c.args.corners.now (c.args.s.lo + (c.args.s.hi - c.args.s.lo) / 2) c.at-c.result c.key_at.result
 seen_at c = record { corner = c.at-c.ensures; key = c.key_at.ensures }
 
-pub key_at-requires : goal.key_at-requires
-key_at-requires c = rw c.at-c.ensures (c.requires.ascending.known _ (omega arith))
-
 pub returns-then-key_at-b : goal.returns-then-key_at-b
 returns-then-key_at-b c =
     record { narrowed_2 = narrow-up c.requires.ascending c.requires.narrowed (seen_at (goal.at.returns-then-key_at-b c).After-key_at) (omega arith) c.if-key_at-b.true; lo_bound = omega arith }

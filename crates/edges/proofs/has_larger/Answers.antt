@@ -9,9 +9,6 @@ seen_at : (c : After-key_at) →
     Seen c.args.quads.now c.args.corners.now c.first_from-i.result c.at-c.result c.key_at.result
 seen_at c = record { corner = c.at-c.ensures; key = c.key_at.ensures }
 
-pub key_at-requires : goal.key_at-requires
-key_at-requires c = rw c.at-c.ensures (c.requires.known _ c.if-i-corners.true)
-
 pub returns-then-i-corners : goal.returns-then-i-corners
 returns-then-i-corners c = found_at c.first_from-i.ensures c.requires (seen_at c) c.if-i-corners.true
 

@@ -10,15 +10,6 @@ rising-at : (c : After-at-e) →
     Rising c.args.np c.args.nq c.args.was c.args.order c.args.a c.at-s.result c.at-e.result c.args.w.now
 rising-at c = rising _ c.requires.edge_map_holds (omega arith) c.at-s.ensures c.at-e.ensures
 
-pub overflow_add-order : goal.overflow_add-order
-overflow_add-order c = let t = rising-at (goal.at.overflow_add-order c).After-at-e in omega arith
-
-pub overflow_add-order-2 : goal.overflow_add-order-2
-overflow_add-order-2 c = let t = rising-at (goal.at.overflow_add-order-2 c).After-at-e in omega arith
-
-pub offset_bounds-w-order : goal.offset_bounds-w-order
-offset_bounds-w-order c = let t = rising-at (goal.at.offset_bounds-w-order c).After-at-e in omega arith
-
 pub slice_bounds-has_larger-count-2 : goal.slice_bounds-has_larger-count-2
 slice_bounds-has_larger-count-2 c = let t = rising-at (goal.at.slice_bounds-has_larger-count-2 c).After-at-e in omega arith
 

@@ -1,8 +1,7 @@
 -- `edges::kind_at` meets its contract. Assumes nothing.
 use mathlib.Core.Path.{◌≡◌, sym, ◌∙◌}
 use mathlib.Core.Bool.{true, false}
-use Rattle.edges.proofs.Walk.{kind-none, kind-one, kind-more, kind-two, linked-below}
-use borrow.Author.Tests.{not-true, not-false}
+use Rattle.edges.proofs.Walk.{kind-none, kind-one, kind-more, kind-two}
 use Prim.Native.Nat.{◌+◌}
 use Rattle.lists.specs.Regions.{part}
 use Rattle.edges.specs.Steps.{linked, goes_on}
@@ -28,10 +27,6 @@ returns-then-not-is_linked c =
 pub returns-then-is_linked : goal.returns-then-is_linked
 returns-then-is_linked c =
     kind-more _ _ _ _ (begins (goal.at.returns-then-is_linked c).Else-goes_on) (linked-yes (goal.at.returns-then-is_linked c).Else-not-is_linked) (sym c.is_linked-2.ensures ∙ c.if-is_linked.true)
-
-pub same_start-requires : goal.same_start-requires
-same_start-requires c =
-    record { walk_asks = c.requires.walk_asks; i_bound = linked-below c.args.quads.now c.args.n (part c.args.order c.args.n c.args.w.now) c.args.i (c.args.i + 1) (linked-yes (goal.at.same_start-requires c).Else-not-is_linked) }
 
 pub returns-then-same_start : goal.returns-then-same_start
 returns-then-same_start c =

@@ -1,16 +1,17 @@
 -- `export_band::field_of` meets its contract. Assumes nothing.
-use borrow.Author.Tests.{eq-eqb, ne_eqb}
+use native.Mathlib.Omega.{arith}
+use borrow.Author.Tests.{ne_eqb}
 use Rattle.rule_exports.specs.Told.{field_of}
 use Rattle.export_band.proofs.field_of.Goals as goal
 
-pub returns-then-kind-eq-PLANE : goal.returns-then-kind-eq-PLANE
+pub returns-in-0 : goal.returns-in-0
 unfolding field_of
-returns-then-kind-eq-PLANE c = simp (eq-eqb _ _ c.if-kind-eq-PLANE.true)
+returns-in-0 c = rw c.in-0.is
 
-pub returns-then-kind-eq-BALL : goal.returns-then-kind-eq-BALL
+pub returns-in-1 : goal.returns-in-1
 unfolding field_of
-returns-then-kind-eq-BALL c = simp (ne_eqb _ _ c.if-kind-eq-PLANE.false, eq-eqb _ _ c.if-kind-eq-BALL.true)
+returns-in-1 c = rw c.in-1.is
 
-pub returns : goal.returns
+pub returns-in_default : goal.returns-in_default
 unfolding field_of
-returns c = simp (ne_eqb _ _ c.if-kind-eq-PLANE.false, ne_eqb _ _ c.if-kind-eq-BALL.false)
+returns-in_default c = rw (ne_eqb c.args.kind 0 (omega arith), ne_eqb c.args.kind 1 (omega arith))

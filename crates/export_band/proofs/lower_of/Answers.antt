@@ -2,13 +2,13 @@
 use mathlib.Core.Path.{◌∙◌}
 use borrow.Author.Tests.{lt-ltb, le-ltb}
 use Rattle.rule_exports.specs.Told.{lower_of}
-use Rattle.export_band.proofs.Told.{zero-over-zero}
+use Rattle.export_band.proofs.Told.{nan-bits}
 use Rattle.export_band.proofs.lower_of.Goals as goal
 
 pub returns-then-kind-gt-QUADRIC : goal.returns-then-kind-gt-QUADRIC
 unfolding lower_of
-returns-then-kind-gt-QUADRIC c = zero-over-zero ∙ rw (lt-ltb _ _ c.if-kind-gt-QUADRIC.true)
+returns-then-kind-gt-QUADRIC c = nan-bits ∙ rw (lt-ltb _ _ c.if-kind-gt-QUADRIC.true)
 
-pub returns : goal.returns
+pub returns-else-kind-gt-QUADRIC : goal.returns-else-kind-gt-QUADRIC
 unfolding lower_of
-returns c = rw (le-ltb _ _ c.if-kind-gt-QUADRIC.false)
+returns-else-kind-gt-QUADRIC c = rw (le-ltb _ _ c.if-kind-gt-QUADRIC.false)

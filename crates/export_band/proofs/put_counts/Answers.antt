@@ -1,7 +1,9 @@
 -- `export_band::put_counts` meets its contract. Assumes nothing.
-use native.Mathlib.Omega.{arith}
-use lib.ListN.{length-set}
+use mathlib.Core.Path.{sym}
+use mathlib.Core.List.{[], ◌∷◌}
 use borrow.Author.Tests.{lt-ltb, le-ltb}
+use Rattle.rule_exports.specs.Measured.{fronted}
+use Rattle.rule_exports.proofs.Fronted.{stores-front}
 use Rattle.export_band.specs.Steps.{counts_left}
 use Rattle.export_band.proofs.put_counts.Goals as goal
 
@@ -9,12 +11,8 @@ pub returns-then-answer-lt-ANSWERS : goal.returns-then-answer-lt-ANSWERS
 unfolding counts_left
 returns-then-answer-lt-ANSWERS c = simp (lt-ltb _ _ c.if-answer-lt-ANSWERS.true)
 
-pub bounds-answer-1 : goal.bounds-answer-1
-bounds-answer-1 c = simp length-set (omega arith)
-
-pub bounds-answer-2 : goal.bounds-answer-2
-bounds-answer-2 c = simp length-set (omega arith)
-
 pub returns : goal.returns
-unfolding counts_left
-returns c = simp (le-ltb _ _ c.if-answer-lt-ANSWERS.false)
+unfolding counts_left fronted
+returns c =
+    let e = stores-front (c.args.count ∷ c.args.c.points ∷ c.args.c.quads ∷ c.args.c.labels ∷ []) c.args.answer.now c.if-answer-lt-ANSWERS.false in
+    rw (le-ltb _ _ c.if-answer-lt-ANSWERS.false, c.copy_from_slice.ensures.after) (sym e)

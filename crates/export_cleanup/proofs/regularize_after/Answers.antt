@@ -2,9 +2,9 @@
 use mathlib.Core.Path.{refl}
 use Rattle.export_cleanup.proofs.regularize_after.Goals as goal
 
-pub returns-in-Refused : goal.returns-in-Refused
-returns-in-Refused c =
-    record { fact = rw c.in-Refused.is (record { answer = refl; quads = refl }); cleared = c.clear_work.ensures }
+pub returns-in-Err : goal.returns-in-Err
+returns-in-Err c =
+    record { fact = rw c.in-Err.is (record { answer = refl; quads = refl }); cleared = c.clear_work.ensures }
 
 pub returns : goal.returns
 returns c =

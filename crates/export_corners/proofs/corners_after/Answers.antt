@@ -1,8 +1,8 @@
 -- `export_corners::corners_after` meets its contract. Assumes nothing.
 use Rattle.export_corners.proofs.corners_after.Goals as goal
 
-pub returns-in-Refused : goal.returns-in-Refused
-returns-in-Refused c = record { result_value = rw c.in-Refused.is; cleared = c.clear_work.ensures }
+pub returns-in-Err : goal.returns-in-Err
+returns-in-Err c = record { result_value = rw c.in-Err.is; cleared = c.clear_work.ensures }
 
 pub returns : goal.returns
 returns c =

@@ -6,10 +6,10 @@ use Rattle.export_corners.proofs.show_ratio.Goals as goal
 pub returns-then-answer-lt-ANSWERS : goal.returns-then-answer-lt-ANSWERS
 returns-then-answer-lt-ANSWERS c = rw (lt-ltb _ _ c.if-answer-lt-ANSWERS.true)
 
-pub returns-in-Done : goal.returns-in-Done
-returns-in-Done c =
-    rw (le-ltb _ _ c.if-answer-lt-ANSWERS.false) (done-shown _ _ _ c.in-Done.is c.put_ratio.ensures)
+pub returns-in-Ok : goal.returns-in-Ok
+returns-in-Ok c =
+    rw (le-ltb _ _ c.if-answer-lt-ANSWERS.false) (done-shown _ _ _ c.in-Ok.is c.put_ratio.ensures)
 
-pub returns-in-Refused : goal.returns-in-Refused
-returns-in-Refused c =
-    rw (le-ltb _ _ c.if-answer-lt-ANSWERS.false) (refused-shown _ _ _ c.in-Refused.is c.put_ratio-in-Refused.ensures)
+pub returns-in-Err : goal.returns-in-Err
+returns-in-Err c =
+    rw (le-ltb _ _ c.if-answer-lt-ANSWERS.false) (refused-shown _ _ _ c.in-Err.is c.put_ratio-in-Err.ensures)

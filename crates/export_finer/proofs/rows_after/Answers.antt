@@ -1,9 +1,9 @@
 -- `export_finer::rows_after` meets its contract. Assumes nothing.
 use Rattle.export_finer.proofs.rows_after.Goals as goal
 
-pub returns-in-Refused : goal.returns-in-Refused
-returns-in-Refused c =
-    record { fact = rw c.in-Refused.is c.refuse.ensures.makes; cleared = c.refuse.ensures.cleared }
+pub returns-in-Err : goal.returns-in-Err
+returns-in-Err c =
+    record { fact = rw c.in-Err.is c.refuse.ensures.makes; cleared = c.refuse.ensures.cleared }
 
 pub returns : goal.returns
 returns c =

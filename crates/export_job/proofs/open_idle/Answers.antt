@@ -6,6 +6,6 @@ pub returns : goal.returns
 returns c =
     record {
       fact = idle-opens c.args.file.now c.args.header.now c.args.points.now c.args.quads.now c.args.labels.now c.args.work.now c.open-r.ensures.fact
-          (c.clear_u64.ensures, (c.clear_u64-2.ensures, (c.clear.ensures, c.clear_u8.ensures)));
-      work_after = rw c.open-r.ensures.work_after at c.clear-2.ensures;
+          (c.clear.ensures, (c.clear-2.ensures, (c.clear-3.ensures, c.clear-4.ensures)));
+      work_after = rw c.open-r.ensures.work_after at c.clear-5.ensures;
     }

@@ -2,10 +2,10 @@
 use Rattle.rule_exports.specs.Jobs.{sum_shown}
 use Rattle.export_job.proofs.put_sum.Goals as goal
 
-pub returns-in-Missing : goal.returns-in-Missing
+pub returns-in-None : goal.returns-in-None
 unfolding sum_shown
-returns-in-Missing c = rw c.in-Missing.is c.put_two.ensures
+returns-in-None c = rw c.in-None.is c.put_two.ensures
 
-pub returns-in-Written : goal.returns-in-Written
+pub returns-in-Some : goal.returns-in-Some
 unfolding sum_shown
-returns-in-Written c = rw c.in-Written.is c.put_two-in-Written.ensures
+returns-in-Some c = rw c.in-Some.is c.put_two-in-Some.ensures

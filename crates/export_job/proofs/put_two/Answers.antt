@@ -1,12 +1,7 @@
 -- `export_job::put_two` meets its contract. Assumes nothing.
-use native.Mathlib.Omega.{arith}
-use mathlib.Core.List.{[], ◌∷◌}
-use lib.ListN.{length-set}
-use Rattle.rule_exports.proofs.Fronted.{stores-front}
+use Rattle.rule_exports.specs.Measured.{fronted}
 use Rattle.export_job.proofs.put_two.Goals as goal
 
-pub bounds-answer-1 : goal.bounds-answer-1
-bounds-answer-1 c = simp length-set (omega arith)
-
 pub returns : goal.returns
-returns c = stores-front (c.args.a ∷ c.args.b ∷ []) c.args.answer.now c.requires
+unfolding fronted
+returns c = rw c.copy_from_slice.ensures.after

@@ -2,9 +2,9 @@
 use Rattle.export_job.proofs.Shown.{refused-saves}
 use Rattle.export_job.proofs.save_after.Goals as goal
 
-pub returns-in-Refused : goal.returns-in-Refused
-returns-in-Refused c =
-    record { fact = refused-saves _ c.in-Refused.is c.clear_u8.ensures; work_after = c.clear.ensures }
+pub returns-in-Err : goal.returns-in-Err
+returns-in-Err c =
+    record { fact = refused-saves _ c.in-Err.is c.clear-in-Err.ensures; work_after = c.clear.ensures }
 
 pub returns : goal.returns
 returns c =

@@ -6,9 +6,9 @@ use Rattle.export_job.proofs.show_sum.Goals as goal
 pub returns-then-answer-lt-ANSWERS : goal.returns-then-answer-lt-ANSWERS
 returns-then-answer-lt-ANSWERS c = few-shows _ _ (lt-ltb _ _ c.if-answer-lt-ANSWERS.true) c.short_number.ensures
 
-pub returns-in-Found : goal.returns-in-Found
-returns-in-Found c = found-shows _ _ (le-ltb _ _ c.if-answer-lt-ANSWERS.false) c.in-Found.is c.put_sum.ensures
+pub returns-in-Some : goal.returns-in-Some
+returns-in-Some c = found-shows _ _ (le-ltb _ _ c.if-answer-lt-ANSWERS.false) c.in-Some.is c.put_sum.ensures
 
-pub returns-in-Broken : goal.returns-in-Broken
-returns-in-Broken c =
-    broken-shows _ _ (le-ltb _ _ c.if-answer-lt-ANSWERS.false) c.in-Broken.is c.put_two.ensures
+pub returns-in-None : goal.returns-in-None
+returns-in-None c =
+    rw c.number.ensures (broken-shows _ _ (le-ltb _ _ c.if-answer-lt-ANSWERS.false) c.in-None.is c.put_two.ensures)

@@ -6,7 +6,7 @@ use Rattle.export_leaves.proofs.leaf_constraints.Goals as goal
 
 pub returns-then-is_short_told : goal.returns-then-is_short_told
 returns-then-is_short_told c =
-    told-short (told_of c.args.kind c.args.numbers.now c.args.bounds.now c.args.lower c.args.upper) (filling c.args.points.now c.args.quads.now c.args.labels.now) _ _ _ c.is_short_told.ensures c.if-is_short_told.true
+    rw c.number.ensures (told-short (told_of c.args.kind c.args.numbers.now c.args.bounds.now c.args.lower c.args.upper) (filling c.args.points.now c.args.quads.now c.args.labels.now) _ _ _ c.is_short_told.ensures c.if-is_short_told.true)
 
 pub returns : goal.returns
 returns c =

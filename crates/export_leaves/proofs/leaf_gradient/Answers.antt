@@ -7,7 +7,7 @@ use Rattle.export_leaves.proofs.leaf_gradient.Goals as goal
 
 pub returns-then-is_short_told : goal.returns-then-is_short_told
 returns-then-is_short_told c =
-    point-short (told_of c.args.kind c.args.numbers.now c.args.bounds.now c.args.lower c.args.upper) (gradient_at (point_of c.args.x c.args.y c.args.z)) c.args.out.now _ c.is_short_told.ensures c.if-is_short_told.true
+    rw c.number.ensures (point-short (told_of c.args.kind c.args.numbers.now c.args.bounds.now c.args.lower c.args.upper) (gradient_at (point_of c.args.x c.args.y c.args.z)) c.args.out.now _ c.is_short_told.ensures c.if-is_short_told.true)
 
 pub returns : goal.returns
 returns c =

@@ -4,7 +4,7 @@ use Rattle.export_leaves.proofs.leaf_validate.Goals as goal
 
 pub returns-then-is_short_told : goal.returns-then-is_short_told
 unfolding band_number
-returns-then-is_short_told c = rw (← c.is_short_told.ensures, c.if-is_short_told.true)
+returns-then-is_short_told c = rw (← c.is_short_told.ensures, c.if-is_short_told.true) c.number.ensures
 
 pub returns-then-validate : goal.returns-then-validate
 unfolding band_number
@@ -14,4 +14,4 @@ returns-then-validate c =
 pub returns : goal.returns
 unfolding band_number
 returns c =
-    rw (← c.is_short_told.ensures, c.if-is_short_told.false, ← c.band_of.ensures, ← c.validate.ensures, c.if-validate.false)
+    rw (← c.is_short_told.ensures, c.if-is_short_told.false, ← c.band_of.ensures, ← c.validate.ensures, c.if-validate.false) c.number-2.ensures

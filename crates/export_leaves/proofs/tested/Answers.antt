@@ -9,16 +9,17 @@ use Rattle.export_leaves.proofs.tested.Goals as goal
 
 pub returns-then-is_large : goal.returns-then-is_large
 returns-then-is_large c =
-    tests_large c.args.b (filling c.args.points.now c.args.quads.now c.args.labels.now) _ _ (sym c.is_large.ensures ∙ c.if-is_large.true)
+    rw c.number.ensures (tests_large c.args.b (filling c.args.points.now c.args.quads.now c.args.labels.now) _ _ (sym c.is_large.ensures ∙ c.if-is_large.true))
 
 pub returns-then-masks-c : goal.returns-then-masks-c
 returns-then-masks-c c =
-    tests-short c.args.b (filling c.args.points.now c.args.quads.now c.args.labels.now) _ _ (sym c.is_large.ensures ∙ c.if-is_large.false) (ne_eqb _ _ c.if-masks-c.true)
+    rw c.number-then-masks-c.ensures (tests-short c.args.b (filling c.args.points.now c.args.quads.now c.args.labels.now) _ _ (sym c.is_large.ensures ∙ c.if-is_large.false) (ne_eqb _ _ c.if-masks-c.true))
 
 pub returns-then-not-validate : goal.returns-then-not-validate
 returns-then-not-validate c =
-    tests-box c.args.b (filling c.args.points.now c.args.quads.now c.args.labels.now) _ _ (sym c.is_large.ensures ∙ c.if-is_large.false) (eq-eqb _ _ c.if-masks-c.false)
-    (sym c.validate.ensures ∙ c.if-not-validate.true)
+    rw c.number-then-not-validate.ensures
+    (tests-box c.args.b (filling c.args.points.now c.args.quads.now c.args.labels.now) _ _ (sym c.is_large.ensures ∙ c.if-is_large.false) (eq-eqb _ _ c.if-masks-c.false)
+    (sym c.validate.ensures ∙ c.if-not-validate.true))
 
 pub constraints-requires : goal.constraints-requires
 constraints-requires c =
@@ -35,4 +36,4 @@ constraints-requires c =
 pub returns : goal.returns
 returns c =
     tests-sheet c.args.b (filling c.args.points.now c.args.quads.now c.args.labels.now) _ _ _ _ (sym c.is_large.ensures ∙ c.if-is_large.false) (eq-eqb _ _ c.if-masks-c.false)
-    (sym c.validate.ensures ∙ c.if-not-validate.false) c.constraints.ensures.value c.verdict_number.ensures c.constraints.ensures.masks_if
+    (sym c.validate.ensures ∙ c.if-not-validate.false) c.constraints.ensures.value c.answer_number.ensures c.constraints.ensures.masks_if

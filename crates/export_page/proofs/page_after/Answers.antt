@@ -2,9 +2,9 @@
 use Rattle.export_page.proofs.Shown.{refused-page}
 use Rattle.export_page.proofs.page_after.Goals as goal
 
-pub returns-in-Refused : goal.returns-in-Refused
-returns-in-Refused c =
-    record { fact = refused-page _ c.in-Refused.is c.clear_u8.ensures; cleared = c.clear_work.ensures }
+pub returns-in-Err : goal.returns-in-Err
+returns-in-Err c =
+    record { fact = refused-page _ c.in-Err.is c.clear.ensures; cleared = c.clear_work.ensures }
 
 pub returns : goal.returns
 returns c =

@@ -6,10 +6,10 @@ use Rattle.export_quality.proofs.show_measures.Goals as goal
 pub returns-then-measures-lt-MEASURES : goal.returns-then-measures-lt-MEASURES
 returns-then-measures-lt-MEASURES c = rw (lt-ltb _ _ c.if-measures-lt-MEASURES.true)
 
-pub returns-in-Done : goal.returns-in-Done
-returns-in-Done c =
-    rw (le-ltb _ _ c.if-measures-lt-MEASURES.false) (done-measures _ _ _ _ c.in-Done.is c.put_measures.ensures)
+pub returns-in-Ok : goal.returns-in-Ok
+returns-in-Ok c =
+    rw (le-ltb _ _ c.if-measures-lt-MEASURES.false) (done-measures _ _ _ c.in-Ok.is c.put_measures.ensures)
 
-pub returns-in-Refused : goal.returns-in-Refused
-returns-in-Refused c =
-    rw (le-ltb _ _ c.if-measures-lt-MEASURES.false) (refused-measures _ _ _ _ c.in-Refused.is c.no_quality.ensures c.put_measures-in-Refused.ensures)
+pub returns-in-Err : goal.returns-in-Err
+returns-in-Err c =
+    rw (le-ltb _ _ c.if-measures-lt-MEASURES.false) (refused-measures _ _ _ _ c.in-Err.is c.no_quality.ensures c.put_measures-in-Err.ensures)

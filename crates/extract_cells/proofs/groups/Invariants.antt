@@ -1,11 +1,7 @@
 -- `extract_cells::groups` meets its contract. Assumes nothing.
-use Prim.Native.Nat.{◌-◌}
 use Rattle.rule_extract.specs.Cells.{bit_of}
 use Rattle.extract_cells.proofs.Faces.{Joining}
 use Rattle.extract_cells.proofs.groups.Given as goal
 
 abbrev pub invariant-loop-t : goal.invariant-loop-t
 invariant-loop-t l = Joining (bit_of l.case) (bit_of l.centres) l.groups l.t
-
-abbrev pub decreases-loop-t : goal.decreases-loop-t
-decreases-loop-t l = 36 - l.t

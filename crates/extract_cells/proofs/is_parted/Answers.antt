@@ -1,12 +1,12 @@
 -- `extract_cells::is_parted` meets its contract. Assumes nothing.
 use Rattle.rule_extract.specs.Cells.{parted}
-use borrow.Author.Tests.{lt-ltb, le-ltb}
+use borrow.Author.Tests.{lt-ltb}
 use Rattle.extract_cells.proofs.is_parted.Goals as goal
 
-pub returns-then-v-lt8 : goal.returns-then-v-lt8
+pub returns-in-Some : goal.returns-in-Some
 unfolding parted
-returns-then-v-lt8 c = rw (← c.shared-v.ensures, lt-ltb _ _ c.if-v-lt8.true, ← c.bit.ensures)
+returns-in-Some c = rw (← c.in-Some.ensures.0, lt-ltb _ _ c.in-Some.ensures.1, ← c.bit.ensures)
 
-pub returns : goal.returns
+pub returns-in-None : goal.returns-in-None
 unfolding parted
-returns c = rw (← c.shared-v.ensures, le-ltb _ _ c.if-v-lt8.false)
+returns-in-None c = rw c.in-None.ensures

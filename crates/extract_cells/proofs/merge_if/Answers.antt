@@ -6,8 +6,8 @@ use Rattle.extract_cells.proofs.merge_if.Goals as goal
 pub returns-then-joined : goal.returns-then-joined
 unfolding merged_if
 returns-then-joined c =
-    rw (← c.joined.ensures, c.if-joined.true) (merged-pair _ _ c.merge.ensures c.pair_first.ensures.value c.pair_second.ensures.value)
+    rw (← c.joined.ensures, c.if-joined.true) (merged-pair _ _ c.merge.ensures c.pair_at-a.ensures.first c.pair_at-a.ensures.second)
 
-pub returns : goal.returns
+pub returns-else-joined : goal.returns-else-joined
 unfolding merged_if
-returns c = rw (← c.joined.ensures, c.if-joined.false)
+returns-else-joined c = rw (← c.joined.ensures, c.if-joined.false)

@@ -4,8 +4,5 @@ use Rattle.rule_extract.specs.Crossings.{halvings}
 use Rattle.extract_crossings.proofs.Paths.{Searching}
 use Rattle.extract_crossings.proofs.path.Given as goal
 
-abbrev pub invariant-loop-left : goal.invariant-loop-left
-invariant-loop-left l = Searching l.g l.sign (path_from halvings l.g l.sign l.initial.s) l.s l.path l.weight l.left
-
-abbrev pub decreases-loop-left : goal.decreases-loop-left
-decreases-loop-left l = l.left
+abbrev pub invariant-loop-i : goal.invariant-loop-i
+invariant-loop-i l = Searching l.g l.sign (path_from halvings l.g l.sign l.initial.s) l.s l.path l.i

@@ -1,10 +1,9 @@
 -- `extract_crossings::replay` meets its contract. Assumes nothing.
 use mathlib.Core.Path.{◌≡◌}
+use Prim.Native.Nat.{◌-◌}
+use Rattle.rule_extract.specs.Crossings.{halvings}
 use Rattle.extract_crossings.specs.Crossings.{replay_from}
 use Rattle.extract_crossings.proofs.replay.Given as goal
 
-abbrev pub invariant-loop-left : goal.invariant-loop-left
-invariant-loop-left l = replay_from l.left l.s l.rest ≡ replay_from l.initial.left l.initial.s l.initial.rest
-
-abbrev pub decreases-loop-left : goal.decreases-loop-left
-decreases-loop-left l = l.left
+abbrev pub invariant-loop-i : goal.invariant-loop-i
+invariant-loop-i l = replay_from (halvings - l.i) l.s l.rest ≡ replay_from halvings l.initial.s l.initial.rest

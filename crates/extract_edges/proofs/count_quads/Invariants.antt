@@ -1,10 +1,6 @@
 -- `extract_edges::count_quads` meets its contract. Assumes nothing.
-use Prim.Native.Nat.{◌-◌, ◌≤◌}
 use Rattle.extract_edges.specs.Rows.{edge_number, Counted}
 use Rattle.extract_edges.proofs.count_quads.Given as goal
 
 abbrev pub invariant-loop-r : goal.invariant-loop-r
-invariant-loop-r l = (l.r ≤ l.rows) × Counted l.g l.n (edge_number l.n l.r 0) l.count
-
-abbrev pub decreases-loop-r : goal.decreases-loop-r
-decreases-loop-r l = l.rows - l.r
+invariant-loop-r l = Counted l.g l.n (edge_number l.n l.r 0) l.count

@@ -1,6 +1,6 @@
 -- `extract_edges::row_at` meets its contract. Assumes nothing.
 use native.Mathlib.Omega.{arith}
-use Rattle.extract_edges.proofs.Rows.{row-places, first-within, own-within, last_within, row_made}
+use Rattle.extract_edges.proofs.Rows.{row-places, first-within, row_made}
 use Rattle.extract_edges.proofs.row_at.Goals as goal
 
 pub overflow_sub-q : goal.overflow_sub-q
@@ -29,17 +29,13 @@ index_of-requires c =
     record { n_bound = omega (arith, c.requires.n_bound); within = first-within _ _ c.requires.n_bound (row-places _ _ c.requires.r_bound) c.place_on-c.ensures }
 
 pub stride-requires : goal.stride-requires
-stride-requires c =
-    let R = row-places _ _ c.requires.r_bound in
-    record { m_bound = omega (arith, c.requires.n_bound); axis_bound = R.axis<; within = first-within _ _ c.requires.n_bound R c.place_on-c.ensures; within_2 = own-within _ _ c.requires.n_bound R c.place_on-c.ensures }
+stride-requires c = omega (arith, c.requires.n_bound)
 
 pub overflow_add-axis : goal.overflow_add-axis
 overflow_add-axis c = let R = row-places _ _ c.requires.r_bound in omega (arith, R.axis<)
 
 pub stride-requires-2 : goal.stride-requires-2
-stride-requires-2 c =
-    let R = row-places _ _ c.requires.r_bound in
-    record { m_bound = omega (arith, c.requires.n_bound); axis_bound = omega arith; within = first-within _ _ c.requires.n_bound R c.place_on-c.ensures; within_2 = last_within _ _ c.requires.n_bound R c.place_on-c.ensures }
+stride-requires-2 c = omega (arith, c.requires.n_bound)
 
 pub returns : goal.returns
 returns c =

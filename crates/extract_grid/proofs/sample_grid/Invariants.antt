@@ -1,5 +1,4 @@
 -- `extract_grid::sample_grid` meets its contract. Assumes nothing.
-use Prim.Native.Nat.{◌-◌}
 use lib.ListN.{length}
 use Rattle.lists.proofs.Laws.{Filled}
 use Rattle.rule_extract.specs.Lattice.{sample_at}
@@ -7,6 +6,3 @@ use Rattle.extract_grid.proofs.sample_grid.Given as goal
 
 abbrev pub invariant-loop-t : goal.invariant-loop-t
 invariant-loop-t l = Filled (sample_at l.g l.m) l.initial.s (length l.initial.s) l.s l.t
-
-abbrev pub decreases-loop-t : goal.decreases-loop-t
-decreases-loop-t l = length l.initial.s - l.t

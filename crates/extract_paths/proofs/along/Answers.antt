@@ -1,16 +1,19 @@
 -- `extract_paths::along` meets its contract. Assumes nothing.
-use borrow.Author.Tests.{eq-eqb, ne_eqb}
+use native.Mathlib.Omega.{arith}
+use borrow.Author.Tests.{ne_eqb}
+use Rattle.std.proofs.Common.{◌≢◌}
 use Rattle.extract_paths.specs.Paths.{along_of}
 use Rattle.extract_paths.proofs.along.Goals as goal
 
-pub returns-then-axis-eq0 : goal.returns-then-axis-eq0
+pub returns-in-0 : goal.returns-in-0
 unfolding along_of
-returns-then-axis-eq0 c = simp (eq-eqb _ _ c.if-axis-eq0.true)
+returns-in-0 c = rw c.in-0.is
 
-pub returns-then-axis-eq1 : goal.returns-then-axis-eq1
+pub returns-in-1 : goal.returns-in-1
 unfolding along_of
-returns-then-axis-eq1 c = simp (ne_eqb _ _ c.if-axis-eq0.false, eq-eqb _ _ c.if-axis-eq1.true)
+returns-in-1 c = rw c.in-1.is
 
-pub returns : goal.returns
+pub returns-in_default : goal.returns-in_default
 unfolding along_of
-returns c = simp (ne_eqb _ _ c.if-axis-eq0.false, ne_eqb _ _ c.if-axis-eq1.false)
+returns-in_default c =
+    let a : c.args.axis ≢ 0 = omega arith in let b : c.args.axis ≢ 1 = omega arith in simp (ne_eqb _ _ a, ne_eqb _ _ b)

@@ -23,6 +23,6 @@ pub returns-then-bit : goal.returns-then-bit
 returns-then-bit c =
     pathed-put _ c.requires.pathed (slot_of _ c.requires.cell_at c.requires.j_bound) (omega arith) c.edge_path-p.ensures
 
-pub returns : goal.returns
-returns c =
+pub returns-else-bit : goal.returns-else-bit
+returns-else-bit c =
     pathed-skip c.requires.pathed (slot_of _ c.requires.cell_at c.requires.j_bound) (omega arith) (kind-says _ _ _ c.requires.case_value c.requires.kind_value c.requires.j_bound c.bit.ensures c.if-bit.false)

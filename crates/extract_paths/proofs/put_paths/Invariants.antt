@@ -1,10 +1,7 @@
 -- `extract_paths::put_paths` meets its contract. Assumes nothing.
-use Prim.Native.Nat.{◌-◌}
-use Rattle.extract_paths.proofs.Slots.{Going}
+use Prim.Native.Nat.{◌*◌}
+use Rattle.extract_paths.specs.Paths.{Pathed}
 use Rattle.extract_paths.proofs.put_paths.Given as goal
 
 abbrev pub invariant-loop-e : goal.invariant-loop-e
-invariant-loop-e l = Going l.g l.n l.count l.initial.w l.w l.e
-
-abbrev pub decreases-loop-e : goal.decreases-loop-e
-decreases-loop-e l = l.count - l.e
+invariant-loop-e l = Pathed l.g l.n l.w (12 * l.e)

@@ -10,7 +10,7 @@ pub overflow_add-result : goal.overflow_add-result
 overflow_add-result c = let n = cell-number c.requires.cell_at in omega arith
 
 pub stride-requires : goal.stride-requires
-stride-requires c = c.requires.cell_at.n≤
+stride-requires c = omega (arith, c.requires.cell_at.n≤)
 
 pub overflow_mul-result : goal.overflow_mul-result
 overflow_mul-result c =
@@ -28,7 +28,7 @@ pub overflow_add-result-then-j-along-2 : goal.overflow_add-result-then-j-along-2
 overflow_add-result-then-j-along-2 c = let n = cell-number c.requires.cell_at in omega arith
 
 pub stride-requires-then-j-along-2 : goal.stride-requires-then-j-along-2
-stride-requires-then-j-along-2 c = c.requires.cell_at.n≤
+stride-requires-then-j-along-2 c = omega (arith, c.requires.cell_at.n≤)
 
 pub overflow_mul-result-then-j-along-2 : goal.overflow_mul-result-then-j-along-2
 overflow_mul-result-then-j-along-2 c =

@@ -1,21 +1,19 @@
 -- `extract_paths::stride` meets its contract. Assumes nothing.
 use native.Mathlib.Omega.{arith}
-use borrow.Author.Tests.{eq-eqb, ne_eqb}
-use native.Mathlib.Nat.{mul-le-mul_right}
+use borrow.Author.Tests.{ne_eqb}
+use Rattle.std.proofs.Common.{◌≢◌}
 use Rattle.extract_paths.specs.Paths.{stride_of}
 use Rattle.extract_paths.proofs.stride.Goals as goal
 
-pub overflow_mul-result : goal.overflow_mul-result
-overflow_mul-result c = let p = mul-le-mul_right c.args.n c.requires in omega (arith, p)
-
-pub returns-then-axis-eq0 : goal.returns-then-axis-eq0
+pub returns-in-0 : goal.returns-in-0
 unfolding stride_of
-returns-then-axis-eq0 c = simp (eq-eqb _ _ c.if-axis-eq0.true)
+returns-in-0 c = rw c.in-0.is
 
-pub returns-then-axis-eq1 : goal.returns-then-axis-eq1
+pub returns-in-1 : goal.returns-in-1
 unfolding stride_of
-returns-then-axis-eq1 c = simp (ne_eqb _ _ c.if-axis-eq0.false, eq-eqb _ _ c.if-axis-eq1.true)
+returns-in-1 c = rw c.in-1.is
 
-pub returns : goal.returns
+pub returns-in_default : goal.returns-in_default
 unfolding stride_of
-returns c = simp (ne_eqb _ _ c.if-axis-eq0.false, ne_eqb _ _ c.if-axis-eq1.false)
+returns-in_default c =
+    let a : c.args.axis ≢ 0 = omega arith in let b : c.args.axis ≢ 1 = omega arith in simp (ne_eqb _ _ a, ne_eqb _ _ b)

@@ -13,9 +13,6 @@ overflow_mul-i c = let n = cell-number c.requires.cell_at in omega arith
 pub overflow_add-i : goal.overflow_add-i
 overflow_add-i c = let n = cell-number c.requires.cell_at in omega arith
 
-pub bounds-w-i : goal.bounds-w-i
-bounds-w-i c = omega arith
-
 pub replay-requires : goal.replay-requires
 replay-requires c = edge-near _ c.requires.cell_at c.edge_site.ensures
 

@@ -1,17 +1,17 @@
 use native.Mathlib.Omega.{arith}
 use native.Mathlib.Nat.{mul-le-mul_right}
-use Prim.Native.Nat.{◌*◌, ◌-◌, ◌≤◌}
+use Prim.Native.Nat.{◌*◌, ◌≤◌}
 use Rattle.extract_points.proofs.Counts.{cube-small}
 use Rattle.extract_points.proofs.Cells.{drawn-start, cell-paths, place-room, drawn-turn, drawn-end}
 use Rattle.extract_points.proofs.draw_points.Goals as goal
 
-pub overflow_mul-count : goal.overflow_mul-count
-overflow_mul-count c =
+pub overflow_mul-e-end : goal.overflow_mul-e-end
+overflow_mul-e-end c =
     let b : c.args.n * c.args.n ≤ 130 * c.args.n = mul-le-mul_right c.args.n (omega arith) in
     omega arith
 
-pub overflow_mul-count-2 : goal.overflow_mul-count-2
-overflow_mul-count-2 c =
+pub overflow_mul-e-end-2 : goal.overflow_mul-e-end-2
+overflow_mul-e-end-2 c =
     let b = cube-small c.args.n (omega arith) in
     omega arith
 
@@ -21,24 +21,12 @@ loop-e-init c = drawn-start _ _ _ _
 pub draw_cell_at-place-requires : goal.draw_cell_at-place-requires
 draw_cell_at-place-requires c =
     let r = place-room c.loop-e.invariant c.loop-e-test.true in
-    record { samples = c.requires.samples; e_bound = c.loop-e-test.true; cell_paths = cell-paths c.loop-e.invariant c.loop-e-test.true c.requires.pathed; place_bound = omega (arith, c.requires.n_len_bound); place_value = c.loop-e.invariant.place_is; e_in_bounds = omega (arith, c.requires.n_in_bounds) }
-
-pub overflow_add-e : goal.overflow_add-e
-overflow_add-e c = omega arith
-
-pub loop-e-smaller : goal.loop-e-smaller
-loop-e-smaller c = omega arith
+    record { samples = c.requires.samples; e_bound = c.loop-e-test.true; cell_paths = cell-paths c.loop-e.invariant c.loop-e-test.true c.requires.pathed c.loop-e.auto.w; place_bound = omega (arith, c.requires.n_len_bound); place_value = c.loop-e.invariant.place_is; e_in_bounds = omega (arith, c.requires.n_in_bounds) }
 
 pub loop-e-preserved : goal.loop-e-preserved
 loop-e-preserved c =
-    drawn-turn c.loop-e.invariant c.loop-e-test.true c.draw_cell_at-place.auto.w (c.draw_cell_at-place.ensures.value, (c.draw_cell_at-place.ensures.out_after, c.draw_cell_at-place.ensures.numbered))
-
-pub shape_of-w : goal.shape_of-w
-shape_of-w c = c.loop-e.invariant.len
-
-pub shape_of-out : goal.shape_of-out
-shape_of-out c = c.loop-e.invariant.size
+    drawn-turn c.loop-e.invariant c.loop-e-test.true (c.draw_cell_at-place.ensures.value, (c.draw_cell_at-place.ensures.out_after, c.draw_cell_at-place.ensures.numbered))
 
 pub returns : goal.returns
 returns c =
-    let the_pair = drawn-end c.loop-e.invariant c.loop-e-test.false c.requires.pathed c.requires.n_in_bounds in record { value = the_pair.0; front = the_pair.1.0; all_numbered = the_pair.1.1 }
+    let the_pair = drawn-end c.loop-e.invariant (omega arith) c.requires.pathed c.loop-e.auto.w c.requires.n_in_bounds in record { value = the_pair.0; front = the_pair.1.0; all_numbered = the_pair.1.1 }

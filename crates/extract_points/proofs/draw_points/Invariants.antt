@@ -1,10 +1,6 @@
 -- `extract_points::draw_points` meets its contract. Assumes nothing.
-use Prim.Native.Nat.{◌-◌}
 use Rattle.extract_points.proofs.Cells.{Drawn}
 use Rattle.extract_points.proofs.draw_points.Given as goal
 
 abbrev pub invariant-loop-e : goal.invariant-loop-e
 invariant-loop-e l = Drawn l.g l.n l.initial.w l.initial.out l.w l.out l.place l.e
-
-abbrev pub decreases-loop-e : goal.decreases-loop-e
-decreases-loop-e l = l.count - l.e

@@ -1,5 +1,4 @@
 -- `extract_points::put_group` meets its contract. Assumes nothing.
-use native.Mathlib.Omega.{arith}
 use Rattle.extract_points.proofs.Putting.{group-room, group-put, group-kept}
 use Rattle.extract_points.proofs.put_group.Goals as goal
 
@@ -10,9 +9,6 @@ group_mean-p-requires c =
 pub put_point-requires : goal.put_point-requires
 put_point-requires c =
     group-room _ _ _ c.requires.known c.has_member.ensures c.if-has_member.true c.requires.k_in_bounds
-
-pub overflow_add-result : goal.overflow_add-result
-overflow_add-result c = omega arith
 
 pub returns-then-has_member : goal.returns-then-has_member
 returns-then-has_member c =

@@ -33,14 +33,11 @@ overflow_add-w-then-bit c = let n = cell-number c.requires.cell_at in omega arit
 pub offset_bounds-w-i : goal.offset_bounds-w-i
 offset_bounds-w-i c = let n = cell-number c.requires.cell_at in omega arith
 
-pub bounds-w-i : goal.bounds-w-i
-bounds-w-i c = omega arith
-
 pub returns-then-bit : goal.returns-then-bit
 unfolding numbered_if
 returns-then-bit c =
     rw (← c.bit.ensures, c.if-bit.true, c.rank.ensures.value, c.slot_label-label.ensures.value)
 
-pub returns : goal.returns
+pub returns-else-bit : goal.returns-else-bit
 unfolding numbered_if
-returns c = rw (← c.bit.ensures, c.if-bit.false)
+returns-else-bit c = rw (← c.bit.ensures, c.if-bit.false)

@@ -1,10 +1,6 @@
 -- `extract_points::put_numbers` meets its contract. Assumes nothing.
-use Prim.Native.Nat.{◌-◌}
 use Rattle.extract_points.proofs.Numbers.{Numbering}
 use Rattle.extract_points.proofs.put_numbers.Given as goal
 
 abbrev pub invariant-loop-e : goal.invariant-loop-e
 invariant-loop-e l = Numbering l.g l.n l.c l.i l.initial.w l.w l.e
-
-abbrev pub decreases-loop-e : goal.decreases-loop-e
-decreases-loop-e l = 12 - l.e

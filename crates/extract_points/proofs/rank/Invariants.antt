@@ -1,10 +1,6 @@
 -- `extract_points::rank` meets its contract. Assumes nothing.
-use Prim.Native.Nat.{◌-◌}
 use Rattle.extract_points.proofs.Counts.{Ranking}
 use Rattle.extract_points.proofs.rank.Given as goal
 
 abbrev pub invariant-loop-i : goal.invariant-loop-i
-invariant-loop-i l = Ranking l.kind l.groups l.k l.count l.i
-
-abbrev pub decreases-loop-i : goal.decreases-loop-i
-decreases-loop-i l = l.k - l.i
+invariant-loop-i l = Ranking l.kind l.groups l.count l.i

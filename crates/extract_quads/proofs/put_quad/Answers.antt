@@ -19,9 +19,6 @@ pub slot_at-t-requires : goal.slot_at-t-requires
 slot_at-t-requires c =
     record { all_numbered = c.requires.all_numbered; row_in = c.requires.row_in; j_bound = c.requires.j_bound; axis_value = c.requires.axis_value; k_bound = omega arith }
 
-pub overflow_cast-labels : goal.overflow_cast-labels
-overflow_cast-labels c = omega arith
-
 pub bounds-labels-place : goal.bounds-labels-place
 bounds-labels-place c = c.requires.place_in_bounds_2
 
@@ -34,11 +31,11 @@ returns-then-sign c =
     let the_pair = put-inside _ _ _ _ _ _ _ _ _ c.args.labels.now I c.slot_at-p.ensures c.slot_at-q.ensures c.slot_at-s.ensures c.slot_at-t.ensures
     c.requires.sign_value c.if-sign.true c.put_quad.ensures in record { quads_after = the_pair.0; labels_after = the_pair.1 }
 
-pub put_quad-requires-2 : goal.put_quad-requires-2
-put_quad-requires-2 c = c.requires.place_in_bounds
+pub put_quad-requires-else-sign : goal.put_quad-requires-else-sign
+put_quad-requires-else-sign c = c.requires.place_in_bounds
 
-pub returns : goal.returns
-returns c =
+pub returns-else-sign : goal.returns-else-sign
+returns-else-sign c =
     let I = row-inner _ c.requires.row_in c.requires.j_bound in
     let the_pair = put-outside _ _ _ _ _ _ _ _ _ c.args.labels.now I c.slot_at-p.ensures c.slot_at-q.ensures c.slot_at-s.ensures c.slot_at-t.ensures
-    c.requires.sign_value c.if-sign.false c.put_quad-2.ensures in record { quads_after = the_pair.0; labels_after = the_pair.1 }
+    c.requires.sign_value c.if-sign.false c.put_quad-else-sign.ensures in record { quads_after = the_pair.0; labels_after = the_pair.1 }

@@ -3,4 +3,4 @@ use Rattle.job_open.proofs.clear_job.Goals as goal
 
 pub returns : goal.returns
 returns c =
-    record { header_after = c.clear_u64.ensures; points_after = c.clear_u64-2.ensures; quads_after = c.clear.ensures; labels_after = c.clear_u8.ensures }
+    record { header_after = c.clear.ensures; points_after = c.clear-2.ensures; quads_after = c.clear-3.ensures; labels_after = c.clear-4.ensures }

@@ -11,14 +11,14 @@ returns-then-n c = rw (lt-ltb _ _ c.if-n.true)
 pub returns-then-z-eq-OLDER : goal.returns-then-z-eq-OLDER
 unfolding trailer_of trailer_by
 returns-then-z-eq-OLDER c =
-    c.starts_at.ensures ∙ rw (le-ltb _ _ c.if-n.false, ← c.u32_at-z.ensures, c.if-z-eq-OLDER.true)
+    c.starts_at.ensures ∙ rw (le-ltb _ _ c.if-n.false, ← c.get-z.ensures, c.if-z-eq-OLDER.true)
 
 pub returns-then-z-eq-TRAILER : goal.returns-then-z-eq-TRAILER
 unfolding trailer_of trailer_by
 returns-then-z-eq-TRAILER c =
-    c.starts_at-then-z-eq-TRAILER.ensures ∙ rw (le-ltb _ _ c.if-n.false, ← c.u32_at-z.ensures, c.if-z-eq-TRAILER.true, c.u64_at.ensures)
+    c.starts_at-then-z-eq-TRAILER.ensures ∙ rw (le-ltb _ _ c.if-n.false, ← c.get-z.ensures, c.if-z-eq-TRAILER.true, c.get.ensures)
 
 pub returns : goal.returns
 unfolding trailer_of trailer_by
 returns c =
-    rw (le-ltb _ _ c.if-n.false, ← c.u32_at-z.ensures, ne_eqb _ _ c.if-z-eq-OLDER.false, ne_eqb _ _ c.if-z-eq-TRAILER.false)
+    rw (le-ltb _ _ c.if-n.false, ← c.get-z.ensures, ne_eqb _ _ c.if-z-eq-OLDER.false, ne_eqb _ _ c.if-z-eq-TRAILER.false)

@@ -7,4 +7,4 @@ pub returns : goal.returns
 unfolding starts_at
 returns c =
     c.counts_by.ensures
-    ∙ rw (c.u32_at-t.ensures, c.u32_at-l.ensures, c.u32_at-q.ensures, c.u32_at-p.ensures)
+    ∙ rw (c.get-t.ensures, c.get-l.ensures, c.get-q.ensures, c.get-p.ensures)

@@ -4,4 +4,4 @@ use Rattle.job_save.proofs.put_trailer.Goals as goal
 
 pub returns : goal.returns
 returns c =
-    put_three c.args.c c.args.sum c.args.file.now c.requires.c_in_bounds c.put_u32s.ensures c.put_u64.ensures c.put_u32.ensures
+    put_three c.args.c c.args.sum c.args.file.now c.requires.c_in_bounds c.put_all.ensures c.put.ensures c.put-2.ensures

@@ -3,9 +3,9 @@ use mathlib.Core.Path.{sym, ◌∙◌}
 use Rattle.page.proofs.Rule.{rule-refused, rule-shown, long-enough}
 use Rattle.page.proofs.page.Goals as goal
 
-pub returns-in-Refused : goal.returns-in-Refused
-returns-in-Refused c =
-    record { answer = rule-refused _ _ _ _ (sym c.before_verdict-tested.ensures ∙ c.in-Refused.is) c.clear_u8.ensures; cleared = c.clear_work.ensures }
+pub returns-in-Err : goal.returns-in-Err
+returns-in-Err c =
+    record { answer = rule-refused _ _ _ _ (sym c.before_verdict-tested.ensures ∙ c.in-Err.is) c.clear.ensures; cleared = c.clear_work.ensures }
 
 pub show-requires : goal.show-requires
 show-requires c = long-enough _ _ (sym c.before_verdict-tested.ensures ∙ c.in_default.is)

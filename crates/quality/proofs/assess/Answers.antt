@@ -1,8 +1,11 @@
 -- `quality::assess` meets its contract. Assumes nothing.
+use mathlib.Core.Path.{ap}
+use Rattle.std.specs.Prelude.{Ok}
+use Rattle.rule_sheet.proofs.Exits.{exited}
 use Rattle.quality.proofs.assess.Goals as goal
 
-pub returns-in-Done : goal.returns-in-Done
-returns-in-Done c = rw (← c.measure-r.ensures.value, c.in-Done.is) c.with_counts.ensures
+pub returns-in_err-m : goal.returns-in_err-m
+returns-in_err-m c = rw (exited _ _ c.from_residual.ensures.1) (rw (← c.measure.ensures.value, c.in_err-m.was))
 
-pub returns-in-Refused : goal.returns-in-Refused
-returns-in-Refused c = rw (← c.measure-r.ensures.value, c.in-Refused.is)
+pub returns : goal.returns
+returns c = rw (← c.measure.ensures.value, c.in_ok-m.was) (ap Ok c.with_counts.ensures)

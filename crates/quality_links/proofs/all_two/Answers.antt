@@ -1,8 +1,5 @@
 use native.Mathlib.Omega.{arith}
 use mathlib.Core.Path.{◌≡◌, sym, ap, ◌∙◌}
-use mathlib.Core.Bool.{true}
-use Prim.Native.Nat.{◌-◌}
-use Rattle.lists.specs.Every.{every}
 use Rattle.lists.specs.Regions.{part}
 use Rattle.lists.proofs.Every.{every-zero, every-suc, every-fails}
 use Rattle.quality_links.specs.Links.{both_two, two_at}
@@ -17,32 +14,17 @@ test_at : (c : After-both_two) → c.both_two.result ≡ two_at c.args.quads.now
 test_at c = c.both_two.ensures ∙ ap (both_two c.args.quads.now c.args.deg c.args.w.now) (read_at (goal.at.After-both_two c).After-at).is
 
 pub loop-j-init : goal.loop-j-init
-loop-j-init c = (omega arith, every-zero _)
-
-pub overflow_add-from : goal.overflow_add-from
-overflow_add-from c = omega arith
-
-pub at-requires : goal.at-requires
-at-requires c = omega arith
+loop-j-init c = every-zero _
 
 pub both_two-requires : goal.both_two-requires
 both_two-requires c =
     let r = read_at c in
     record { known = r.known; c_in_bounds = omega (arith, r.before<, r.in_deg); c_in_bounds_2 = omega (arith, r.after<, r.in_deg) }
 
-pub overflow_add-j : goal.overflow_add-j
-overflow_add-j c = omega arith
-
-pub loop-j-smaller : goal.loop-j-smaller
-loop-j-smaller c = omega arith
-
 pub loop-j-preserved : goal.loop-j-preserved
 loop-j-preserved c =
-    (omega arith, every-suc _ _ c.loop-j.invariant.1 (sym (test_at (goal.at.loop-j-preserved c).After-both_two) ∙ c.if-both_two.true))
+    every-suc _ _ c.loop-j.invariant (sym (test_at (goal.at.loop-j-preserved c).After-both_two) ∙ c.if-not-both_two.false)
 
-pub returns-else-both_two : goal.returns-else-both_two
-returns-else-both_two c =
-    sym (every-fails _ _ _ c.loop-j-test.true (sym (test_at (goal.at.returns-else-both_two c).After-both_two) ∙ c.if-both_two.false))
-
-pub returns : goal.returns
-returns c = let e : c.loop-j.j ≡ c.args.m = omega arith in sym (rw e at c.loop-j.invariant.1)
+pub returns-then-not-both_two : goal.returns-then-not-both_two
+returns-then-not-both_two c =
+    sym (every-fails _ _ _ c.loop-j-test.true (sym (test_at (goal.at.returns-then-not-both_two c).After-both_two) ∙ c.if-not-both_two.true))

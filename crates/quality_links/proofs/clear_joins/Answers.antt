@@ -1,10 +1,9 @@
 use native.Mathlib.Omega.{arith}
 use mathlib.Core.Path.{ap, ◌∙◌}
-use Prim.Native.Nat.{◌-◌}
 use lib.ListN.{length-set}
 use Rattle.sheet.specs.Flat.{before, to}
 use Rattle.lists.specs.Regions.{part}
-use Rattle.quality_links.proofs.Joining.{cleared-start, clear-turn, cleared-end, Read, read-corner}
+use Rattle.quality_links.proofs.Joining.{cleared-start, clear-turn, Read, read-corner}
 use Rattle.quality_links.proofs.clear_joins.Goals.{After-at-c}
 use Rattle.quality_links.proofs.clear_joins.Goals as goal
 
@@ -14,57 +13,22 @@ read_at c = read-corner c.at-c.result c.loop-j.invariant.joining c.loop-j-test.t
 pub loop-j-init : goal.loop-j-init
 loop-j-init c = cleared-start c.requires.joining c.requires.by_index
 
-pub overflow_add-from : goal.overflow_add-from
-overflow_add-from c = omega arith
-
-pub at-c-requires : goal.at-c-requires
-at-c-requires c = omega arith
-
 pub point_before-p-requires : goal.point_before-p-requires
 point_before-p-requires c = (read_at c).known
 
 pub point_after-n-requires : goal.point_after-n-requires
 point_after-n-requires c = (read_at (goal.at.point_after-n-requires c).After-at-c).known
 
-pub overflow_add-w : goal.overflow_add-w
-overflow_add-w c =
-    let r = read_at (goal.at.overflow_add-w c).After-at-c in omega (arith, c.point_before-p.ensures, r.before<, r.in_deg)
-
-pub offset_bounds-w-deg : goal.offset_bounds-w-deg
-offset_bounds-w-deg c =
-    let r = read_at (goal.at.offset_bounds-w-deg c).After-at-c in omega (arith, c.point_before-p.ensures, r.before<, r.in_deg)
-
 pub bounds-w-deg : goal.bounds-w-deg
 bounds-w-deg c =
     let r = read_at (goal.at.bounds-w-deg c).After-at-c in omega (arith, c.point_before-p.ensures, r.before<, r.in_deg)
 
-pub overflow_add-w-in-loop-j : goal.overflow_add-w-in-loop-j
-overflow_add-w-in-loop-j c =
-    let r = read_at (goal.at.overflow_add-w-in-loop-j c).After-at-c in omega (arith, c.point_after-n.ensures, r.after<, r.in_deg)
-
-pub offset_bounds-w-deg-in-loop-j : goal.offset_bounds-w-deg-in-loop-j
-offset_bounds-w-deg-in-loop-j c =
-    let r = read_at (goal.at.offset_bounds-w-deg-in-loop-j c).After-at-c in omega (arith, c.point_after-n.ensures, r.after<, r.in_deg)
-
 pub bounds-w-deg-in-loop-j : goal.bounds-w-deg-in-loop-j
 bounds-w-deg-in-loop-j c =
     let r = read_at (goal.at.bounds-w-deg-in-loop-j c).After-at-c in simp length-set (omega (arith, c.point_after-n.ensures, r.after<, r.in_deg))
-
-pub overflow_add-j : goal.overflow_add-j
-overflow_add-j c = omega arith
-
-pub loop-j-smaller : goal.loop-j-smaller
-loop-j-smaller c = omega arith
 
 pub loop-j-preserved : goal.loop-j-preserved
 loop-j-preserved c =
     let e = (read_at (goal.at.loop-j-preserved c).After-at-c).is in
     clear-turn _ _ c.loop-j.invariant c.loop-j-test.true
     (c.point_before-p.ensures ∙ ap (before c.args.quads.now) e) (c.point_after-n.ensures ∙ ap (to c.args.quads.now) e)
-
-pub shape_of-w : goal.shape_of-w
-shape_of-w c = c.loop-j.invariant.kept.len
-
-pub returns : goal.returns
-returns c =
-    let the_pair = cleared-end c.loop-j.invariant (omega arith) in record { unjoined = the_pair.0; kept = the_pair.1 }

@@ -8,7 +8,7 @@ use Rattle.rule_sheet.specs.Flat.{quads_of}
 use Rattle.sheet.specs.Edges.{point_corners}
 use Rattle.rule_quality.specs.Census.{none_or_two}
 use Rattle.quality_links.proofs.Joining.{Read}
-use Rattle.quality_links.proofs.Linked.{test-link, link-failed, joining-part, first_read, walkable, link-round, from-not}
+use Rattle.quality_links.proofs.Linked.{test-link, link-failed, joining-part, first_read, walkable, link-round}
 use Rattle.quality_links.proofs.is_round.Goals.{After-at-c, Else-not-all_two}
 use Rattle.quality_links.proofs.is_round.Goals as goal
 

@@ -1,9 +1,7 @@
-use native.Mathlib.Omega.{arith}
 use mathlib.Core.Path.{ap, ◌∙◌}
-use Prim.Native.Nat.{◌-◌}
 use Rattle.sheet.specs.Flat.{before, to}
 use Rattle.lists.specs.Regions.{part}
-use Rattle.quality_links.proofs.Joining.{registered-start, registered-end, RegisterTurn, register-turn, register-second, register-again, Read, read-corner}
+use Rattle.quality_links.proofs.Joining.{registered-start, RegisterTurn, register-turn, register-second, register-again, Read, read-corner}
 use Rattle.quality_links.proofs.join_all.Goals.{After-at-c, After-point_after-n}
 use Rattle.quality_links.proofs.join_all.Goals as goal
 
@@ -18,12 +16,6 @@ turn_at c = let e = (read_at (goal.at.After-point_after-n c).After-at-c).is in
 pub loop-j-init : goal.loop-j-init
 loop-j-init c = registered-start c.requires.joining c.requires.unjoined
 
-pub overflow_add-from : goal.overflow_add-from
-overflow_add-from c = omega arith
-
-pub at-c-requires : goal.at-c-requires
-at-c-requires c = omega arith
-
 pub point_before-p-requires : goal.point_before-p-requires
 point_before-p-requires c = (read_at c).known
 
@@ -37,19 +29,6 @@ pub register-requires-in-loop-j : goal.register-requires-in-loop-j
 register-requires-in-loop-j c =
     register-second _ (turn_at (goal.at.register-requires-in-loop-j c).After-point_after-n) c.register.ensures
 
-pub overflow_add-j : goal.overflow_add-j
-overflow_add-j c = omega arith
-
-pub loop-j-smaller : goal.loop-j-smaller
-loop-j-smaller c = omega arith
-
 pub loop-j-preserved : goal.loop-j-preserved
 loop-j-preserved c =
     register-again _ _ (turn_at (goal.at.loop-j-preserved c).After-point_after-n) c.register.ensures c.register-in-loop-j.ensures
-
-pub shape_of-w : goal.shape_of-w
-shape_of-w c = c.loop-j.invariant.kept.len
-
-pub returns : goal.returns
-returns c =
-    let the_pair = registered-end c.loop-j.invariant (omega arith) in record { joins = the_pair.0; kept = the_pair.1 }

@@ -1,5 +1,4 @@
 use native.Mathlib.Omega.{arith}
-use Prim.Native.Nat.{◌-◌}
 use Rattle.quality_links.proofs.Rounds.{walk_start, walk_end, RoundTurn, round-turn}
 use Rattle.quality_links.proofs.round_length.Goals.{In-loop-x}
 use Rattle.quality_links.proofs.round_length.Goals as goal

@@ -1,11 +1,8 @@
 -- `quality_measures::scores` meets its contract. Assumes nothing.
-use Prim.Native.Nat.{◌-◌, ◌*◌}
+use Prim.Native.Nat.{◌*◌}
 use Rattle.lists.proofs.Regions.{RegionFilled}
 use Rattle.quality_measures.proofs.Rule.{score_at}
 use Rattle.quality_measures.proofs.scores.Given as goal
 
 abbrev pub invariant-loop-q : goal.invariant-loop-q
 invariant-loop-q l = RegionFilled (score_at l.mean l.n l.initial.floats) (3 * l.n) l.n l.initial.floats l.floats l.q
-
-abbrev pub decreases-loop-q : goal.decreases-loop-q
-decreases-loop-q l = l.n - l.q

@@ -1,29 +1,14 @@
-use native.Mathlib.Omega.{arith}
-use Prim.Native.Nat.{◌-◌}
-use mathlib.Core.Path.{refl, sym, ◌∙◌}
-use lib.Ieee.{nan}
+-- `quality_statistics::total` meets its contract. Assumes nothing.
+use Rattle.std.proofs.Common.{rules, tests, ◌∙◌}
+use Rattle.std.proofs.lemmas.Iterator.{YieldsList-from_slice}
+use Rattle.std.proofs.lemmas.Iterator.Consumers.{fold_from_yields_List}
 use Rattle.points.specs.Points.{◌⊕◌}
 use Rattle.rule_quality.specs.Measure.{total_of}
-use Rattle.quality_statistics.proofs.Folds.{fold-turn, fold_end}
+use Rattle.quality_statistics.proofs.Folds.{fold-is}
 use Rattle.quality_statistics.proofs.total.Goals as goal
 
-pub loop-i-init : goal.loop-i-init
-unfolding total_of
-loop-i-init c = (omega arith, refl)
-
-pub bounds-s-i : goal.bounds-s-i
-bounds-s-i c = omega arith
-
-pub overflow_add-i : goal.overflow_add-i
-overflow_add-i c = omega arith
-
-pub loop-i-smaller : goal.loop-i-smaller
-loop-i-smaller c = omega arith
-
-pub loop-i-preserved : goal.loop-i-preserved
-loop-i-preserved c =
-    (omega arith, fold-turn ◌⊕◌ c.loop-i.w c.args.s.now c.loop-i.i nan c.loop-i-test.true ∙ c.loop-i.invariant.1)
-
 pub returns : goal.returns
+unfolding total_of
 returns c =
-    sym (fold_end ◌⊕◌ c.loop-i.w c.args.s.now c.loop-i.i c.loop-i-test.false) ∙ c.loop-i.invariant.1
+    fold_from_yields_List _ ◌⊕◌ _ _ c.fold.ensures.ran (YieldsList-from_slice c.args.s.now (cc)) (λ a x b q k. search (rules, tests))
+    ∙ fold-is ◌⊕◌ _ c.args.s.now

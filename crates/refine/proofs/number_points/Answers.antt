@@ -1,5 +1,4 @@
 use native.Mathlib.Omega.{arith}
-use Prim.Native.Nat.{◌-◌}
 use Rattle.refine.proofs.Loops.{numbers-start, numbers-ready, numbers-turn, numbers-small, numbers-end}
 use Rattle.refine.proofs.number_points.Goals as goal
 
@@ -17,24 +16,9 @@ pub overflow_add-next : goal.overflow_add-next
 overflow_add-next c =
     omega (arith, numbers-small c.loop-t.invariant _ c.loop-t-test.true c.own_at-next.ensures, c.loop-t.invariant.start.few)
 
-pub overflow_add-w : goal.overflow_add-w
-overflow_add-w c = omega (arith, c.loop-t.invariant.start.in_num)
-
-pub bounds-w-num : goal.bounds-w-num
-bounds-w-num c = omega (arith, c.loop-t.invariant.start.in_num, c.loop-t.invariant.filled.len)
-
-pub overflow_add-t : goal.overflow_add-t
-overflow_add-t c = omega arith
-
-pub loop-t-smaller : goal.loop-t-smaller
-loop-t-smaller c = omega arith
-
 pub loop-t-preserved : goal.loop-t-preserved
 loop-t-preserved c =
     numbers-turn c.loop-t.invariant _ _ c.loop-t-test.true c.number_at-k.ensures c.own_at-next.ensures
-
-pub shape_of-w : goal.shape_of-w
-shape_of-w c = c.loop-t.invariant.filled.len
 
 pub returns : goal.returns
 returns c =

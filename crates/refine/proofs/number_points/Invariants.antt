@@ -1,10 +1,6 @@
 -- `refine::number_points` meets its contract. Assumes nothing.
-use Prim.Native.Nat.{◌-◌}
 use Rattle.refine.proofs.Loops.{NumberLoop}
 use Rattle.refine.proofs.number_points.Given as goal
 
 abbrev pub invariant-loop-t : goal.invariant-loop-t
 invariant-loop-t l = NumberLoop l.n l.m l.first l.num l.initial.w l.w l.next l.t
-
-abbrev pub decreases-loop-t : goal.decreases-loop-t
-decreases-loop-t l = l.m - l.t

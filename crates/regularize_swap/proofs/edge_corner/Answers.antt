@@ -2,6 +2,6 @@
 use Rattle.regularize_swap.proofs.Diagonals.{corner-told}
 use Rattle.regularize_swap.proofs.edge_corner.Goals as goal
 
-pub returns : goal.returns
-returns c =
-    let the_pair = corner-told c.args.i _ c.requires.map_holds c.requires.i_bound c.at.ensures in record { value = the_pair.0; upper_bound = the_pair.1 }
+pub returns-clause-upper_bound : goal.returns-clause-upper_bound
+returns-clause-upper_bound c =
+    (corner-told c.args.i _ c.requires.map_holds c.requires.i_bound c.at.ensures).1

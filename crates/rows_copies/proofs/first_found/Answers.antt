@@ -1,24 +1,21 @@
 use native.Mathlib.Omega.{arith}
-use mathlib.Core.Path.{refl, sym, ◌∙◌}
+use mathlib.Core.Path.{◌≡◌, refl, sym, ◌∙◌}
+use Prim.Native.Nat.{◌+◌, ◌-◌}
+use Rattle.rule_rows.specs.Rows.{try_count}
 use Rattle.rows_copies.proofs.Copies.{try-none, try-found, try-again}
 use Rattle.rows_copies.proofs.first_found.Goals as goal
 
-pub loop-left-init : goal.loop-left-init
-loop-left-init c = refl
+pub loop-tried-init : goal.loop-tried-init
+loop-tried-init c = refl
 
-pub returns-in-Onto : goal.returns-in-Onto
-returns-in-Onto c =
-    try-found _ _ _ _ _ _ _ _ _ _ _ c.loop-left.invariant c.loop-left-test.true c.requires c.mul.ensures c.add-q.ensures c.project-r.ensures _ c.in-Onto.is
+pub returns-in-Some : goal.returns-in-Some
+returns-in-Some c =
+    try-found (try_count - c.loop-tried._tried) _ _ _ _ _ _ _ _ _ _ c.loop-tried.invariant (omega arith) c.requires c.mul.ensures c.add-q.ensures c.project-r.ensures _ c.in-Some.is
 
-pub overflow_sub-left : goal.overflow_sub-left
-overflow_sub-left c = omega arith
-
-pub loop-left-smaller : goal.loop-left-smaller
-loop-left-smaller c = omega arith
-
-pub loop-left-preserved : goal.loop-left-preserved
-loop-left-preserved c =
-    try-again _ _ _ _ _ _ _ _ _ _ _ c.loop-left.invariant c.loop-left-test.true c.requires c.mul.ensures c.add-q.ensures c.project-r.ensures c.in_default.is
+pub loop-tried-preserved : goal.loop-tried-preserved
+loop-tried-preserved c =
+    let e : try_count - (c.loop-tried._tried + 1) ≡ try_count - c.loop-tried._tried - 1 = omega arith in
+    rw e (try-again (try_count - c.loop-tried._tried) _ _ _ _ _ _ _ _ _ _ c.loop-tried.invariant (omega arith) c.requires c.mul.ensures c.add-q.ensures c.project-r.ensures c.in_default.is)
 
 pub returns : goal.returns
-returns c = sym (try-none _ _ _ _ _ _ c.loop-left-test.false) ∙ c.loop-left.invariant
+returns c = sym (try-none (try_count - c.loop-tried._tried) _ _ _ _ _ (omega arith)) ∙ c.loop-tried.invariant

@@ -8,7 +8,7 @@ span_at-s-requires c = record { incident = c.requires.incident; v_lt_np = c.requ
 
 pub centres_at-c-requires : goal.centres_at-c-requires
 centres_at-c-requires c =
-    record { positioned = c.requires.labelled.held; nq_in_bounds = c.requires.labelled.labelled; below = c.span_at-s.ensures.below; m_bound = omega (arith, c.span_at-s.ensures.few, c.requires.labelled.held.cornered.few) }
+    record { positioned = c.requires.labelled.held; nq_in_bounds = c.requires.labelled.labelled; low = c.span_at-s.ensures.low; few = omega (arith, c.span_at-s.ensures.few, c.requires.labelled.held.cornered.few) }
 
 pub point_at-requires : goal.point_at-requires
 point_at-requires c = omega (arith, c.requires.labelled.held.points, c.requires.v_lt_np)

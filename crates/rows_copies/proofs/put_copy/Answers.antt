@@ -36,7 +36,7 @@ shape_of-out-then-is_copied c = c.put_point.auto.points
 
 pub returns-then-is_copied : goal.returns-then-is_copied
 returns-then-is_copied c =
-    let the_pair = put-found _ _ _ _ _ _ _ _ _ _ _ _ _ _ c.is_copied.ensures c.if-is_copied.true c.copy_at-r.ensures c.in-Onto.is (number_read _ _ _ _ _ _ c.requires.gathered.work.numbered.numbers c.requires.k_bound c.at.ensures) c.put_point.ensures in record { value = the_pair.0; out_after = the_pair.1 }
+    let the_pair = put-found _ _ _ _ _ _ _ _ _ _ _ _ _ _ c.is_copied.ensures c.if-is_copied.true c.copy_at-r.ensures c.in-Some.is (number_read _ _ _ _ _ _ c.requires.gathered.work.numbered.numbers c.requires.k_bound c.at.ensures) c.put_point.ensures in record { value = the_pair.0; out_after = the_pair.1 }
 
 pub returns : goal.returns
 returns c =

@@ -1,5 +1,4 @@
 use native.Mathlib.Omega.{arith}
-use Prim.Native.Nat.{◌-◌}
 use Rattle.rows_gather.proofs.Lists.{seams-start, seams-turn, seams-end}
 use Rattle.rows_gather.proofs.list_seams.Goals as goal
 
@@ -9,17 +8,8 @@ loop-i-init c = seams-start c.requires
 pub put_seam-next-requires : goal.put_seam-next-requires
 put_seam-next-requires c = record { seaming = c.loop-i.invariant.here; i_bound = c.loop-i-test.true }
 
-pub overflow_add-i : goal.overflow_add-i
-overflow_add-i c = omega arith
-
-pub loop-i-smaller : goal.loop-i-smaller
-loop-i-smaller c = omega arith
-
 pub loop-i-preserved : goal.loop-i-preserved
-loop-i-preserved c = seams-turn c.loop-i.invariant c.loop-i-test.true (c.put_seam-next.ensures.seaming_2, c.put_seam-next.ensures.kept)
-
-pub shape_of-w : goal.shape_of-w
-shape_of-w c = c.loop-i.invariant.kept.len
+loop-i-preserved c = seams-turn c.loop-i.invariant (c.put_seam-next.ensures.seaming_2, c.put_seam-next.ensures.kept)
 
 pub returns : goal.returns
 returns c =

@@ -1,31 +1,9 @@
-use native.Mathlib.Omega.{arith}
-use mathlib.Core.Path.{refl}
-use Prim.Native.Nat.{◌-◌}
-use Rattle.lists.proofs.Laws.{filled-start, filled-turn, tab-take}
-use Rattle.sheet.proofs.Fronts.{front-filled}
+-- `rows_quads::copy_labels` meets its contract. Assumes nothing.
+use lib.Seq.{length-take-le}
+use Rattle.refine.proofs.Loops.{front-copied}
+use Rattle.rows_quads.proofs.Strips.{front-take}
 use Rattle.rows_quads.proofs.copy_labels.Goals as goal
-
-pub loop-i-init : goal.loop-i-init
-loop-i-init c = filled-start _ _ _ c.requires.nq_in_bounds_2
-
-pub bounds-labels-i : goal.bounds-labels-i
-bounds-labels-i c = omega (arith, c.requires.nq_in_bounds)
-
-pub bounds-out-i : goal.bounds-out-i
-bounds-out-i c = omega (arith, c.requires.nq_in_bounds_2, c.loop-i.invariant.len)
-
-pub overflow_add-i : goal.overflow_add-i
-overflow_add-i c = omega arith
-
-pub loop-i-smaller : goal.loop-i-smaller
-loop-i-smaller c = omega arith
-
-pub loop-i-preserved : goal.loop-i-preserved
-loop-i-preserved c = filled-turn _ c.loop-i.invariant c.loop-i-test.true refl
-
-pub shape_of-out : goal.shape_of-out
-shape_of-out c = c.loop-i.invariant.len
 
 pub returns : goal.returns
 returns c =
-    rw (← tab-take _ _ c.requires.nq_in_bounds) (front-filled c.loop-i.invariant (omega arith))
+    front-copied _ (front-take _ _ c.requires.nq_in_bounds) (length-take-le _ _ c.requires.nq_in_bounds) c.copy_from_slice.ensures.after

@@ -1,5 +1,4 @@
 use native.Mathlib.Omega.{arith}
-use Prim.Native.Nat.{◌-◌}
 use Rattle.lists.proofs.Laws.{filled-start, filled-turn}
 use Rattle.sheet.proofs.Fronts.{front-filled}
 use Rattle.rows_quads.proofs.put_copied.Goals as goal
@@ -10,20 +9,8 @@ loop-c-init c = filled-start _ _ _ c.requires.nq_in_bounds
 pub corner_for-requires : goal.corner_for-requires
 corner_for-requires c = record { gathered = c.requires.gathered; c_bound = c.loop-c-test.true }
 
-pub bounds-out-c : goal.bounds-out-c
-bounds-out-c c = omega (arith, c.requires.nq_in_bounds, c.loop-c.invariant.len)
-
-pub overflow_add-c : goal.overflow_add-c
-overflow_add-c c = omega arith
-
-pub loop-c-smaller : goal.loop-c-smaller
-loop-c-smaller c = omega arith
-
 pub loop-c-preserved : goal.loop-c-preserved
 loop-c-preserved c = filled-turn _ c.loop-c.invariant c.loop-c-test.true c.corner_for.ensures
-
-pub shape_of-out : goal.shape_of-out
-shape_of-out c = c.loop-c.invariant.len
 
 pub returns : goal.returns
 returns c = front-filled c.loop-c.invariant (omega arith)

@@ -1,6 +1,6 @@
 use native.Mathlib.Omega.{arith}
 use mathlib.Core.Path.{ap}
-use Prim.Native.Nat.{ℕ, ◌-◌, ◌/◌}
+use Prim.Native.Nat.{ℕ, ◌/◌}
 use lib.ListN.{get_or}
 use Rattle.lists.proofs.Laws.{filled-start, filled-turn}
 use Rattle.sheet.proofs.Fronts.{front-filled}
@@ -8,37 +8,16 @@ use Rattle.rows_gather.specs.Steps.{seams_of, corner_label}
 use Rattle.rows_quads.proofs.Strips.{seam-read, seam-low, map-own}
 use Rattle.rows_quads.proofs.put_strip_labels.Goals as goal
 
-pub overflow_add-at : goal.overflow_add-at
-overflow_add-at c = omega arith
-
 pub loop-t-init : goal.loop-t-init
 loop-t-init c = filled-start _ _ _ c.requires.m_in_bounds
-
-pub overflow_add-at-in-loop-t : goal.overflow_add-at-in-loop-t
-overflow_add-at-in-loop-t c = omega (arith, c.requires.gathered.work.seams.fits, c.requires.m_value)
-
-pub at-requires : goal.at-requires
-at-requires c = omega (arith, c.requires.gathered.work.seams.fits, c.requires.m_value)
 
 pub bounds-labels-at : goal.bounds-labels-at
 bounds-labels-at c =
     let h = seam-low c.requires.gathered _ _ (omega (arith, c.requires.m_value, c.loop-t-test.true)) c.at.ensures in omega (arith, c.requires.gathered.sheet.labelled)
 
-pub bounds-out-t : goal.bounds-out-t
-bounds-out-t c = omega (arith, c.requires.m_in_bounds, c.loop-t.invariant.len)
-
-pub overflow_add-t : goal.overflow_add-t
-overflow_add-t c = omega arith
-
-pub loop-t-smaller : goal.loop-t-smaller
-loop-t-smaller c = omega arith
-
 pub loop-t-preserved : goal.loop-t-preserved
 loop-t-preserved c =
     filled-turn _ c.loop-t.invariant c.loop-t-test.true (ap (λ (x : ℕ). get_or c.args.labels.now (x / 4) 0) (seam-read c.requires.gathered _ _ (omega (arith, c.requires.m_value, c.loop-t-test.true)) c.at.ensures))
-
-pub shape_of-out : goal.shape_of-out
-shape_of-out c = c.loop-t.invariant.len
 
 pub returns : goal.returns
 returns c =

@@ -3,4 +3,4 @@ use Rattle.sheet.proofs.Results.{behind}
 use Rattle.sheet.proofs.clear_behind.Goals as goal
 
 pub returns : goal.returns
-returns c = behind _ _ _ _ c.requires c.clear.ensures
+returns g c = behind _ _ _ _ c.requires c.clear.ensures

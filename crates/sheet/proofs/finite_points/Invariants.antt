@@ -1,13 +1,9 @@
 -- `sheet::finite_points` meets its contract. Assumes nothing.
 use mathlib.Core.Path.{◌≡◌}
 use mathlib.Core.Bool.{true}
-use Prim.Native.Nat.{◌≤◌, ◌-◌}
 use Rattle.sheet.specs.Sheet.{finite_at}
 use Rattle.lists.specs.Every.{every}
 use Rattle.sheet.proofs.finite_points.Given as goal
 
 abbrev pub invariant-loop-v : goal.invariant-loop-v
-invariant-loop-v l = (l.v ≤ l.n) × (every (finite_at l.points) l.v ≡ true)
-
-abbrev pub decreases-loop-v : goal.decreases-loop-v
-decreases-loop-v l = l.n - l.v
+invariant-loop-v l = every (finite_at l.points) l.v ≡ true

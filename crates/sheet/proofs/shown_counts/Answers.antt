@@ -3,10 +3,10 @@ use Rattle.rule_sheet.specs.Results.{shown_counts}
 use borrow.Author.Rules.{rules}
 use Rattle.sheet.proofs.shown_counts.Goals as goal
 
-pub returns-in-Done : goal.returns-in-Done
+pub returns-in-Ok : goal.returns-in-Ok
 unfolding shown_counts
-returns-in-Done c = search rules
+returns-in-Ok c = search rules
 
-pub returns-in-Refused : goal.returns-in-Refused
+pub returns-in-Err : goal.returns-in-Err
 unfolding shown_counts
-returns-in-Refused c = rw c.in-Refused.is
+returns-in-Err c = rw c.in-Err.is

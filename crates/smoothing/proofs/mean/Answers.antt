@@ -5,4 +5,4 @@ use Rattle.smoothing.proofs.mean.Goals as goal
 
 pub returns : goal.returns
 unfolding reciprocal_of
-returns c = rw (mean-by, c.shared_by.ensures, c.float.ensures)
+returns c = rw (mean-by, c.mul.ensures, c.float.ensures)

@@ -1,10 +1,6 @@
 -- `subdivide::project_points` meets its contract. Assumes nothing.
-use Prim.Native.Nat.{◌-◌}
 use Rattle.subdivide.proofs.Landing.{Landed}
 use Rattle.subdivide.proofs.project_points.Given as goal
 
 abbrev pub invariant-loop-v : goal.invariant-loop-v
 invariant-loop-v l = Landed l.b l.initial.points l.masks l.n l.points l.v
-
-abbrev pub decreases-loop-v : goal.decreases-loop-v
-decreases-loop-v l = l.n - l.v

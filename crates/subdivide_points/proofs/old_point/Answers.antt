@@ -8,12 +8,12 @@ returns-then-ones-gt2 c = old-stays _ _ _ _ _ _ _ _ _ _ c.ones.ensures c.if-ones
 
 pub creases_at-c-requires : goal.creases_at-c-requires
 creases_at-c-requires c =
-    record { nq_in_bounds = c.requires.gathered.labelled; nq_in_bounds_2 = c.requires.gathered.listed.ends.sheet.quads; below = c.requires.gathered.order; below_2 = c.span_at-s.ensures.below; m_bound = omega (arith, c.span_at-s.ensures.few, c.requires.gathered.listed.ends.sheet.few) }
+    record { nq_in_bounds = c.requires.gathered.labelled; nq_in_bounds_2 = c.requires.gathered.listed.ends.sheet.quads; below = c.requires.gathered.order; low = c.span_at-s.ensures.low }
 
 pub moved_by-requires : goal.moved_by-requires
 moved_by-requires c =
     let l = creases-low _ _ _ _ _ c.requires.gathered.listed.ends.sheet.points (omega (arith, c.requires.v_lt_np)) _ c.span_at-s.ensures c.creases_at-c.ensures in
-    record { first_lt_np = l.0; second_lt_np = l.1; np_in_bounds = c.requires.gathered.points; listed = c.requires.gathered.listed; v_lt_np = c.requires.v_lt_np }
+    record { lead = l; np_in_bounds = c.requires.gathered.points; listed = c.requires.gathered.listed; v_lt_np = c.requires.v_lt_np }
 
 pub returns : goal.returns
 returns c =

@@ -1,8 +1,6 @@
 use native.Mathlib.Omega.{arith}
-use Prim.Native.Nat.{◌-◌}
 use Rattle.lists.proofs.Laws.{filled-start, filled-turn}
 use Rattle.sheet.proofs.Fronts.{front-filled}
-use Rattle.subdivide_points.specs.Steps.{end_at}
 use Rattle.subdivide_points.proofs.put_ends.Goals as goal
 
 pub loop-i-init : goal.loop-i-init
@@ -12,20 +10,8 @@ pub end_at-requires : goal.end_at-requires
 end_at-requires c =
     record { nq_in_bounds = c.requires.nq_in_bounds; below = c.requires.below; i_bound = c.loop-i-test.true }
 
-pub bounds-ends-i : goal.bounds-ends-i
-bounds-ends-i c = omega arith
-
-pub overflow_add-i : goal.overflow_add-i
-overflow_add-i c = omega arith
-
-pub loop-i-smaller : goal.loop-i-smaller
-loop-i-smaller c = omega arith
-
 pub loop-i-preserved : goal.loop-i-preserved
 loop-i-preserved c = filled-turn _ c.loop-i.invariant c.loop-i-test.true c.end_at.ensures
-
-pub shape_of-ends : goal.shape_of-ends
-shape_of-ends c = c.loop-i.invariant.len
 
 pub returns : goal.returns
 returns c = front-filled c.loop-i.invariant (omega arith)

@@ -1,33 +1,13 @@
-use native.Mathlib.Omega.{arith}
-use Prim.Native.Nat.{◌-◌}
-use Rattle.sheet.proofs.Tests.{length-points}
-use Rattle.refine.proofs.Loops.{points-start, points-turn, points-end}
-use Rattle.subdivide_points.proofs.Turns.{placing-same}
+-- `subdivide_points::put_places` meets its contract. Assumes nothing.
+use Rattle.std.proofs.Common.{rules, ◌*◌}
+use Rattle.lists.specs.Regions.{part}
+use Rattle.rule_sheet.specs.Sheet.{points_of}
 use Rattle.sheet.proofs.Fronts.{front-points}
+use Rattle.sheet.proofs.Tests.{length-points}
+use Rattle.subdivide_points.specs.Steps.{place_at}
 use Rattle.subdivide_points.proofs.put_places.Goals as goal
 
-pub loop-t-init : goal.loop-t-init
-loop-t-init c = points-start _ _ _ _ _ (length-points _ _) (front-points _ _ c.requires.np_in_bounds)
-
-pub overflow_mul-nq : goal.overflow_mul-nq
-overflow_mul-nq c = omega (arith, c.requires.placing.writing.held.cornered.few)
-
-pub put_place-requires : goal.put_place-requires
-put_place-requires c =
-    record { placing = placing-same c.requires.placing c.loop-t.invariant.len; t_bound = c.loop-t-test.true }
-
-pub overflow_add-t : goal.overflow_add-t
-overflow_add-t c = omega (arith, c.requires.placing.writing.held.cornered.few)
-
-pub loop-t-smaller : goal.loop-t-smaller
-loop-t-smaller c = omega arith
-
-pub loop-t-preserved : goal.loop-t-preserved
-loop-t-preserved c =
-    points-turn c.loop-t.invariant _ _ c.loop-t-test.true c.requires.numbered (c.requires.placing.writing.rooms _ c.loop-t-test.true) c.put_place.ensures
-
-pub shape_of-out : goal.shape_of-out
-shape_of-out c = c.loop-t.invariant.len
-
 pub returns : goal.returns
-returns c = points-end c.loop-t.invariant (omega arith)
+returns c =
+    c.put_new.ensures (points_of c.args.np c.args.out.now) (place_at c.args.points.now c.args.quads.now c.args.labels.now (part c.args.second (4 * c.args.nq) c.args.w.now)) (length-points _ _)
+    (front-points _ _ c.requires.np_in_bounds) (λ k p h o e. search rules)

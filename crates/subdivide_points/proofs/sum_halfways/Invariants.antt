@@ -1,11 +1,9 @@
 -- `subdivide_points::sum_halfways` meets its contract. Assumes nothing.
-use Prim.Native.Nat.{◌-◌}
+use Rattle.std.proofs.Common.{◌≡◌, map, take}
+use Rattle.smoothing.specs.Smooth.{sum_of}
+use Rattle.smoothing.specs.Rounded.{pointwise}
 use Rattle.subdivide_points.specs.Steps.{halfway_to}
-use Rattle.subdivide_points.proofs.Sums.{Sum}
 use Rattle.subdivide_points.proofs.sum_halfways.Given as goal
 
-abbrev pub invariant-loop-j : goal.invariant-loop-j
-invariant-loop-j l = Sum (halfway_to l.p l.points l.ends) l.from l.m l.w l.sum l.j
-
-abbrev pub decreases-loop-j : goal.decreases-loop-j
-decreases-loop-j l = l.m - l.j
+abbrev pub invariant-loop-i : goal.invariant-loop-i
+invariant-loop-i l = l.sum ≡ sum_of pointwise (map (halfway_to l.p l.points l.ends) (take l.i-index l.places))

@@ -1,11 +1,16 @@
 -- `subdivide_points::with_crease` meets its contract. Assumes nothing.
-use Rattle.std.proofs.Common.{ap, not}
-use Rattle.subdivide_points.proofs.CreaseLoop.{crease-not, crease-more}
+use Rattle.std.proofs.Common.{rules}
+use Rattle.subdivide_points.specs.Steps.{with_crease}
 use Rattle.subdivide_points.proofs.with_crease.Goals as goal
 
-pub returns-then-not-test : goal.returns-then-not-test
-returns-then-not-test c = crease-not c.args.test _ c.args.u (ap not c.if-not-test.true)
+pub returns-in-Zero : goal.returns-in-Zero
+unfolding with_crease
+returns-in-Zero c = search rules
 
-pub returns : goal.returns
-returns c =
-    crease-more c.args.test c.args.c c.args.u _ _ (ap not c.if-not-test.false) c.pick-first.ensures c.pick-second.ensures
+pub returns-in-One : goal.returns-in-One
+unfolding with_crease
+returns-in-One c = search rules
+
+pub returns-in-Two : goal.returns-in-Two
+unfolding with_crease
+returns-in-Two c = search rules

@@ -1,7 +1,0 @@
--- `regularize_swap::one_more` meets its contract. Assumes nothing.
-use native.Mathlib.Omega.{arith}
-use Rattle.regularize_swap.proofs.Moves.{changed}
-use Rattle.regularize_swap.proofs.one_more.Goals as goal
-
-pub returns : goal.returns
-returns c = changed c.args.v _ c.requires.change_asks (omega (arith, c.requires.v_bound))
