@@ -38,6 +38,7 @@ use Rattle.rule_job.specs.Files.{Job, sum_of, trailer_of, job_in}
 use Rattle.rule_job.specs.Jobs.{JobRoom, is_short_job, is_other, summed, open_with, save_rule, sum_by}
 use Rattle.rule_exports.specs.Told.{Told, band_of, is_short_told}
 use Rattle.rule_exports.specs.Exports.{is_short_answer}
+use Rattle.rule_exports.proofs.Refusals.{number-tells}
 use Rattle.band_exact.specs.Exact.{OfDrawing, DrawingNumbers, NeverBottomless, NeverShown}
 use Rattle.std.specs.Prelude.{Err, Some, None, Option}
 use Rattle.rule_job.specs.declared.Trailer.{Trailer}
@@ -217,6 +218,7 @@ short-told t = either_number Other (is_short_told t) (refused Other Short (λ e.
 
 pub never-shown : NeverShown
 never-shown = record {
+  number = λ n e. number-tells n Bottomless e;
   answered = λ c l o p. never (after-refusal Other (before-number Other sheet-numbers c (is_short_answer l)) (other-refusal o p));
   told = λ c few t rule p.
       let s = setting_of (band_of t) in

@@ -24,6 +24,7 @@ use Rattle.rule_exports.specs.Told.{Told, by_told, drawn_by_told}
 use Rattle.rule_exports.specs.Exports.{with_answer}
 use Rattle.rule_sheet.specs.declared.Refusal.TheVariants.{Box, Bottomless, Cells, Samples, Bare, Clash, Short}
 use Rattle.rule_sheet.specs.declared.Refusal.{Refusal}
+use Rattle.rule_sheet.specs.Numbers.{refusal_number}
 use Rattle.rule_sheet.specs.Verdicts.{Accepted}
 
 -- ---- the two tests of a band
@@ -112,8 +113,9 @@ pub record NeverBottomless : Type 0 where
   pub sum : (F : List ℕ) (too_short : Bool) → sum_rule F too_short ≢ refuses Bottomless
 
 -- nor does an export: what it tests in front of an operation, with and without a band and in a drawing, refuses with
--- other numbers
+-- other numbers; and 2 is the number of no other refusal
 pub record NeverShown : Type 1 where
+  pub number : (n : Refusal) → refusal_number n ≡ 2 → n ≡ Bottomless
   pub answered : {A : Type 0} (c : Counts) (l : List ℕ) (o : Outcome A)
       → o ≢ refuses Bottomless → with_answer c l o ≢ refuses Bottomless
   pub told : {A : Type 0} (c : Counts) (few : Bool) (t : Told) (rule : Setting → Outcome A)

@@ -14,7 +14,7 @@ use Rattle.lists.proofs.Laws.{get_or-tab, is-tab}
 use Rattle.lists.proofs.Regions.{part_of, part-len, part-get, part-set, part-set-out, part-as, part-kept, kept_set, kept_refl, kept_then, kept_less}
 use Rattle.rule_sheet.specs.Flat.{corner}
 use Rattle.sheet.specs.Edges.{point_corners}
-use Rattle.std.specs.declared.ops.Range.{Range}
+use Rattle.coarsen_merge.specs.declared.Span.{Span}
 use Rattle.coarsen_merge.specs.Steps.{unmarked, free_around}
 use Rattle.coarsen_bars.specs.Steps.{marked_by, marked_in, reaches, marked_to, joins, marked_near, renamed_quads, marked_both}
 use Rattle.pass_map.specs.Regions.{was_at, points_at, was_in}
@@ -175,12 +175,12 @@ pub record Rounding (at : ℕ) (keeps : ℕ → Type 0) (np nq x from to : ℕ) 
   pub marks : Part at np (tabulate (marked_to (point_corners (was_in np nq v) nq x) (was_in np nq v) (part at np v) (i - from)) np) w
   pub kept : Kept keeps v w
 
-rounding-start : {np nq x : ℕ} {s : Range ℕ} {v : List ℕ} (at : ℕ) (keeps : ℕ → Type 0) → StartHolds np nq v → CornersOfLeaves np nq x s v → at + np ≤ length v → Rounding at keeps np nq x s.start s.end v v s.start
+rounding-start : {np nq x : ℕ} {s : Span} {v : List ℕ} (at : ℕ) (keeps : ℕ → Type 0) → StartHolds np nq v → CornersOfLeaves np nq x s v → at + np ≤ length v → Rounding at keeps np nq x s.from s.to v v s.from
 rounding-start {np} {nq} {x} {s} {v} at keeps G S f =
     let P = part_of at np v f in
     let cs = point_corners (was_in np nq v) nq x in
     let l = S.low in
-    let none : s.start - s.start ≡ 0 = omega arith in
+    let none : s.from - s.from ≡ 0 = omega arith in
     record {
       grounds = G;
       from≤ = omega arith;
@@ -235,7 +235,7 @@ rounding-end {at} {keeps} {np} {nq} {x} {from} {to} {v} {w} {i} B h =
 abbrev pub TouchingAround : ℕ → ℕ → ℕ → ℕ → ℕ → List ℕ → List ℕ → ℕ → Type 0
 TouchingAround np nq x from to v w i = Rounding (touched_at np nq) (Out (touched_at np nq) np) np nq x from to v w i
 
-pub touching-start : {np nq x : ℕ} {s : Range ℕ} {v : List ℕ} → StartHolds np nq v → CornersOfLeaves np nq x s v → TouchingAround np nq x s.start s.end v v s.start
+pub touching-start : {np nq x : ℕ} {s : Span} {v : List ℕ} → StartHolds np nq v → CornersOfLeaves np nq x s v → TouchingAround np nq x s.from s.to v v s.from
 touching-start {np} {nq} G S = let r = G.map.work.long in rounding-start (touched_at np nq) (Out (touched_at np nq) np) G S (omega arith)
 
 pub touching-turn : {np nq x from to : ℕ} {v w : List ℕ} {i j : ℕ} (c : ℕ) → StartHolds np nq v → TouchingAround np nq x from to v w i → 0 < to - i → j ≡ i → c ≡ get_or w j 0
@@ -246,7 +246,7 @@ touching-turn c G B h p e = round-turn c (λ i o a b. omega arith) G B h p e
 abbrev pub BarringAround : ℕ → ℕ → ℕ → ℕ → ℕ → List ℕ → List ℕ → ℕ → Type 0
 BarringAround np nq x from to v w i = Rounding (used_at np nq) (Out2 (used_at np nq) np (touched_at np nq) np) np nq x from to v w i × TouchedHolds np nq w
 
-pub around-start : {np nq x : ℕ} {s : Range ℕ} {v : List ℕ} → StartHolds np nq v → TouchedHolds np nq v → CornersOfLeaves np nq x s v → BarringAround np nq x s.start s.end v v s.start
+pub around-start : {np nq x : ℕ} {s : Span} {v : List ℕ} → StartHolds np nq v → TouchedHolds np nq v → CornersOfLeaves np nq x s v → BarringAround np nq x s.from s.to v v s.from
 around-start {np} {nq} G T S = let r = G.map.work.long in (rounding-start (used_at np nq) (Out2 (used_at np nq) np (touched_at np nq) np) G S (omega arith), T)
 
 pub around-turn : {np nq x from to : ℕ} {v w : List ℕ} {i j : ℕ} (c : ℕ) → StartHolds np nq v → BarringAround np nq x from to v w i → 0 < to - i → j ≡ i → c ≡ get_or w j 0

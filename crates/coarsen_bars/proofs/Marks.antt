@@ -24,7 +24,7 @@ use Rattle.coarsen_bars.specs.Steps.{is_at, marked_by, marked_in, reaches, marke
 use Rattle.coarsen_bars.specs.Conditions.{MarkPointsAsks, RenameAsks}
 use Rattle.coarsen_merge.proofs.Corners.{has_one}
 use borrow.Rule.Slice.PartMut.{mid_of}
-use Rattle.std.specs.declared.ops.Range.{Range}
+use Rattle.coarsen_merge.specs.declared.Span.{Span}
 use Rattle.coarsen_merge.specs.Conditions.{StartHolds, CornersOfLeaves}
 use Rattle.pass_map.specs.Regions.{was_in}
 use Rattle.coarsen_merge.proofs.Start.{corners-listed}
@@ -177,10 +177,10 @@ pub naming-end : {cs Q R : List ℕ} {a t : ℕ} → Naming cs Q a R t → t ≡
 naming-end {cs} {Q} {R} {a} {t} N h = rw h at N.is
 
 -- ---- the corners of a point in a slice of quads
-pub nameable-lent : {np nq x : ℕ} {s : Range ℕ} {w : List ℕ} (n : ℕ) → StartHolds np nq w → CornersOfLeaves np nq x s w → 4 * nq ≤ n → RenameAsks (mid_of s.start (s.end - s.start) w) n
+pub nameable-lent : {np nq x : ℕ} {s : Span} {w : List ℕ} (n : ℕ) → StartHolds np nq w → CornersOfLeaves np nq x s w → 4 * nq ≤ n → RenameAsks (mid_of s.from (s.to - s.from) w) n
 nameable-lent {np} {nq} {x} {s} {w} n G S h = rw S.list (record { known = λ i l. let k = (corners-listed x G).known i l in omega arith })
 
-pub renamed-lent : {np nq x : ℕ} {s : Range ℕ} {w : List ℕ} (a : ℕ) (Q R : List ℕ) → CornersOfLeaves np nq x s w
-    → R ≡ tabulate (renamed_at (mid_of s.start (s.end - s.start) w) Q a (length (mid_of s.start (s.end - s.start) w))) (length Q) → R ≡ renamed_quads (was_in np nq w) nq x a Q
+pub renamed-lent : {np nq x : ℕ} {s : Span} {w : List ℕ} (a : ℕ) (Q R : List ℕ) → CornersOfLeaves np nq x s w
+    → R ≡ tabulate (renamed_at (mid_of s.from (s.to - s.from) w) Q a (length (mid_of s.from (s.to - s.from) w))) (length Q) → R ≡ renamed_quads (was_in np nq w) nq x a Q
 unfolding renamed_quads
 renamed-lent {np} {nq} {x} {s} {w} a Q R S h = rw S.list at h

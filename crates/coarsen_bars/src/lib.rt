@@ -54,7 +54,7 @@ fn touch_around(np: usize, nq: usize, x: usize, w: &mut [u32])
         w.new }
     ensures kept { Kept (Out (touched_at np nq) np) w.old w.new }
 {
-    for i in coarsen_merge::corners_of(np, nq, x, w) {
+    for i in coarsen_merge::corners_of(np, nq, x, w).range() {
         touch_quad(np, nq, lists::at(w, i) / 4, w);
     }
 }
@@ -99,7 +99,7 @@ fn bar_around(np: usize, nq: usize, v: usize, w: &mut [u32])
         (tabulate (marked_near (was_in np nq w.old) (used_in np nq w.old) nq v) np)
         w.old w.new }
 {
-    for i in coarsen_merge::corners_of(np, nq, v, w) {
+    for i in coarsen_merge::corners_of(np, nq, v, w).range() {
         bar_quad(np, nq, lists::at(w, i) / 4, w);
     }
 }
@@ -124,7 +124,8 @@ fn rename(np: usize, nq: usize, c: usize, a: usize, quads: &mut [u32], w: &[u32]
     requires nq_in_bounds { 4 * nq ≤ length quads.old }
     ensures { quads.new ≡ renamed_quads (was_in np nq w.now) nq c a quads.old }
 {
-    rename_corners(&w[coarsen_merge::corners_of(np, nq, c, w)], a as u32, quads);
+    let corners = coarsen_merge::corners_of(np, nq, c, w).range();
+    rename_corners(&w[corners], a as u32, quads);
 }
 
 // The merge of the corners a and c of quad f at the point p.

@@ -132,7 +132,7 @@ pub fn compact(
     lists::clear(&mut w[numbers..numbers + np]);
     let used = number_corners(np, m, points, quads, numbers, w, floats);
     let end = 3 * used;
-    points[..end].copy_from_slice(&floats[..end]);
+    lists::copy(&mut points[..end], &floats[..end]);
     Counts {
         points: used,
         quads: kept,

@@ -20,7 +20,7 @@ use Rattle.incidence.specs.Marks.{Incident}
 use Rattle.incidence.proofs.Marks.{Around, around}
 use Rattle.pass_map.proofs.Maps.{map-kept, was-kept}
 use Rattle.rule_coarsen.specs.Coarse.{near_free}
-use Rattle.std.specs.declared.ops.Range.{Range}
+use Rattle.coarsen_merge.specs.declared.Span.{Span}
 use Rattle.coarsen_merge.specs.declared.Sums.{Sums}
 use Rattle.coarsen_masks.specs.Masks.{masks_joined}
 use Rattle.coarsen_merge.specs.Steps.{not_further, shares_at, shares_none, free_around, none_further, shared_only, used_of, no_labels, meet_only, gain_of, worth_it}
@@ -47,7 +47,7 @@ pub corners-around : {np nq : ℕ} {w : List ℕ} (v : ℕ) → StartHolds np nq
 corners-around v G h = around (incident G) h
 
 pub spanned : {np nq : ℕ} {w : List ℕ} (v a b : ℕ) → StartHolds np nq w → v < np → a ≡ get_or w (point_starts_at np nq + v) 0 → b ≡ get_or w (point_starts_at np nq + v + 1) 0
-    → CornersOfLeaves np nq v (record { start = points_at np nq + a; end = points_at np nq + b }) w
+    → CornersOfLeaves np nq v (record { from = points_at np nq + a; to = points_at np nq + b }) w
 spanned {np} {nq} {w} v a b G h p q =
     let A = corners-around v G h in
     let l : a ≤ b = omega (arith, A.s≤) in
@@ -81,23 +81,23 @@ lent-used np nq w = rw (gap (used_at np nq) np) refl
 pub used-length : {np nq : ℕ} {w : List ℕ} → StartHolds np nq w → length (used_in np nq w) ≡ np
 used-length {np} {nq} {w} G = part-len (part_of (used_at np nq) np w (omega (arith, G.map.work.long)))
 
-pub listed-lent : {np nq v : ℕ} {s : Range ℕ} {w : List ℕ} → StartHolds np nq w → CornersOfLeaves np nq v s w → ListAsks np nq (mid_of s.start (s.end - s.start) w) (mid_of (was_at np nq) (was_at np nq + 4 * nq - was_at np nq) w)
+pub listed-lent : {np nq v : ℕ} {s : Span} {w : List ℕ} → StartHolds np nq w → CornersOfLeaves np nq v s w → ListAsks np nq (mid_of s.from (s.to - s.from) w) (mid_of (was_at np nq) (was_at np nq + 4 * nq - was_at np nq) w)
 listed-lent {np} {nq} {v} {s} {w} G S = rw (lent-quads np nq w) (rw S.list (corners-listed v G))
 
-pub listed_start : {np nq v : ℕ} {s : Range ℕ} {w : List ℕ} → StartHolds np nq w → CornersOfLeaves np nq v s w → ListAsks np nq (mid_of s.start (s.end - s.start) w) (was_in np nq w)
+pub listed_start : {np nq v : ℕ} {s : Span} {w : List ℕ} → StartHolds np nq w → CornersOfLeaves np nq v s w → ListAsks np nq (mid_of s.from (s.to - s.from) w) (was_in np nq w)
 listed_start {np} {nq} {v} {s} {w} G S = rw S.list (corners-listed v G)
 
 pub length-lent-used : {np nq : ℕ} {w : List ℕ} → StartHolds np nq w → length (mid_of (used_at np nq) (used_at np nq + np - used_at np nq) w) ≡ np
 length-lent-used {np} {nq} {w} G = ap length (lent-used np nq w) ∙ used-length G
 
-pub further-lent : {np nq v : ℕ} {s : Range ℕ} {w : List ℕ} (f u : ℕ) (r : Bool) → CornersOfLeaves np nq v s w
-    → r ≡ every (not_further (mid_of s.start (s.end - s.start) w) (mid_of (was_at np nq) (was_at np nq + 4 * nq - was_at np nq) w) f u) (length (mid_of s.start (s.end - s.start) w))
+pub further-lent : {np nq v : ℕ} {s : Span} {w : List ℕ} (f u : ℕ) (r : Bool) → CornersOfLeaves np nq v s w
+    → r ≡ every (not_further (mid_of s.from (s.to - s.from) w) (mid_of (was_at np nq) (was_at np nq + 4 * nq - was_at np nq) w) f u) (length (mid_of s.from (s.to - s.from) w))
     → r ≡ none_further (was_in np nq w) nq f v u
 unfolding none_further
 further-lent {np} {nq} {v} {s} {w} f u r S h = rw (lent-quads np nq w, S.list) at h
 
-pub shared-lent : {np nq v : ℕ} {s : Range ℕ} {w : List ℕ} (b d u : ℕ) (r : Bool) → CornersOfLeaves np nq v s w
-    → r ≡ every (shares_none (mid_of s.start (s.end - s.start) w) (was_in np nq w) (start_in np nq w) b d u) (length (mid_of s.start (s.end - s.start) w))
+pub shared-lent : {np nq v : ℕ} {s : Span} {w : List ℕ} (b d u : ℕ) (r : Bool) → CornersOfLeaves np nq v s w
+    → r ≡ every (shares_none (mid_of s.from (s.to - s.from) w) (was_in np nq w) (start_in np nq w) b d u) (length (mid_of s.from (s.to - s.from) w))
     → r ≡ shared_only (was_in np nq w) nq v b u d
 unfolding shared_only
 shared-lent {np} {nq} {v} {s} {w} b d u r S h = rw S.list at h

@@ -8,7 +8,7 @@ use Rattle.sheet.specs.Sheet.{masks_of}
 use Rattle.incidence.specs.Corners.{Cornered}
 use Rattle.pass_map.specs.Regions.{points_at, valences_at, was_in, start_in}
 use Rattle.pass_map.specs.Conditions.{MapHolds}
-use Rattle.std.specs.declared.ops.Range.{Range}
+use Rattle.coarsen_merge.specs.declared.Span.{Span}
 use Rattle.coarsen_merge.specs.Regions.{used_in, touched_in}
 use Rattle.coarsen_merge.specs.Steps.{unmarked, free_around}
 
@@ -31,12 +31,12 @@ pub record ListAsks (np nq : ℕ) (cs Q : List ℕ) : Type 0 where
   pub known : (t : ℕ) → t < length cs → get_or cs t 0 < 4 * nq
 
 -- the span s of w has the corners of the point v at the start
-pub record CornersOfLeaves (np nq v : ℕ) (s : Range ℕ) (w : List ℕ) : Type 0 where
-  pub begin : points_at np nq ≤ s.start
-  pub low : s.start ≤ s.end
-  pub end : s.end ≤ points_at np nq + 4 * nq
-  pub high : s.end ≤ length w
-  pub list : part s.start (s.end - s.start) w ≡ point_corners (was_in np nq w) nq v
+pub record CornersOfLeaves (np nq v : ℕ) (s : Span) (w : List ℕ) : Type 0 where
+  pub begin : points_at np nq ≤ s.from
+  pub low : s.from ≤ s.to
+  pub end : s.to ≤ points_at np nq + 4 * nq
+  pub high : s.to ≤ length w
+  pub list : part s.from (s.to - s.from) w ≡ point_corners (was_in np nq w) nq v
 
 -- the corners of a tried quad are points, each with a quad
 pub record FaceAsks (np nq a b c d : ℕ) (w : List ℕ) : Type 0 where

@@ -29,6 +29,22 @@ pub const TOUCHED: usize = 25;
 
 pub const ENDED: usize = 26;
 
+// A part of the work slice, from one place to another.
+#[derive(Clone, Copy)]
+pub struct Span {
+    pub from: usize,
+    pub to: usize,
+}
+
+impl Span {
+    // The places of the part.
+    pub fn range(self) -> Range<usize>
+        ensures { result ≡ record { start = self.from; end = self.to } }
+    {
+        self.from..self.to
+    }
+}
+
 // The sums over the corners of a quad before a merge and after it.
 #[derive(Clone, Copy)]
 pub struct Sums {
@@ -123,7 +139,7 @@ fn none_further(np: usize, nq: usize, cs: &[u32], quads: &[u32], f: usize, v: us
 // ---- the corners of a point
 
 // Where the corners of point v stand.
-pub fn corners_of(np: usize, nq: usize, v: usize, w: &[u32]) -> Range<usize>
+pub fn corners_of(np: usize, nq: usize, v: usize, w: &[u32]) -> Span
     requires start_holds { StartHolds np nq w.now }
     requires v_lt_np { v < np }
     ensures { CornersOfLeaves np nq v result w.now }
@@ -131,9 +147,9 @@ pub fn corners_of(np: usize, nq: usize, v: usize, w: &[u32]) -> Range<usize>
     let n = np + nq;
     let starts = pass_map::POINT_STARTS * n;
     let order = pass_map::POINTS * n;
-    let start = order + lists::at(w, starts + v);
-    let end = order + lists::at(w, starts + v + 1);
-    start..end
+    let from = order + lists::at(w, starts + v);
+    let to = order + lists::at(w, starts + v + 1);
+    Span { from, to }
 }
 
 // No quad at point v has a barred corner.
@@ -156,7 +172,7 @@ fn no_further(np: usize, nq: usize, f: usize, v: usize, u: usize, w: &[u32]) -> 
     none_further(
         np,
         nq,
-        &w[corners_of(np, nq, v, w)],
+        &w[corners_of(np, nq, v, w).range()],
         &w[was..was + 4 * nq],
         f,
         u,
@@ -216,7 +232,7 @@ fn share_only(np: usize, nq: usize, v: usize, b: usize, u: usize, d: usize, w: &
     requires u_lt_np { u < np }
     ensures { result ≡ shared_only (was_in np nq w.now) nq v b u d }
 {
-    none_shared(np, nq, &w[corners_of(np, nq, v, w)], b, d, u, w)
+    none_shared(np, nq, &w[corners_of(np, nq, v, w).range()], b, d, u, w)
 }
 
 // How many quads point v has.

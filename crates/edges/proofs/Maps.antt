@@ -322,7 +322,7 @@ rising {np} {nq} {was} {starts} {order} {s} {e} {w} a M h fs fe =
     }
 
 -- the other way round
-edge-turned : (nq : ℕ) (Q : List ℕ) (u v : ℕ) → is_edge (quads_of nq Q) u v ≡ is_edge (quads_of nq Q) v u
+pub edge-turned : (nq : ℕ) (Q : List ℕ) (u v : ℕ) → is_edge (quads_of nq Q) u v ≡ is_edge (quads_of nq Q) v u
 edge-turned nq Q u v =
     let e : side (quads_of nq Q) u v + side (quads_of nq Q) v u ≡ side (quads_of nq Q) v u + side (quads_of nq Q) u v = omega arith in
     ap (λ (n : ℕ). ltb 0 n) e

@@ -51,7 +51,7 @@ pub fn copy_quads(nq: usize, quads: &[u32], was: usize, w: &mut [u32])
     ensures part { Part was (4 * nq) (take (4 * nq) quads.now) w.new }
     ensures kept { Kept (Out was (4 * nq)) w.old w.new }
 {
-    w[was..was + 4 * nq].copy_from_slice(&quads[..4 * nq]);
+    lists::copy(&mut w[was..was + 4 * nq], &quads[..4 * nq]);
 }
 
 // The corners of nq quads by ascending (smaller, larger) point of their edges in the region at order, and where those

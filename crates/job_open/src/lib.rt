@@ -126,7 +126,7 @@ fn get_job(
     encoding::get_all(file, 0, header, job_save::HEADER);
     encoding::get_all(file, job_save::HEAD, points, 3 * c.points);
     encoding::get_all(file, q, quads, 4 * c.quads);
-    labels[..c.labels].copy_from_slice(&file[l..l + c.labels]);
+    lists::copy(&mut labels[..c.labels], &file[l..l + c.labels]);
 }
 
 // Sets every element of the slices of a job to 0.

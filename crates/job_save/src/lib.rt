@@ -85,7 +85,7 @@ fn put_job(
     encoding::put_all(file, 0, header, HEADER);
     encoding::put_all(file, HEAD, points, 3 * c.points);
     encoding::put_all(file, q, quads, 4 * c.quads);
-    file[l..l + c.labels].copy_from_slice(&labels[..c.labels]);
+    lists::copy(&mut file[l..l + c.labels], &labels[..c.labels]);
     put_trailer(c, sum, file);
 }
 

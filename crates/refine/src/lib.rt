@@ -161,7 +161,9 @@ pub fn copy_points(n: usize, points: &[f64], out: &mut [f64])
     requires n_in_bounds_2 { 3 * n ≤ length out.old }
     ensures { Front (flat_points (points_of n points.now)) out.new }
 {
-    out[..3 * n].copy_from_slice(&points[..3 * n]);
+    for v in 0..n {
+        points::put_point(out, v, points::point_at(points, v));
+    }
 }
 
 // Puts the new points behind n points: for each of m requests that is the first of its key, the point that place

@@ -48,9 +48,9 @@ fn may_take(
         np,
         points,
         h,
-        k,
+        k.number(),
         held,
-        regularize_swap::gains(np, nq, h, k, w),
+        regularize_swap::gains(np, nq, h, k.number(), w),
     )
 }
 
@@ -105,8 +105,8 @@ fn choice(
     ensures { result ≡ pick_of (start_in np nq w.now) (take nq labels.now) t.least
         (fits_in t np nq points.now labels.now) (quads_of nq quads.now) i j (hex_of h) }
 {
-    let first = regularize_swap::is_open(np, nq, t.least, h, Diagonal::First, w);
-    let second = regularize_swap::is_open(np, nq, t.least, h, Diagonal::Second, w);
+    let first = regularize_swap::is_open(np, nq, t.least, h, Diagonal::First.number(), w);
+    let second = regularize_swap::is_open(np, nq, t.least, h, Diagonal::Second.number(), w);
     if !(first | second) {
         return None;
     }
@@ -167,7 +167,7 @@ fn try_pair(
         return count;
     };
     let h = regularize_swap::six_at(quads, c, d);
-    regularize_swap::make_swap(np, nq, k, h, c / 4, d / 4, quads, w);
+    regularize_swap::make_swap(np, nq, k.number(), h, c / 4, d / 4, quads, w);
     count + 1
 }
 

@@ -1,8 +1,9 @@
 -- The test of a diagonal, from what is held for both, is the swaps' rule. Assumes nothing.
 use Prim.Native.Nat.{ℕ, ◌<◌}
-use mathlib.Core.Bool.{Bool}
+use mathlib.Core.Bool.{Bool, true, false, cond}
 use mathlib.Core.Path.{◌≡◌, refl}
 use mathlib.Core.List.{List}
+use lib.Dec.{eqb}
 use lib.ListN.{get_or}
 use lib.Ieee.{Float}
 use Rattle.points.specs.declared.Point.{Point}
@@ -23,7 +24,7 @@ use Rattle.pass_shapes.specs.Shaped.{quad_is, four_at, FourBelow}
 use Rattle.rule_regularize.specs.SwapFits.{hex_centre, lesser_shape, held_of, next_shape, next_fits, fits_with}
 use Rattle.regularize_shapes.specs.declared.Diagonal.{Diagonal}
 use Rattle.regularize_shapes.specs.declared.Diagonal.TheVariants.{First, Second}
-use Rattle.regularize_shapes.specs.SwapFits.{hex_of, number_of, turned, SixBelow}
+use Rattle.regularize_shapes.specs.SwapFits.{hex_of, number_of, diagonal_of, turned, SixBelow}
 use Rattle.pass_shapes.proofs.Shaped.{point-there, four_below, Agree, shape_same}
 
 -- what is held, from the calls that make it
@@ -45,6 +46,22 @@ pub shape-turned : (at : ℕ → Point) (h : Six) (k : Diagonal) (n : Point) (g 
 unfolding next_shape
 shape-turned at h First n g e = rw e refl
 shape-turned at h Second n g e = rw e refl
+
+-- ---- a diagonal by its number
+
+-- the number of a diagonal names it
+pub named-by : (k : Diagonal) → diagonal_of (number_of k) ≡ k
+named-by First = refl
+named-by Second = refl
+
+-- a number has the shape of the diagonal that it names
+pub shape-named : (at : ℕ → Point) (h : Hex) (k : ℕ) (n : Point) → next_shape at h (number_of (diagonal_of k)) n ≡ next_shape at h k n
+unfolding next_shape
+shape-named at h k n = go (eqb k 1) _ _
+  where
+    go : (b : Bool) (x y : Float) → cond (eqb (number_of (cond b First Second)) 1) x y ≡ cond b x y
+    go true x y = refl
+    go false x y = refl
 
 -- ---- two ways to place the points, which agree on those below np
 

@@ -1,5 +1,5 @@
 -- What the functions on swaps are handed.
-use Rattle.std.specs.Prelude.{ℕ, ◌<◌}
+use Rattle.std.specs.Prelude.{ℕ, ◌<◌, eqb, cond}
 use Rattle.rule_regularize.specs.Swaps.{Hex, hex}
 use Rattle.regularize_shapes.specs.declared.Diagonal.{Diagonal}
 use Rattle.regularize_shapes.specs.declared.Diagonal.TheVariants.{First, Second}
@@ -15,6 +15,10 @@ hex_of h = hex h.h0 h.h1 h.h2 h.h3 h.h4 h.h5
 abbrev pub number_of : Diagonal → ℕ
 number_of First = 1
 number_of Second = 2
+
+-- the diagonal that a number names: 1 the first, every other the second
+abbrev pub diagonal_of : ℕ → Diagonal
+diagonal_of k = cond (eqb k 1) First Second
 
 -- the six corners from the beginning of a diagonal on
 abbrev pub turned : Six → Diagonal → Six

@@ -8,7 +8,7 @@ ghost use Rattle.rule_sheet.specs.Flat.{quad_at};
 ghost use Rattle.incidence.specs.Corners.{Positioned};
 ghost use Rattle.pass_shapes.specs.Shaped.{quad_is, FourBelow};
 ghost use Rattle.rule_regularize.specs.SwapFits.{hex_centre, lesser_shape, held_of, next_shape, shape_fits, next_fits};
-ghost use Rattle.regularize_shapes.specs.SwapFits.{hex_of, number_of, turned, SixBelow};
+ghost use Rattle.regularize_shapes.specs.SwapFits.{hex_of, number_of, diagonal_of, turned, SixBelow};
 
 use field::Field;
 use pass_shapes::Four;
@@ -34,6 +34,28 @@ pub struct Six {
 pub enum Diagonal {
     First,
     Second,
+}
+
+impl Diagonal {
+    // The diagonal that a number names: 1 the first, every other the second.
+    pub fn of(k: usize) -> Diagonal
+        ensures { result ≡ diagonal_of k }
+    {
+        if k == 1 {
+            return Diagonal::First;
+        }
+        Diagonal::Second
+    }
+
+    // The number by which the rule calls it.
+    pub fn number(self) -> usize
+        ensures { result ≡ number_of self }
+    {
+        match self {
+            Diagonal::First => 1,
+            Diagonal::Second => 2,
+        }
+    }
 }
 
 // The sum and point v.
@@ -152,14 +174,14 @@ fn shape_fits(next: f64, old: f64, positive: bool) -> bool
     (positive | !(next < old + LEAST_RISE)) & pass_shapes::no_worse(next, old)
 }
 
-// Whether a diagonal fits.
-pub fn next_fits(np: usize, points: &[f64], h: Six, k: Diagonal, held: Held, positive: bool) -> bool
+// Whether diagonal k fits.
+pub fn next_fits(np: usize, points: &[f64], h: Six, k: usize, held: Held, positive: bool) -> bool
     requires np_in_bounds { 3 * np ≤ length points.now }
     requires six_below { SixBelow np h }
-    ensures { result ≡ next_fits (point_at points.now) (hex_of h) (number_of k) held positive }
+    ensures { result ≡ next_fits (point_at points.now) (hex_of h) k held positive }
 {
     shape_fits(
-        next_shape(np, points, h, k, held.normal),
+        next_shape(np, points, h, Diagonal::of(k), held.normal),
         held.old,
         positive,
     )

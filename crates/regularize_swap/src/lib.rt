@@ -13,7 +13,7 @@ ghost use Rattle.incidence.specs.Corners.{Known};
 ghost use Rattle.incidence.specs.Marks.{barred_by};
 ghost use Rattle.incidence.specs.Bounds.{Bounded};
 ghost use Rattle.edges.specs.Steps.{pair_at};
-ghost use Rattle.regularize_shapes.specs.SwapFits.{SixBelow};
+ghost use Rattle.regularize_shapes.specs.SwapFits.{diagonal_of, SixBelow};
 ghost use Rattle.pass_map.specs.Regions.{was_in, edges_in};
 ghost use Rattle.pass_map.specs.Conditions.{WorkFits, MapAsks, MapHolds};
 ghost use Rattle.regularize_swap.specs.Regions.{marks_at, marks_in, free_in, sum_in, edge_corner};
@@ -110,13 +110,13 @@ fn valence_sum(np: usize, nq: usize, u: usize, v: usize, w: &[u32]) -> usize
 }
 
 // The diagonal k is no edge of the pass's start, and half its gain is at least `least`.
-pub fn is_open(np: usize, nq: usize, least: usize, h: Six, k: Diagonal, w: &[u32]) -> bool
+pub fn is_open(np: usize, nq: usize, least: usize, h: Six, k: usize, w: &[u32]) -> bool
     requires map_holds { MapHolds np nq w.now }
     requires six_below { SixBelow np h }
     requires least_bound { least ≤ 1 }
-    ensures { result ≡ open_in np nq least h k w.now }
+    ensures { result ≡ open_in np nq least h (diagonal_of k) w.now }
 {
-    let g = regularize_shapes::turned_by(h, k);
+    let g = regularize_shapes::turned_by(h, Diagonal::of(k));
     let after = valence_sum(np, nq, g.h0, g.h3, w) + 2 + least;
     if valence_sum(np, nq, h.h0, h.h3, w) < after {
         return false;
@@ -125,12 +125,12 @@ pub fn is_open(np: usize, nq: usize, least: usize, h: Six, k: Diagonal, w: &[u32
 }
 
 // The diagonal k gains more than 0.
-pub fn gains(np: usize, nq: usize, h: Six, k: Diagonal, w: &[u32]) -> bool
+pub fn gains(np: usize, nq: usize, h: Six, k: usize, w: &[u32]) -> bool
     requires work_fits { WorkFits np nq w.now }
     requires six_below { SixBelow np h }
-    ensures { result ≡ gains_in np nq h k w.now }
+    ensures { result ≡ gains_in np nq h (diagonal_of k) w.now }
 {
-    let g = regularize_shapes::turned_by(h, k);
+    let g = regularize_shapes::turned_by(h, Diagonal::of(k));
     let after = valence_sum(np, nq, g.h0, g.h3, w) + 2;
     after < valence_sum(np, nq, h.h0, h.h3, w)
 }
@@ -262,7 +262,7 @@ pub fn begin_pass(np: usize, nq: usize, quads: &[u32], w: &mut [u32])
 pub fn make_swap(
     np: usize,
     nq: usize,
-    k: Diagonal,
+    k: usize,
     h: Six,
     i: usize,
     j: usize,
@@ -271,10 +271,10 @@ pub fn make_swap(
 )
     requires swap_pass_holds { SwapPassHolds np nq quads.old w.old }
     requires make_swap_asks { MakeSwapAsks np nq quads.old h i j }
-    ensures { MakeSwapLeaves np nq k h i j quads.old w.old
+    ensures { MakeSwapLeaves np nq (diagonal_of k) h i j quads.old w.old
         quads.new w.new }
 {
-    let g = regularize_shapes::turned_by(h, k);
+    let g = regularize_shapes::turned_by(h, Diagonal::of(k));
     put_pair(quads, i, j, g);
     move_valences(
         np,

@@ -35,7 +35,7 @@ impl Number for f64 {
 }
 
 // The float of 64 bits; every NaN is the same.
-fn float_of(bits: u64) -> f64 {
+pub fn float_of(bits: u64) -> f64 {
     if 0x7ff0_0000_0000_0000 < bits % 0x8000_0000_0000_0000 {
         return 0.0 / 0.0;
     }

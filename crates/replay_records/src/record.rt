@@ -104,6 +104,7 @@ impl Record<'_> {
         requires { place ≤ 40 }
         ensures points_bound { result.points < 2 ^ 32 }
         ensures quads_bound { result.quads < 2 ^ 32 }
+        ensures labels_bound { result.labels < 2 ^ 32 }
     {
         Sizes {
             points: self.at::<u32>(place) as usize,
@@ -121,6 +122,7 @@ impl Record<'_> {
     pub fn made(self) -> Sizes
         ensures points_bound { result.points < 2 ^ 32 }
         ensures quads_bound { result.quads < 2 ^ 32 }
+        ensures labels_bound { result.labels < 2 ^ 32 }
     {
         self.counts_at(40)
     }

@@ -61,7 +61,7 @@ fn copy_labels(nq: usize, labels: &[u8], out: &mut [u8])
     requires nq_in_bounds_2 { nq ≤ length out.old }
     ensures { Front (take nq labels.now) out.new }
 {
-    out[..nq].copy_from_slice(&labels[..nq]);
+    lists::copy(&mut out[..nq], &labels[..nq]);
 }
 
 // Puts the strip at corner c to place i.

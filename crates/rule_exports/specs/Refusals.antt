@@ -1,6 +1,7 @@
 -- The table of document 01, "Numbers a setter may read", with the numbers of document 02, Points 1 and 9: every number
--- that an operation refuses with, and 2, which keeps its place. Not a rule: each stands with the rule that gives it.
--- The law that they differ is in rule_exports/proofs/Refusals.
+-- that an operation refuses with, and 2, which keeps its place. Not a rule: the numbers and the sentences of the words
+-- stand in rule_sheet/specs/Numbers, and each rule cites its words. That the numbers differ, and that the table has
+-- every word, are laws in rule_exports/proofs/Refusals.
 use Rattle.std.specs.Prelude.{List, [], ◌∷◌}
 use Rattle.rule_sheet.specs.declared.Refusal.{Refusal}
 use Rattle.rule_sheet.specs.declared.Refusal.TheVariants.{Box, Bottomless, Cells, Samples, Bare, Corner, Clash, Edge}

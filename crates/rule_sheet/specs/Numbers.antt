@@ -4,7 +4,15 @@ use Rattle.rule_sheet.specs.declared.Refusal.{Refusal}
 use Rattle.rule_sheet.specs.declared.Refusal.TheVariants.{Box, Bottomless, Cells, Samples, Bare, Corner, Clash, Edge}
 use Rattle.rule_sheet.specs.declared.Refusal.TheVariants.{Astray, Row, Normal, Large, Short, Trailer, Sum}
 
--- the number that a setter reads; with 2 no operation refuses since document 02, Point 12
+-- The number that a setter reads, by the words of the table:
+-- 1, box; 2, bottomless, with which no operation refuses since document 02, Point 12; 3, cells: "not 4 to 128";
+-- 4, samples: "a grid sample not finite"; 5, bare; 6, corner; 7, clash: "mask 0 or an opposite pair";
+-- 8, edge: "subdivide, boundary_rows: an edge without exactly two quads";
+-- 9, astray: "subdivide: a point's projection fails"; 10, row: "all twenty steps fail";
+-- 11, normal: "quality: normal not finite or shorter than 0.5";
+-- 12, large: "lent sheet above the limit"; 13, short: "a lent slice holds too little";
+-- 14: "14 trailer, for a file too short for the 64 bytes and a trailer, or any trailer that breaks these rules";
+-- 17: "17 sum, when the sum written is not the sheet's"
 abbrev pub refusal_number : Refusal → ℕ
 refusal_number Box = 1
 refusal_number Bottomless = 2

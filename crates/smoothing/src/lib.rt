@@ -12,7 +12,8 @@ use points::{Point, add, mul};
 pub fn mean(sum: Point, n: usize) -> Point
     ensures { result ≡ mean_of pointwise sum n }
 {
-    mul(sum, 1.0 / numeric::float(n))
+    let count = numeric::float(n);
+    mul(sum, 1.0 / count)
 }
 
 // The new point of the edge from a to b inside one label, f and g being the centres of its quads in quad order.

@@ -4,8 +4,8 @@ use Rattle.coarsen_bars.proofs.bar_around.Goals as goal
 
 pub loop-i-init : goal.loop-i-init
 loop-i-init c =
-    rw c.into_iter-i-iterator.ensures.into_iter_gives
-    (around-start c.requires.start_holds c.requires.touched_holds c.corners_of-i-items.ensures)
+    rw (c.into_iter-i-iterator.ensures.into_iter_gives, c.range-i-items.ensures)
+    (around-start c.requires.start_holds c.requires.touched_holds c.corners_of.ensures)
 
 pub bar_quad-requires-clause-q_lt_nq : goal.bar_quad-requires-clause-q_lt_nq
 bar_quad-requires-clause-q_lt_nq c =

@@ -3,7 +3,9 @@ use Rattle.coarsen_bars.proofs.Bars.{touching-start, touching-turn, rounding-end
 use Rattle.coarsen_bars.proofs.touch_around.Goals as goal
 
 pub loop-i-init : goal.loop-i-init
-loop-i-init c = rw c.into_iter-i-iterator.ensures.into_iter_gives (touching-start c.requires.start_holds c.corners_of-i-items.ensures)
+loop-i-init c =
+    rw (c.into_iter-i-iterator.ensures.into_iter_gives, c.range-i-items.ensures)
+    (touching-start c.requires.start_holds c.corners_of.ensures)
 
 pub touch_quad-requires-clause-q_lt_nq : goal.touch_quad-requires-clause-q_lt_nq
 touch_quad-requires-clause-q_lt_nq c =

@@ -33,25 +33,25 @@ few-points c = let f = few c in omega (arith, c.requires.held)
 few-floats : (c : After-number_corners-used) → 3 * c.number_corners-used.result ≤ length c.number_corners-used.new.floats
 few-floats c = let f = few c in omega (arith, c.requires.floats, c.number_corners-used.auto.floats)
 
-pub slice_bounds-copy_from_slice-end : goal.slice_bounds-copy_from_slice-end
-slice_bounds-copy_from_slice-end c = few-points (goal.at.slice_bounds-copy_from_slice-end c).After-number_corners-used
+pub slice_bounds-copy-end : goal.slice_bounds-copy-end
+slice_bounds-copy-end c = few-points (goal.at.slice_bounds-copy-end c).After-number_corners-used
 
-pub slice_bounds-copy_from_slice-end-2 : goal.slice_bounds-copy_from_slice-end-2
-slice_bounds-copy_from_slice-end-2 c =
-    sym (length-take-le _ _ (few-points (goal.at.slice_bounds-copy_from_slice-end-2 c).After-number_corners-used))
+pub slice_bounds-copy-end-2 : goal.slice_bounds-copy-end-2
+slice_bounds-copy-end-2 c =
+    sym (length-take-le _ _ (few-points (goal.at.slice_bounds-copy-end-2 c).After-number_corners-used))
 
-pub slice_bounds-copy_from_slice-end-3 : goal.slice_bounds-copy_from_slice-end-3
-slice_bounds-copy_from_slice-end-3 c = few-floats (goal.at.slice_bounds-copy_from_slice-end-3 c).After-number_corners-used
+pub slice_bounds-copy-end-3 : goal.slice_bounds-copy-end-3
+slice_bounds-copy-end-3 c = few-floats (goal.at.slice_bounds-copy-end-3 c).After-number_corners-used
 
-pub slice_bounds-copy_from_slice-end-4 : goal.slice_bounds-copy_from_slice-end-4
-slice_bounds-copy_from_slice-end-4 c =
-    sym (length-take-le _ _ (few-floats (goal.at.slice_bounds-copy_from_slice-end-4 c).After-number_corners-used))
+pub slice_bounds-copy-end-4 : goal.slice_bounds-copy-end-4
+slice_bounds-copy-end-4 c =
+    sym (length-take-le _ _ (few-floats (goal.at.slice_bounds-copy-end-4 c).After-number_corners-used))
 
-pub copy_from_slice-requires : goal.copy_from_slice-requires
-copy_from_slice-requires c =
-    let C = (goal.at.copy_from_slice-requires c).After-number_corners-used in
+pub copy-requires : goal.copy-requires
+copy-requires c =
+    let C = (goal.at.copy-requires c).After-number_corners-used in
     length-take-le _ _ (few-points C) ∙ sym (length-take-le _ _ (few-floats C))
 
 pub returns : goal.returns
 returns c =
-    record { begins = compact-begins c.args.points.now c.args.labels.now c.requires c.pack-m.ensures.value c.pack-m.ensures.front c.pack-kept.ensures.value c.pack-kept.ensures.front c.number_corners-used.ensures.value c.number_corners-used.ensures.front c.number_corners-used.ensures.front_2 (front-copied _ _ c.copy_from_slice.ensures.after); kept = kept_then (cleared (goal.at.returns c).After-clear).kept c.number_corners-used.ensures.kept (λ i o. (o, o)) }
+    record { begins = compact-begins c.args.points.now c.args.labels.now c.requires c.pack-m.ensures.value c.pack-m.ensures.front c.pack-kept.ensures.value c.pack-kept.ensures.front c.number_corners-used.ensures.value c.number_corners-used.ensures.front c.number_corners-used.ensures.front_2 (front-copied _ _ c.copy.ensures); kept = kept_then (cleared (goal.at.returns c).After-clear).kept c.number_corners-used.ensures.kept (λ i o. (o, o)) }

@@ -7,4 +7,4 @@ use Rattle.job_open.proofs.get_job.Goals as goal
 pub returns : goal.returns
 returns c =
     reads_of c.args.file.now c.args.c c.args.header.now c.args.points.now c.args.quads.now c.args.labels.now
-    c.get_all.ensures c.get_all-2.ensures c.get_all-3.ensures (rw (c.copy_from_slice.ensures.after, part-same _ c.args.c.labels c.args.file.now) refl)
+    c.get_all.ensures c.get_all-2.ensures c.get_all-3.ensures (rw (c.copy.ensures, part-same _ c.args.c.labels c.args.file.now) refl)

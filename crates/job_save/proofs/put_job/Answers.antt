@@ -11,4 +11,4 @@ put_trailer-requires c = record { few = c.requires.lent_job.sheet.few; c_in_boun
 pub returns : goal.returns
 returns c =
     put_five (job_of c.args.c c.args.header.now c.args.points.now c.args.quads.now c.args.labels.now) c.args.sum c.args.file.now c.requires.lent_job c.requires.c_in_bounds
-    c.put_all.ensures c.put_all-2.ensures c.put_all-3.ensures (copied _ _ _ c.copy_from_slice.ensures.after) c.put_trailer.ensures
+    c.put_all.ensures c.put_all-2.ensures c.put_all-3.ensures (copied _ _ _ c.copy.ensures) c.put_trailer.ensures

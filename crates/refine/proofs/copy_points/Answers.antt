@@ -1,11 +1,15 @@
--- `refine::copy_points` meets its contract. Assumes nothing.
-use mathlib.Core.Path.{ap, ◌∙◌}
-use Prim.Native.Nat.{ℕ, ◌*◌}
-use Rattle.sheet.proofs.Fronts.{front-points}
-use Rattle.sheet.proofs.Tests.{length-points}
-use Rattle.refine.proofs.Loops.{front-copied, length-flat}
+use native.Mathlib.Omega.{arith}
+use mathlib.Core.Path.{◌≡◌}
+use Rattle.rule_sheet.specs.Sheet.{points_of}
+use Rattle.refine.proofs.Loops.{points-none, points-more}
 use Rattle.refine.proofs.copy_points.Goals as goal
 
+pub loop-v-init : goal.loop-v-init
+loop-v-init c = points-none _ _
+
+pub loop-v-preserved : goal.loop-v-preserved
+loop-v-preserved c = points-more _ _ _ _ _ c.loop-v.invariant (omega arith) c.point_at.ensures c.put_point.ensures
+
 pub returns : goal.returns
-returns c =
-    front-copied _ (front-points _ _ c.requires.n_in_bounds) (length-flat _ ∙ ap (λ (k : ℕ). 3 * k) (length-points _ _)) c.copy_from_slice.ensures.after
+unfolding points_of
+returns c = let e : c.loop-v.v ≡ c.args.n = omega arith in rw e at c.loop-v.invariant

@@ -1,5 +1,6 @@
 -- `regularize_pass::try_pair` meets its contract. Assumes nothing.
 use mathlib.Core.Path.{sym, ◌∙◌}
+use Rattle.regularize_shapes.proofs.SwapFits.{named-by}
 use Rattle.regularize_pass.proofs.Pairs.{step-none, swappable, step-made}
 use Rattle.regularize_pass.proofs.try_pair.Goals as goal
 
@@ -14,4 +15,4 @@ make_swap-requires-clause-make_swap_asks c =
 
 pub returns : goal.returns
 returns c =
-    step-made c.requires.try_asks c.args.c c.args.d c.args.count c.requires.c_bound c.requires.d_bound c.in-Some.k (sym c.in-Some.is ∙ c.choice_at.ensures) _ c.six_at-h.ensures c.make_swap.ensures
+    step-made c.requires.try_asks c.args.c c.args.d c.args.count c.requires.c_bound c.requires.d_bound c.in-Some.k (sym c.in-Some.is ∙ c.choice_at.ensures) _ c.six_at-h.ensures (rw (c.number.ensures, named-by c.in-Some.k) at c.make_swap.ensures)

@@ -4,5 +4,5 @@ use Rattle.regularize_swap.proofs.gains.Goals as goal
 
 pub valence_sum-after-requires : goal.valence_sum-after-requires
 valence_sum-after-requires c =
-    let E = ends-below c.args.k _ c.requires.six_below c.turned_by-g.ensures in
+    let E = ends-below c.of.result _ c.requires.six_below c.turned_by-g.ensures in
     record { work_fits = c.requires.work_fits; u_lt_np = E.0; v_lt_np = E.1 }

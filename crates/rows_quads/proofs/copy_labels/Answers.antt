@@ -6,4 +6,4 @@ use Rattle.rows_quads.proofs.copy_labels.Goals as goal
 
 pub returns : goal.returns
 returns c =
-    front-copied _ (front-take _ _ c.requires.nq_in_bounds) (length-take-le _ _ c.requires.nq_in_bounds) c.copy_from_slice.ensures.after
+    front-copied _ (front-take _ _ c.requires.nq_in_bounds) (length-take-le _ _ c.requires.nq_in_bounds) c.copy.ensures
